@@ -6,9 +6,9 @@ It is a second telling of the rules of docs/FORMATS.md and docs/WIRE.md (texts, 
 what, and when), written from these and not from the program's source. It goes by the definitions and not by speed:
 the best route is chosen from the whole list, what a neighbour mentioned last is looked up in all that it said, what
 comes next in all that is in flight. The inputs are read by reference_inputs.py, messages and frames that come in their
-place by reference_readers.py; here are IPv4, the network and its steps, a script's course, the bytes of frames, LDP and
-BGP, the report, the files. Flooding is in reference_flood.py, reflected routes are in reference_reflect.py, what crosses
-from one network into another in reference_join.py.
+place by reference_readers.py, a node's labels are in reference_labels.py; here are IPv4, the network and its steps, a
+script's course, the bytes of frames, LDP and BGP, the report, the files. Flooding is in reference_flood.py, reflected
+routes are in reference_reflect.py, what crosses from one network into another in reference_join.py.
 """
 
 import argparse
@@ -22,6 +22,7 @@ import reference_join
 import reference_reflect
 from reference_inputs import FLOOD_FORMS, ROUTES, TARGETS, Refused, address_text, contains, is_unicast, prefix_text
 from reference_inputs import read_capture, read_reflect_script, read_script, read_topology, target_text
+from reference_labels import Labels
 from reference_readers import reads_bgp, reads_pdu, stack_of
 from reference_routes import Route, vrf_table
 from reference_walks import costs_to, first_hop, tree_lines
@@ -163,7 +164,7 @@ class Network:
         self.attachment = [1 for _ in topology.sites]  # the present one, None where the site is detached
         self.attachments = [1 for _ in topology.sites]  # how many there were
 
-        self.given = [self.first_labels(node) for node in self.nodes]
+        self.labels = [self.first_labels(node) for node in self.nodes]
         self.packets, self.deliveries = [], []
         self.frames = [[] for _ in self.links]  # all that were sent, each with its tick
         self.sent = dict.fromkeys(ends, 0)
@@ -199,7 +200,7 @@ class Network:
         view = self.view(node)
         return first_hop(self.links, self.neighbours[node], view, self.costs_to(view, to), node)
 
-    # LDP: a message is its kind and, of a mapping, a withdraw and a release, the node whose FEC it is
+    # LDP: a message is its kind and, of a mapping, a withdraw and a release, the node whose FEC it is, and its label
 
     def lives(self, link):
         return self.changes[link] % 2 == 1 and self.ldp_on[link]
@@ -224,38 +225,42 @@ class Network:
             return None
         neighbour, link = hop
         heard = self.said[link, neighbour][: self.heard[link, node]]
-        mentions = [kind for kind, fec in heard if fec == to and kind != "release"]
+        mentions = [kind for kind, fec, _ in heard if fec == to and kind != "release"]
         return hop if mentions and mentions[-1] == "mapping" else None
 
     def offers(self, node):
         return {to for to in self.nodes if to == node or self.usable_hop(node, to)}
 
-    def say(self, link, end, kind, fec=None):
-        self.said[link, end].append((kind, fec))
-        self.pdus[link, end] += pdu(self, link, end, len(self.said[link, end]), kind, fec)
+    def say(self, link, end, kind, fec=None, label=None):
+        self.said[link, end].append((kind, fec, label))
+        self.pdus[link, end] += pdu(self, link, end, len(self.said[link, end]), kind, fec, label)
         self.make("ldp", (link, end), self.links[link].delay)
 
     def with_ldp_news(self, nodes, change):
         """Does the change. These nodes, whose knowledge it may change, then say what has become of their offers."""
-        before = [(node, self.offers(node), self.operational(node)) for node in nodes]
+        before = [(node, offered := self.offers(node), self.operational(node), self.free(node, offered)) for node in nodes]
         change()
-        for node, offered, was_operational in before:
+        for node, offered, was_operational, free in before:
             offers, operational = self.offers(node), self.operational(node)
+            self.labels[node].lay_to_rest(offered - offers, self.tick)
+            self.labels[node].offer(offers - offered, free)
             for fec in self.nodes:
                 for _, link in self.neighbours[node]:
                     was_told = fec in offered and link in was_operational
                     if link in operational and was_told != (fec in offers):
-                        self.say(link, node, "mapping" if fec in offers else "withdraw", fec)
+                        self.say(link, node, "mapping" if fec in offers else "withdraw", fec, self.fec_label(node, fec))
 
     def change_session(self, link, change):
         """Does a change by which the link's session may begin or end."""
         ends = [self.links[link].a, self.links[link].b]
 
         def change_and_begin_anew():
-            lived = self.lives(link)
+            lived, operational = self.lives(link), [end for end in ends if self.ldp_state(link, end) == "operational"]
             change()
             if self.lives(link) == lived:
                 return
+            for end in operational:
+                self.labels[end].lay_to_rest(self.nodes, self.tick)
             for end in ends:
                 self.said[link, end], self.heard[link, end] = [], 0
                 self.in_flight = [item for item in self.in_flight if (item.kind, item.channel) != ("ldp", (link, end))]
@@ -333,14 +338,37 @@ class Network:
     # Labels
 
     def first_labels(self, node):
-        sites = [no for no in range(len(self.topology.sites)) if self.topology.edge_of(no) == node]
-        return [("fec", to) for to in self.nodes if to != node] + [("site", site, 1) for site in sites]
+        """Each site of the node has one, in order."""
+        labels = Labels(max((self.links[link].life for _, link in self.neighbours[node]), default=0))
+        for site in range(len(self.topology.sites)):
+            if self.topology.edge_of(site) == node:
+                labels.attach(site, 1)
+        return labels
+
+    def is_answered(self, node, fec):
+        """Each withdraw of the FEC that the node said in a session that still lives has its release, which the node heard."""
+        for neighbour, link in self.neighbours[node]:
+            heard = self.said[link, neighbour][: self.heard[link, node]]
+            withdraws = sum(one[:2] == ("withdraw", fec) for one in self.said[link, node])
+            if withdraws != sum(one[:2] == ("release", fec) for one in heard):
+                return False
+        return True
+
+    def free(self, node, offered):
+        """The FECs whose labels are free: not offered, each withdraw answered, and no frame of that time can fly."""
+        labels = self.labels[node]
+        past = [fec for fec in labels.fecs if fec not in offered and labels.is_past(fec, self.tick)]
+        return [fec for fec in past if self.is_answered(node, fec)]
 
     def fec_label(self, node, to):
-        return 3 if node == to else 16 + self.given[node].index(("fec", to))
+        return 3 if node == to else self.labels[node].fecs[to]
 
     def site_label(self, edge, site, attachment):
-        return 16 + self.given[edge].index(("site", site, attachment))
+        return self.labels[edge].attachments[site, attachment]
+
+    def are_spent(self, node):
+        """There is no label for one attachment more: each other node may want one."""
+        return len(self.labels[node].attachments) + len(self.nodes) - 1 >= LABELS
 
     # Packets
 
@@ -415,7 +443,7 @@ class Network:
             return "RoutesFull"
         if verb in ("import add", "export add") and len(self.targets(verb)[given[0]]) >= TARGETS:
             return "TargetsFull"
-        if verb == "site up" and len(self.given[self.topology.edge_of(given[0])]) >= LABELS:
+        if verb == "site up" and self.are_spent(self.topology.edge_of(given[0])):
             return "LabelsSpent"
         return "NetFull" if self.is_full(verb, bytes_) else None
 
@@ -500,7 +528,7 @@ class Network:
 
     def hear_ldp(self, link, speaker):
         end = self.links[link].other(speaker)
-        kind, fec = self.said[link, speaker][self.heard[link, end]]
+        kind, fec, label = self.said[link, speaker][self.heard[link, end]]
         state = self.ldp_state(link, end)
 
         def change():
@@ -513,7 +541,9 @@ class Network:
             elif kind == "keepalive" and state == "openrec":
                 self.say(link, end, "address")
             elif kind == "withdraw":
-                self.say(link, end, "release", fec)
+                self.say(link, end, "release", fec, label)
+            elif kind == "release":
+                self.labels[end].lay_to_rest([fec], self.tick)
 
         self.with_ldp_news([end], change)
 
@@ -572,7 +602,7 @@ class Network:
         def change():
             self.attachments[site] += 1
             self.attachment[site] = self.attachments[site]
-            self.given[edge].append(("site", site, self.attachment[site]))
+            self.labels[edge].attach(site, self.attachment[site])
 
         self.with_bgp_news(edge, change)
 
@@ -718,8 +748,8 @@ def tlv(kind, value):
     return struct.pack(">HH", kind, len(value)) + value
 
 
-def pdu(network, link, end, id_, kind, fec):
-    """The PDU with this message; a release has the label of the node that withdrew."""
+def pdu(network, link, end, id_, kind, fec, label):
+    """The PDU with this message."""
     other = network.links[link].other(end)
     own, others = (network.topology.nodes[node].loopback.to_bytes(4, "big") for node in (end, other))
     if kind == "initialization":
@@ -730,7 +760,6 @@ def pdu(network, link, end, id_, kind, fec):
         type_, tlvs = 0x0300, tlv(0x0101, b"\0\1" + own)
     else:
         type_ = {"mapping": 0x0400, "withdraw": 0x0402, "release": 0x0403}[kind]
-        label = network.fec_label(other if kind == "release" else end, fec)
         element = b"\2\0\1\x20" + network.topology.nodes[fec].loopback.to_bytes(4, "big")
         tlvs = tlv(0x0100, element) + tlv(0x0200, label.to_bytes(4, "big"))
     message = struct.pack(">HHI", type_, 4 + len(tlvs), id_) + tlvs
@@ -837,7 +866,7 @@ def frame_said(network, node, bytes_):
     if stack[0] & 0xFF <= 1:
         return "drop TtlExpired"
     label, ttl = stack[0] >> 12, (stack[0] & 0xFF) - 1
-    kind, thing, *attachment = [*network.given[node][label - 16 :], ("none", None)][0] if label >= 16 else ("none", None)
+    kind, thing, *attachment = network.labels[node].means(label) or ("none", None)
     if kind == "site":
         return site_said(network, thing, attachment, len(stack), ttl, packet)
     hop = network.usable_hop(node, thing) if kind == "fec" else None
@@ -913,7 +942,7 @@ def step_words(topology, step):
 def label_lines(network):
     topology = network.topology
     for node in network.nodes:
-        for label, (kind, thing, *attachment) in enumerate(network.given[node], 16):
+        for label, (kind, thing, *attachment) in network.labels[node].given:
             if kind == "fec":
                 what = f"fec {address_text(topology.nodes[thing].loopback)}/32"
             else:

@@ -37,6 +37,7 @@ VERBS = {  # how often each is drawn
     "drain": 14, "flush": 6, "show links": 2, "show tree": 3, "show ldp": 3, "show bgp": 2, "show vrf": 5, "show flight": 4,
     "show frame": 20, "damage ldp": 24, "damage bgp": 24,
 }  # fmt: skip
+RESTLESS = {"ldp off": 60, "ldp on": 6, "tick": 20, "drain": 12}
 
 
 def toml(value):
@@ -334,6 +335,8 @@ def random_lines(rng, top, packets, network):
         weights = [weight * 6 if verb.startswith("damage") else weight for verb, weight in zip(verbs, weights)]
     if rng.random() < 0.5:  # here little arrives by itself
         weights = [weight // 4 if verb in ("run", "drain", "flush") else weight for verb, weight in zip(verbs, weights)]
+    if rng.random() < 0.25:  # here sessions of LDP come and go as time passes, so that labels come free
+        weights = [weight * RESTLESS.get(verb, 1) for verb, weight in zip(verbs, weights)]
     for words in bring_up(rng, top) if rng.random() < 0.85 else []:
         is_refused(network, words, packets)
         yield words

@@ -197,9 +197,10 @@ class Run:
 
     folder: Path
     steps: list = field(default_factory=list)  # (tick, words)
-    nodes: list = field(default_factory=list)
-    loopbacks: dict = field(default_factory=dict)  # four bytes of each node
-    labels: dict = field(default_factory=dict)  # of each node: of each label its words, as ("fec", node) or ("site", site, attachment)
+    nodes: list = field(default_factory=list)  # those that gave labels in the topology's order, then others by name
+    loopbacks: dict = field(default_factory=dict)  # four bytes of each node that had a session
+    given: dict = field(default_factory=dict)  # of each node the labels that it gave, in order, each with ("fec", node) or ("site", site, attachment)
+    attachments: dict = field(default_factory=dict)  # of each node: of each label of an attachment its site and number
     node_of: dict = field(default_factory=dict)  # of each site
     links: list = field(default_factory=list)
     frames: dict = field(default_factory=dict)  # of each link
@@ -234,9 +235,6 @@ def read_run(folder):
         ends = tuple(file.stem.split("+"))
         if len(ends) != 2 or file.suffix not in (".pcap", ".ldp", ".bgp"):
             continue
-        for name in ends:
-            if name not in run.nodes:
-                raise Fault(f"{file}: labels.txt has no node '{name}': the file may be {OLDER}")
         if file.suffix == ".pcap":
             run.links.append(ends)
             run.frames[ends] = frames_of(file, shared)
@@ -244,14 +242,44 @@ def read_run(folder):
             run.ldp[ends] = ldp_lives(file)
         else:
             run.bgp[ends] = bgp_lives(file)
+    check_pairs(run)
+    name_nodes(run)
     run.links.sort(key=lambda link: sorted(map(run.nodes.index, link)))
     run.delivered = records_of(run.folder / "delivered.pcap", 228)
     check_names(run)
     return run
 
 
+def check_pairs(run):
+    """Where PDUs of a link are there its capture is too, and where one edge's messages are the other's are too."""
+    for streams, kind, others, what in ((run.ldp, "ldp", {*run.links}, "pcap"), (run.bgp, "bgp", {*run.bgp}, "bgp")):
+        for pair in streams:
+            if not {pair, pair[::-1]} & others - ({pair} if kind == "bgp" else set()):
+                raise Fault(f"{run.folder / '+'.join(pair)}.{kind}: there is no {'+'.join(pair[::-1])}.{what}: the file may be {OLDER}")
+
+
+def name_nodes(run):
+    """The nodes and their addresses, by the files' names and by what is said in sessions; FECs get their nodes' names."""
+    for (speaker, hearer), lives in run.ldp.items():
+        if lives and lives[0][0][10:12] == b"\2\0":  # an Initialization, which names its receiver
+            run.loopbacks |= {speaker: lives[0][0][4:8], hearer: lives[0][0][30:34]}
+    for (teller, _), lives in run.bgp.items():
+        if lives:
+            run.loopbacks[teller] = lives[0][0][24:28]
+    learners = {words[1] for _, words in run.steps if words[0] == "learn"}
+    found = {name for pair in (*run.links, *run.bgp) for name in pair} | learners
+    run.nodes = [*run.given, *sorted(found - run.given.keys())]
+    named = {address: node for node, address in run.loopbacks.items()}
+    for node, givings in run.given.items():
+        for at, (label, (kind, *what)) in enumerate(givings):
+            if kind == "fec":
+                if what[0] not in named:
+                    raise Fault(f"{run.folder / 'labels.txt'}: {node} gave a label for {'.'.join(map(str, what[0]))}, and no session tells of a node with this address")
+                givings[at] = (label, ("fec", named[what[0]]))
+
+
 def check_names(run):
-    """What the steps name is there: links by their captures, nodes and sites by their labels."""
+    """What the steps name is there: links by their captures, edges by what they told, sites by their labels."""
     joined, seen = {frozenset(link) for link in run.links}, set()
     for step, (_, words) in enumerate(run.steps):
         if words in seen:
@@ -269,11 +297,9 @@ def misnamed(run, joined, words):
         name = rest[0] if kind == "inject" else rest[1]
         return None if name in run.node_of else f"labels.txt has no site '{name}'"
     if kind == "bgp" or words[:2] in (("hear", "bgp"), ("damage", "bgp")):
-        return next((f"labels.txt has no node '{name}'" for name in rest[1:3] if name not in run.loopbacks), None)
+        return None if tuple(rest[1:3]) in run.bgp else f"there is no {'+'.join(rest[1:3])}.bgp"
     if kind not in KINDS or kind in ("import", "export", "tick"):
         return None
-    if kind == "learn" and rest[0] not in run.nodes:
-        return f"labels.txt has no node '{rest[0]}'"
     ends = {"carry": rest[:2], "lose": rest[:2], "damage": rest[1:3]}.get(kind, rest[-2:])
     return None if frozenset(ends) in joined else f"there is no {'+'.join(ends)}.pcap"
 
@@ -321,31 +347,21 @@ def read_journal(run):
 
 
 def read_labels(run):
-    """The labels of each node, and from them the nodes in order, their addresses and the sites' nodes."""
-    path, given = run.folder / "labels.txt", {}
+    """The labels that each node gave, FECs by their addresses, and the sites' nodes."""
+    path = run.folder / "labels.txt"
     for number, line in enumerate(lines_of(path, "a list of labels"), 1):
         found = re.fullmatch(r"(\S+) (\d+) (?:fec (\d+)\.(\d+)\.(\d+)\.(\d+)/32|site (\S+) (\d+))", line)
         if not found:
             raise Fault(f"{path}: line {number}: not a label: {line[:100]}")
         node, label, *address, site, attachment = found.groups()
-        if site is None:
-            given.setdefault(node, {})[int(label)] = bytes(map(int, address))
-        else:
-            given.setdefault(node, {})[int(label)] = ("site", site, int(attachment))
+        attachments = run.attachments.setdefault(node, {})
+        if int(label) in attachments:
+            raise Fault(f"{path}: line {number}: the label is an attachment's, which keeps it: {line[:100]}")
+        what = ("fec", bytes(map(int, address))) if site is None else ("site", site, int(attachment))
+        run.given.setdefault(node, []).append((int(label), what))
+        if site is not None:
+            attachments[int(label)] = what[1:]
             run.node_of[site] = node
-    run.nodes = list(given)
-    # A node's labels of FECs are those of the other nodes in order.
-    others = {node: [to for to in labels.values() if isinstance(to, bytes)] for node, labels in given.items()}
-    if len(run.nodes) > 1:
-        first, *rest = run.nodes
-        run.loopbacks = {first: (others[rest[0]] or [b""])[0], **dict(zip(rest, others[first]))}
-    for node, addresses in others.items():
-        if addresses != [run.loopbacks.get(other) for other in run.nodes if other != node]:
-            raise Fault(f"{path}: {node} hasn't a label for each other node, in order")
-    named = {address: node for node, address in run.loopbacks.items()}
-    run.labels = {
-        node: {label: ("fec", named[to]) if isinstance(to, bytes) else to for label, to in labels.items()} for node, labels in given.items()
-    }
 
 
 def records_of(path, link_type):

@@ -188,8 +188,8 @@ class Knowledge:
     Without logs it can't tell since when a next hop or an offer is as it is.
     """
 
-    def __init__(self, net, labels, ldp, bgp, logs=True):
-        self.net, self.labels, self.did = net, labels, 0
+    def __init__(self, net, attachments, ldp, bgp, logs=True):
+        self.net, self.attached, self.did = net, attachments, 0
         self.up, self.on = 0, (1 << len(net.links)) - 1
         self.up_since, self.on_since = [START] * len(net.links), [START] * len(net.links)
         self.views, self.logs = [0] * len(net.nodes), [[] if logs else NoLog() for _ in net.nodes]
@@ -302,7 +302,7 @@ class Knowledge:
         if label is None:
             self.believed[edge, teller].pop(about, None)
             return
-        _, site, attachment = self.labels[self.net.nodes[teller]][label]
+        site, attachment = self.attached[self.net.nodes[teller]][label]
         self.believed[edge, teller][about] = Told(self.net.site_number[site], attachment, targets, self.did)
 
     def pair(self, a, b):

@@ -19,6 +19,7 @@ MOST_TRIES = 200_000
 AHEAD = 60  # how many of the frames that a node has still to send are looked at
 MOST_LIFE = 1_000_000
 MOST_WAYS = 1000  # in which time may pass on the links whose lives aren't known
+MAPPING, WITHDRAW = b"\x04\0", b"\x04\2"
 
 
 # Sessions.
@@ -49,7 +50,7 @@ def sessions_of(run):
     up, off = set(), set()
 
     def begin(at, protocol, a, b):
-        other, opener = sorted((a, b), key=run.loopbacks.get)
+        other, opener = sorted((a, b), key=lambda end: run.loopbacks.get(end, b""))
         session = Session(protocol, opener, other, at, heard={a: 0, b: 0})
         sessions.append(session)
         living[protocol, frozenset((a, b))] = session
@@ -117,6 +118,47 @@ def hand_out(run, sessions):
                 raise Fault(f"{file}: a session has {len(session.said[speaker])} messages, and by the journal {count} were heard")
 
 
+class Mappings:
+    """To which node's FEC a label leads. A node's label that it gave more than once leads by what the sender has heard of it last."""
+
+    def __init__(self, run):
+        self.run, self.changes = run, None
+        self.fecs = {node: {} for node in run.nodes}
+        for node, given in run.given.items():
+            for label, what in given:
+                if what[0] == "fec":
+                    self.fecs[node].setdefault(label, []).append(what[1])
+
+    def fec(self, label, sender, receiver, step):
+        """What the receiver's label means to the sender before this step; none where it means nothing."""
+        fecs = self.fecs[receiver].get(label, ())
+        if len(fecs) < 2:
+            return fecs[0] if fecs else None
+        if self.changes is None:
+            self.changes = self.changes_of()
+        changes = self.changes.get((sender, receiver), {}).get(label, [])
+        at = bisect_left(changes, (step,)) - 1
+        return changes[at][1] if at >= 0 else None
+
+    def changes_of(self):
+        """Of each hearer and speaker, and of each label, the steps in which it comes to mean another FEC to the hearer, or none."""
+        changes, named = {}, {address: node for node, address in self.run.loopbacks.items()}
+        for step, things in sessions_of(self.run)[1].items():
+            for what, session, *heard in things:
+                if session.protocol == "ldp" and what == "ends":
+                    for ends in ((session.opener, session.other), (session.other, session.opener)):
+                        for known in changes.get(ends, {}).values():
+                            known.append((step, None))
+                elif session.protocol == "ldp" and what == "hears":
+                    speaker, number = heard
+                    pdu = session.said[speaker][number]
+                    if pdu[10:12] in (MAPPING, WITHDRAW):
+                        known = changes.setdefault((session.peer(speaker), speaker), {})
+                        fec, label = named.get(pdu[26:30]), int.from_bytes(pdu[34:38], "big")
+                        known.setdefault(label, []).append((step, fec if pdu[10:12] == MAPPING else None))
+        return changes
+
+
 # Frames.
 
 
@@ -163,7 +205,7 @@ class Frames:
     """
 
     def __init__(self, run, ways=None, lives=None):
-        self.run, self.ways = run, ways
+        self.run, self.ways, self.mappings = run, ways, Mappings(run)
         # Of each link the least and the greatest that its life may be.
         self.lives = {link: (lives[link],) * 2 if lives and link in lives else (1, MOST_LIFE) for link in run.links}
         self.link_of = {pair: link for link in run.links for pair in (link, link[::-1])}
@@ -356,7 +398,7 @@ class Frames:
                 receivers, may_end = [], [DROP]
         if DELIVER in may_end and not self.delivers(move.tick, flight):
             may_end.remove(DELIVER)
-        return may_end + [("send", node, to) for to in reversed(receivers) if self.sends(move.tick, node, to, flight)]
+        return may_end + [("send", node, to) for to in reversed(receivers) if self.sends(move, node, to, flight)]
 
     def is_in_time(self, at, choice):
         """After the choice the node has still enough moves to send, in time, what is taken later from its directions."""
@@ -377,22 +419,20 @@ class Frames:
         frames = self.run.frames[link] if link else []
         return frames[self.next[link]] if link and self.next[link] < len(frames) else None
 
-    def edge_of(self, frame, receiver):
-        """The edge to which a frame goes if this node receives it, by the labels that were given; none if it can't."""
+    def edge_of(self, frame, sender, receiver, step):
+        """The edge to which a frame goes if the one node sends it to the other in this step, by the labels that were given; none if it can't."""
         *top, bottom = frame.stack
         if len(top) > 1:
             return None
-        kind, edge = self.run.labels[receiver].get(top[0].label, (None, None))[:2] if top else ("fec", receiver)
-        if kind != "fec" or self.run.labels[edge].get(bottom.label, ("",))[0] != "site":
-            return None
-        return edge
+        edge = self.mappings.fec(top[0].label, sender, receiver, step) if top else receiver
+        return edge if edge and bottom.label in self.run.attachments.get(edge, ()) else None
 
-    def sends(self, tick, sender, receiver, flight):
+    def sends(self, move, sender, receiver, flight):
         """The next frame of the link may go from the one to the other now, as what was received by the flight."""
         frame = self.next_frame(sender, receiver)
-        if frame is None or frame.tick != tick:
+        if frame is None or frame.tick != move.tick:
             return False
-        edge = self.edge_of(frame, receiver)
+        edge = self.edge_of(frame, sender, receiver, move.step)
         if edge is None or flight is None:
             return edge is not None
         before = flight.frame
@@ -427,7 +467,7 @@ class Frames:
             _, sender, receiver = choice
             frame = self.next_frame(sender, receiver)
             packet, been = (move.took[0].packet, move.took[0].nodes + 1) if move.took else (move.packet, 1)
-            move.sent = Flight(packet, been, sender, receiver, self.edge_of(frame, receiver), frame)
+            move.sent = Flight(packet, been, sender, receiver, self.edge_of(frame, sender, receiver, move.step), frame)
             self.next[self.link_of[sender, receiver]] += 1
             self.flying[sender, receiver].append(move.sent)
         elif choice[0] == "deliver":

@@ -172,8 +172,8 @@ class Run:
         return [
             {"node": node, "label": label, "kind": what[0], "fec": what[1] if what[0] == "fec" else None}
             | ({"site": what[1], "attachment": what[2]} if what[0] == "site" else {"site": None, "attachment": None})
-            for node, labels in self.files.labels.items()
-            for label, what in labels.items()
+            for node, given in self.files.given.items()
+            for label, what in given
         ]
 
     @cached_property

@@ -230,16 +230,15 @@ class Steps:
 
     def relabelled(self, before, sent, here):
         """What the node does with the label stack."""
-        names = [f"{self.label(sent.receiver, sent.frame.stack[0].label)}"] if len(sent.frame.stack) > 1 else []
+        names = [f"label {sent.frame.stack[0].label} ({sent.receiver}'s for {sent.edge})"] if len(sent.frame.stack) > 1 else []
         if before is None:
-            inner = f"{here} pushes {self.label(sent.edge, sent.frame.stack[-1].label)}"
+            inner = f"{here} pushes {self.of_site(sent.edge, sent.frame.stack[-1].label)}"
             return f": {inner}" + (f", and on it {names[0]}" if names else "")
         out = before.frame.stack[0].label
         return f", swaps its label {out} for {names[0]}" if names else f", takes its label {out} off, being the last node but one"
 
-    def label(self, node, label):
-        kind, *what = self.run.labels[node][label]
-        return f"label {label} ({node}'s for {'site ' + what[0] if kind == 'site' else what[0]})"
+    def of_site(self, node, label):
+        return f"label {label} ({node}'s for site {self.run.attachments[node][label][0]})"
 
     def flight(self, sent):
         """The number of a new flight."""
@@ -262,8 +261,8 @@ class Steps:
         if self.ways is not None:
             site = self.ways[number].words[0]
         else:
-            site = self.run.labels[here][before.frame.stack[-1].label][1] if before else None
-        popped = f", takes off {self.label(here, before.frame.stack[-1].label)} and" if before else f", and {here}"
+            site = self.run.attachments[here][before.frame.stack[-1].label][0] if before else None
+        popped = f", takes off {self.of_site(here, before.frame.stack[-1].label)} and" if before else f", and {here}"
         told = f"{said}{popped} delivers it to {f'site {site}' if site else 'another of its sites'} with TTL {packet[8]}, as delivery {copy}."
         return {"to": self.sites.get(site), "ttl": packet[8], "x": told}
 

@@ -358,7 +358,7 @@ class Reading:
             if path.suffix in (".ldp", ".bgp") and path.stat().st_size:
                 lives = ldp_lives(path) if path.suffix == ".ldp" else bgp_lives(path)
                 (run.ldp if path.suffix == ".ldp" else run.bgp)[tuple(path.stem.split("+"))] = lives
-        return Explainer(Net(self.job.path, self.job.tables), run.labels, run.ldp, run.bgp, dated=False)
+        return Explainer(Net(self.job.path, self.job.tables), run.attachments, run.ldp, run.bgp, dated=False)
 
     def explained(self, explainer, loss):
         """The loss with its reason."""

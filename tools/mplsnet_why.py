@@ -249,8 +249,8 @@ def dated(fact):
 class Explainer:
     """Explains drops as a run's steps go by: `at` the step before which the packet was dropped or sent."""
 
-    def __init__(self, net, labels, ldp, bgp, dated=True):
-        self.known = Knowledge(net, labels, ldp, bgp, dated)
+    def __init__(self, net, attachments, ldp, bgp, dated=True):
+        self.known = Knowledge(net, attachments, ldp, bgp, dated)
         self.net, self.dated = net, dated
 
     def entry(self, rule, site, address):
@@ -341,7 +341,7 @@ class Told:
         self.by_record = {}
         for number, address in addresses.items():
             self.by_record.setdefault(int(sent[number].words[2]), address)
-        self.explainer = Explainer(net, run.labels, run.ldp, run.bgp)
+        self.explainer = Explainer(net, run.attachments, run.ldp, run.bgp)
         counts, self.nth = Counter(), {}  # of each frame its number among those sent in its direction
         self.sent_by = {move.sent: move.step + 1 for move in moves if move.sent}
         for move in moves:
@@ -424,7 +424,7 @@ class Told:
 
     def gone(self, flight, sent):
         """The label's attachment ended before the packet was sent, and its edge hadn't heard, or while it flew."""
-        _, site, attachment = self.run.labels[flight.edge][flight.frame.stack[-1].label]
+        site, attachment = self.run.attachments[flight.edge][flight.frame.stack[-1].label]
         ended = self.detached[site][attachment - 1]
         fact = Fact("attachment ended", (site, attachment), ended)
         sender = self.run.node_of[sent.words[1]]

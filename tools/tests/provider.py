@@ -77,6 +77,7 @@ class Run:
         self.frames = {link: [] for link in net.links}
         self.up, self.flying = set(), []
         self.hops = {}
+        self.sites_at = {node: [n for n, site in enumerate(net.sites) if site[1] == node] for node in range(len(net.nodes))}
 
     # The network comes up.
 
@@ -151,11 +152,11 @@ class Run:
     # Labels and packets.
 
     def label(self, node, fec):
-        return 3 if node == fec else 16 + fec - (fec > node)
+        """Behind those of the sites, by number: the tools ask for no order."""
+        return 3 if node == fec else 16 + len(self.sites_at[node]) + fec - (fec > node)
 
     def site_label(self, site):
-        edge = self.net.sites[site][1]
-        return 15 + len(self.net.nodes) + [n for n, other in enumerate(self.net.sites) if other[1] == edge].index(site)
+        return 16 + self.sites_at[self.net.sites[site][1]].index(site)
 
     def next_hop(self, node, to):
         """By least hops over links that are up; none where there is no way."""
@@ -224,8 +225,8 @@ class Run:
         labels = []
         for node, name in enumerate(names):
             others = [other for other in range(len(names)) if other != node]
+            labels += [f"{name} {self.site_label(n)} site {net.sites[n][0]} 1" for n in self.sites_at[node]]
             labels += [f"{name} {self.label(node, other)} fec {'.'.join(map(str, net.loopback(other)))}/32" for other in others]
-            labels += [f"{name} {self.site_label(n)} site {site[0]} 1" for n, site in enumerate(net.sites) if site[1] == node]
         (folder / "labels.txt").write_text("".join(f"{line}\n" for line in labels))
         for (a, b), said in [*self.ldp.items()]:
             (folder / f"{names[a]}+{names[b]}.ldp").write_bytes(b"".join(said))

@@ -79,17 +79,17 @@ class Play(unittest.TestCase):
         self.assertEqual([("pe1", True), ("p", False), ("pe2", True)], [(node["name"], node["edge"]) for node in data["nodes"]])
         self.assertEqual({0}, {node["y"] for node in data["nodes"]}, "the chain is drawn level")
         self.assertEqual(["red"], data["vpns"])
-        self.assertEqual([[[17, 63], [18, 63]], [[18, 62]]], [flight["st"] for flight in data["flights"]])
+        self.assertEqual([[[16, 63], [16, 63]], [[16, 62]]], [flight["st"] for flight in data["flights"]])
         self.assertEqual([["ldp", 1, 0], ["ldp", 2, 1], ["bgp", 2, 0]], data["sessions"])
         self.assertEqual("10.1.0.1 to 10.2.0.1 UDP", data["packets"][0]["ip"])
         said = [step["x"] for step in data["steps"]]
         for words in (
             "pe1 hears from p by LDP, message 1 of the session: Initialization.",
-            "pe1 hears from p by LDP, message 5 of the session: Label Mapping 192.0.2.3/32 label 17.",
-            "pe1 hears from pe2 by BGP, message 3 of the session: UPDATE 65000:2 10.2.0.0/16 label 18 next hop 192.0.2.3 target 65000:100.",
-            "Packet 1 enters at site a: pe1 pushes label 18 (pe2's for site b), and on it label 17 (p's for pe2), and sends it to p.",
-            "p gets packet 1 from pe1, takes its label 17 off, being the last node but one, and sends it to pe2.",
-            "pe2 gets packet 1 from p, takes off label 18 (pe2's for site b) and delivers it to site b with TTL 61, as delivery 1.",
+            "pe1 hears from p by LDP, message 5 of the session: Label Mapping 192.0.2.3/32 label 16.",
+            "pe1 hears from pe2 by BGP, message 3 of the session: UPDATE 65000:2 10.2.0.0/16 label 16 next hop 192.0.2.3 target 65000:100.",
+            "Packet 1 enters at site a: pe1 pushes label 16 (pe2's for site b), and on it label 16 (p's for pe2), and sends it to p.",
+            "p gets packet 1 from pe1, takes its label 16 off, being the last node but one, and sends it to pe2.",
+            "pe2 gets packet 1 from p, takes off label 16 (pe2's for site b) and delivers it to site b with TTL 61, as delivery 1.",
         ):
             self.assertIn(words, said)
 
@@ -165,7 +165,7 @@ class Play(unittest.TestCase):
 
     def test_pictures(self):
         for run, topology, at, words in (
-            (LINKS / "expected", LINKS / "topology.toml", 40, ["step 40, tick 0: inject a 1", ">17<", ">18<", ">site a<", ">192.0.2.2<"]),
+            (LINKS / "expected", LINKS / "topology.toml", 40, ["step 40, tick 0: inject a 1", ">16<", ">site a<", ">192.0.2.2<"]),
             (LINKS / "expected", LINKS / "topology.toml", 42, ["#1 delivered, TTL 61"]),
             (ROOT / "examples/loss/expected", ROOT / "examples/loss/topology.toml", 1, [">step 1, tick 0: link up"]),
             (LATE / "expected", LATE / "topology.toml", 51, ["step 51, tick 112: tick 4", "Overdue: #4"]),
@@ -225,7 +225,7 @@ class InABrowser(unittest.TestCase):
 
     def test_a_frame_on_its_link(self):
         browser = self.opened(LINKS, at=40)
-        self.assertEqual(["17", "63", "18", "63", "IP #1", "63"], self.seen("#flying .chip text"))
+        self.assertEqual(["16", "63", "16", "63", "IP #1", "63"], self.seen("#flying .chip text"))
         place, *nodes = browser.value("['#flying circle', '.node rect'].flatMap(all => [...document.querySelectorAll(all)].map(one => one.getBoundingClientRect().x))")
         self.assertTrue(nodes[0] < place < nodes[1], "between pe1 and p")
         self.assertEqual(["\u2713 #1 delivered, TTL 61"], self.opened(LINKS, at=42).value("go(42), [...document.querySelectorAll('.mark')].map(one => one.textContent)"))

@@ -161,7 +161,7 @@ class Read(unittest.TestCase):
         self.assertEqual((0, ""), (ran.returncode, ran.stderr))
         self.assertIn("byte 82: PDU of 38 bytes from 192.0.2.1:0\n  4 Mapping prefix 192.0.2.1/32, label 3\n", ran.stdout)
         ran = self.run_tool("bgp", expected / "pe1+pe2.bgp")
-        self.assertIn("announced 65000:1 10.1.0.0/16 18, withdrawn none, targets 65000:100", ran.stdout)
+        self.assertIn("announced 65000:1 10.1.0.0/16 16, withdrawn none, targets 65000:100", ran.stdout)
         for run in sorted(ROOT.glob("examples/*/expected")):
             for protocol in READERS:
                 for file in sorted(run.glob(f"*.{protocol}"))[:2]:

@@ -15,6 +15,7 @@ from runs import ROOT
 from mplsnet_run import KEYS, KINDS, Run
 
 LINKS = ROOT / "examples/two-links/expected"
+AGAIN = ROOT / "examples/labels-again/expected"
 LATE = ROOT / "examples/late/expected"
 DAMAGED = ROOT / "examples/damaged/expected"
 LOSS = ROOT / "examples/loss/expected"
@@ -47,17 +48,25 @@ class Data(unittest.TestCase):
             "hops": 2, "path": "pe1 p pe2", "sent": 40, "ended": 42, "tick": 0, "ended_tick": 4,
         }  # fmt: skip
         self.assertEqual([packet], run.packets)
-        self.assertEqual([("17 18", 63), ("18", 62)], [(frame["labels"], frame["ttl"]) for frame in run.frames])
+        self.assertEqual([("16 16", 63), ("16", 62)], [(frame["labels"], frame["ttl"]) for frame in run.frames])
         self.assertEqual(
             [("ldp", "p", "pe1"), ("ldp", "pe2", "p"), ("bgp", "pe2", "pe1")],
             [(session["protocol"], session["opener"], session["other"]) for session in run.sessions],
         )
         announced = [message for message in run.messages if message["type"] == "announce"]
-        self.assertEqual([("pe2", "65000:2", "10.2.0.0/16", 18, "65000:100"), ("pe1", "65000:1", "10.1.0.0/16", 18, "65000:100")],
+        self.assertEqual([("pe2", "65000:2", "10.2.0.0/16", 16, "65000:100"), ("pe1", "65000:1", "10.1.0.0/16", 16, "65000:100")],
                          [tuple(message[key] for key in ("sender", "rd", "prefix", "label", "targets")) for message in announced])  # fmt: skip
         mapped = [message for message in run.messages if message["type"] == "mapping" and message["sender"] == "p" and message["receiver"] == "pe1"]
-        self.assertEqual({("192.0.2.2/32", 3), ("192.0.2.1/32", 16), ("192.0.2.3/32", 17)}, {(message["fec"], message["label"]) for message in mapped})
+        self.assertEqual({("192.0.2.2/32", 3), ("192.0.2.1/32", 17), ("192.0.2.3/32", 16)}, {(message["fec"], message["label"]) for message in mapped})
         self.assertEqual([1, 1, 2, 2, 3, 3, 4, 5, 5, 6, 6, 6], [entry["table"] for entry in run.tables])
+
+    def test_a_label_that_is_given_again(self):
+        run = Run(AGAIN)
+        of_p = [(entry["label"], entry["fec"]) for entry in run.labels if entry["node"] == "p"]
+        self.assertEqual([(16, "pe2"), (17, "pe1"), (16, "pe1"), (17, "pe2")], of_p)
+        to_p = [(frame["packet"], frame["sender"], frame["edge"], frame["labels"]) for frame in run.frames if frame["receiver"] == "p"]
+        back = (6, "pe2", "pe1", "16 17")
+        self.assertEqual([*((packet, "pe1", "pe2", "16 16") for packet in (1, 2, 3, 4)), (5, "pe1", "pe2", "17 16"), back], to_p)
 
     def test_time_that_passes(self):
         run = Run(LATE)

@@ -48,7 +48,7 @@ class Predicates:
     def mentions(self, node, to, near):
         link = self.between(node, near)
         heard = self.network.said[link, self.node(near)][: self.network.heard[link, self.node(node)]]
-        return [kind for kind, fec in heard if fec == self.node(to) and kind != "release"]
+        return [kind for kind, fec, _ in heard if fec == self.node(to) and kind != "release"]
 
     def is_operational(self, end, other):
         return self.network.ldp_state(self.between(end, other), self.node(end)) == "operational"
@@ -104,7 +104,8 @@ class Predicates:
 
     def is_in_flight(self, near, node, to):
         link = self.between(near, node)
-        return ("mapping", self.node(to)) in self.network.said[link, self.node(near)][self.network.heard[link, self.node(node)] :]
+        waiting = self.network.said[link, self.node(near)][self.network.heard[link, self.node(node)] :]
+        return any(one[:2] == ("mapping", self.node(to)) for one in waiting)
 
     def each_waits(self, nodes, to):
         return all(self.hop(node, to, near) for node, near in zip(nodes, (*nodes[1:], nodes[0]))) and not any(

@@ -174,8 +174,8 @@ class Wireshark(unittest.TestCase):
         first, second = capture.frames
         self.assertEqual((69, 1, 2), first[:3])
         self.assertEqual((2000, 2, 3), second[:3])
-        self.assertEqual("0001103f0001213f4500", first[3][:10].hex())
-        self.assertEqual("0001213e4500", second[3][:6].hex())
+        self.assertEqual("0001003f0001013f4500", first[3][:10].hex())
+        self.assertEqual("0001013e4500", second[3][:6].hex())
         self.assertEqual([(4000, 3, 61)], [(when, node, packet[8]) for when, node, packet in capture.packets])
 
     def test_an_answer_stands_behind_what_it_answers(self):
@@ -192,7 +192,7 @@ class Wireshark(unittest.TestCase):
         # p opens. Its first Initialization is heard and answered, the link goes down under the answers, and comes up again.
         opened, answers = [(LINKS / f"expected/{ends}.ldp").read_bytes() for ends in ("p+pe1", "pe1+p")]
         run = self.copy(
-            journal__txt=b"0 link up pe1 p\n1 hear ldp p pe1\n2 link down pe1 p\n3 link up pe1 p\n",
+            journal__txt=b"0 link up pe1 p\n1 hear ldp p pe1\n2 link down pe1 p\n3 link up pe1 p\n", labels__txt=b"pe1 16 site a 1\npe2 16 site b 1\n",
             p_pe1__ldp=opened[:36] * 2, pe1_p__ldp=answers[:54], pe2_p__ldp=b"", p_pe2__ldp=b"", pe1_pe2__bgp=b"", pe2_pe1__bgp=b"",
             pe1_p__pcap=(LINKS / "expected/pe1+p.pcap").read_bytes()[:24], p_pe2__pcap=(LINKS / "expected/p+pe2.pcap").read_bytes()[:24],
             delivered__pcap=(LINKS / "expected/delivered.pcap").read_bytes()[:24], report__txt=None,
@@ -206,15 +206,15 @@ class Wireshark(unittest.TestCase):
         self.assertEqual(b"\2\0", capture.order[-1][2][10:12], "what flies as the run ends stands last")
 
     def test_the_way_of_a_frame_without_a_report(self):
-        # One link, and both sites' labels are 17: that the first packet was dropped shows only as the frame is carried.
+        # One link, and both sites' labels are 16: that the first packet was dropped shows only as the frame is carried.
         run = self.folder / "one-link"
         run.mkdir()
         header = struct.pack("<IHHiII", 0xA1B2C3D4, 2, 4, 0, 0, 0x40000)
         packet = (LINKS / "capture.pcap").read_bytes()[-28:]
-        frame = b"\2\x81" + struct.pack(">I", 17 << 12 | 1 << 8 | 63) + packet
+        frame = b"\2\x81" + struct.pack(">I", 16 << 12 | 1 << 8 | 63) + packet
         files = {
             "journal.txt": b"5 inject a 1\n5 inject b 1\n7 carry pe2 pe1 0\n",
-            "labels.txt": b"pe1 16 fec 192.0.2.2/32\npe1 17 site a 1\npe2 16 fec 192.0.2.1/32\npe2 17 site b 1\n",
+            "labels.txt": b"pe1 16 site a 1\npe2 16 site b 1\n",
             "pe1+pe2.pcap": header + b"\x09\0\0\0" + struct.pack("<4I", 0, 5000, len(frame), len(frame)) + frame,
             "delivered.pcap": header + b"\xe4\0\0\0",
         }
@@ -278,7 +278,7 @@ class Wireshark(unittest.TestCase):
         self.refused(1, "nothing: not a folder", self.folder / "nothing", self.out)
         self.refused(1, "journal.txt: No such file", LINKS, self.out)
         self.refused(1, "No such file", expected, self.folder / "none/all.pcap")
-        journal, stream = (expected / "journal.txt").read_bytes(), (expected / "p+pe1.ldp").read_bytes()
+        journal, labels, stream = ((expected / name).read_bytes() for name in ("journal.txt", "labels.txt", "p+pe1.ldp"))
         for said, changed in (
             ("journal.txt: line 2: not a step: 0 link upp p pe2", {"journal__txt": journal.replace(b"up p pe2", b"upp p pe2")}),
             ("journal.txt: line 41: before the tick of the line above", {"journal__txt": journal.replace(b"0 inject", b"3 inject")}),
@@ -286,11 +286,13 @@ class Wireshark(unittest.TestCase):
             ("journal.txt: line 1: not a step: 0 tick x", {"journal__txt": b"0 tick x\n"}),
             ("journal.txt: line 1: hears where no session lives", {"journal__txt": b"0 hear ldp p pe1\n"}),
             ("journal.txt: line 1: there is no pe1+pe2.pcap", {"journal__txt": b"0 learn p pe1 pe2\n"}),
-            ("journal.txt: line 1: labels.txt has no node 'q'", {"journal__txt": b"0 bgp up pe1 q\n"}),
+            ("journal.txt: line 1: there is no pe1+q.bgp", {"journal__txt": b"0 bgp up pe1 q\n"}),
             ("journal.txt: line 1: labels.txt has no site 'c'", {"journal__txt": b"0 inject c 1\n"}),
-            ("x+p.ldp: labels.txt has no node 'x': the file may be an older run's", {"x_p__ldp": b""}),
+            ("x+p.ldp: there is no p+x.pcap: the file may be an older run's", {"x_p__ldp": b""}),
+            ("x+p.bgp: there is no p+x.bgp: the file may be an older run's", {"x_p__bgp": b""}),
             ("labels.txt: line 1: not a label", {"labels__txt": b"pe1 16\n"}),
-            ("labels.txt: p hasn't a label for each other node", {"labels__txt": (expected / "labels.txt").read_bytes().replace(b"pe2 17 ", b"pe1 17 ")}),
+            ("labels.txt: line 7: the label is an attachment's, which keeps it: pe2 16 fec 192.0.2.2/32", {"labels__txt": labels.replace(b"pe2 17 ", b"pe2 16 ")}),
+            ("labels.txt: pe1 gave a label for 192.0.2.7, and no session tells", {"labels__txt": labels.replace(b"pe1 17 fec 192.0.2.2", b"pe1 17 fec 192.0.2.7")}),
             ("p+pe1.ldp: byte 158: not an LDP PDU", {"p_pe1__ldp": stream[:158] + stream[159:]}),
             ("p+pe1.ldp: a session has 5 messages, and by the journal 6 were heard", {"p_pe1__ldp": stream[:158]}),
             ("p+pe1.ldp: has 2 sessions, and by the journal there are 1", {"p_pe1__ldp": stream + stream}),

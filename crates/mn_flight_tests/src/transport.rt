@@ -63,7 +63,7 @@ const B: SiteNo = SiteNo(1);
 
 const C: SiteNo = SiteNo(2);
 
-/// Each edge gave labels 16 and 17 to the FECs of the other two nodes.
+/// No edge offers another node's FEC, so its sites alone have labels.
 #[test]
 fn a_site_that_is_attached_anew_has_the_next_label(rt: HostRuntime) -> Result<(), Fail> {
     let topology = read_topology(rt.alloc(), TOPOLOGY.as_bytes())?;
@@ -78,19 +78,19 @@ fn a_site_that_is_attached_anew_has_the_next_label(rt: HostRuntime) -> Result<()
     assert_eq!(rt; transport.notices().len(), 0);
     assert_eq!(rt; transport.messages().len(), 0);
     let at_start = transport.node(PE1).labels();
-    assert_eq!(rt; at_start.means(18), Some(Bind::Site(A, 1)));
-    assert_eq!(rt; at_start.means(19), Some(Bind::Site(B, 1)));
-    assert_eq!(rt; at_start.means(20), None);
+    assert_eq!(rt; at_start.means(16), Some(Bind::Site(A, 1)));
+    assert_eq!(rt; at_start.means(17), Some(Bind::Site(B, 1)));
+    assert_eq!(rt; at_start.means(18), None);
     assert_eq!(rt;
-        transport.node(PE2).labels().means(18),
+        transport.node(PE2).labels().means(16),
         Some(Bind::Site(C, 1))
     );
 
     transport.detach(&topology, A);
     let label = transport.attach(&topology, A)?;
-    assert_eq!(rt; label, 20);
+    assert_eq!(rt; label, 18);
     assert_eq!(rt;
-        transport.node(PE1).labels().means(20),
+        transport.node(PE1).labels().means(18),
         Some(Bind::Site(A, 2))
     );
     Ok(())

@@ -14,6 +14,7 @@ use Rattle.mn_ledger.specs.Packets.{Packets, bound, hop_over, away_from, stamped
 use Rattle.mn_frames.specs.Given.{Labelling, label_for}
 use Rattle.mn_frames.specs.Frames.{entry, inner}
 use Rattle.mn_frames.specs.Entries.{IsPushed, outer_over}
+use Rattle.mn_frames.specs.Tables.{AreMapped}
 use Rattle.mn_frames.specs.Arrivals.{sent}
 use Rattle.mn_frames.specs.Departures.{with_outer, Departs, LeavesAsTold, StaysAsTold}
 use Rattle.mn_frames.proofs.Links.{hop_leads, only_link, leads_are_joined}
@@ -28,15 +29,16 @@ outer_stack g route bytes packet hop false = refl
 
 departs : (t : Network) (g : Labelling) (w : World) (k : Packets) (packet : ℕ) (route : HeldRoute) (bytes : List ℕ) (node : ℕ) (frame : Labelled)
     (found : Option (ℕ × ℕ)) →
-    IsLawful t → node < length t.loopbacks → node ≢ route.edge → IsPushed t g route bytes frame → usable t w.config w.views w.sessions node route.edge ≡ found →
+    IsLawful t → node < length t.loopbacks → node ≢ route.edge → AreMapped t g w → IsPushed t g route bytes frame → usable t w.config w.views w.sessions node route.edge ≡ found →
     Departs t g k (bound packet route bytes) node (hop_over t k (stamped k (bound packet route bytes)) node rule.NoLsp found) (outer_over g route.edge found) frame
-departs t g w k packet route bytes node frame None lawful there apart pushed is = refl
-departs t g w k packet route bytes node frame (Some hop) lawful there apart pushed is = (
+departs t g w k packet route bytes node frame None lawful there apart mapped pushed is = refl
+departs t g w k packet route bytes node frame (Some hop) lawful there apart mapped pushed is = (
   links,
   record {
     stack = ap (with_outer (if hop.0 == route.edge then None else Some (label_for g hop.0 route.edge))) pushed.stack
         ∙ outer_stack g route bytes packet hop.0 (hop.0 == route.edge);
     packet = pushed.packet;
+    outer = mapped node route.edge hop there pushed.sound.node apart is;
   },
   record {
     home = pushed.sound.home;
@@ -58,8 +60,8 @@ departs t g w k packet route bytes node frame (Some hop) lawful there apart push
     links l dir other = let one = only_link t node hop.0 l hop.1 dir (away_from t hop.1 node) lawful other leads in rw (one.1, one.0) refl
 
 pub leaves_as_told : LeavesAsTold
-leaves_as_told t g w k packet route bytes node frame lawful there apart pushed =
-    departs t g w k packet route bytes node frame (usable t w.config w.views w.sessions node route.edge) lawful there apart pushed refl
+leaves_as_told t g w k packet route bytes node frame lawful there apart mapped pushed =
+    departs t g w k packet route bytes node frame (usable t w.config w.views w.sessions node route.edge) lawful there apart mapped pushed refl
 
 pub stays_as_told : StaysAsTold
 stays_as_told k packet site bytes frame is =

@@ -1,7 +1,6 @@
 -- What was told, what is held and what flies names an attachment that has a label.
 use Rattle.std.proofs.Common.{ℕ, ◌≡◌, ◌<◌, Bool, true, false, Some, None, List, length, refl, arith, sym, ◌∙◌, ap, subst}
 use Rattle.std.specs.Prelude.{◌==◌, IsTrue, Option, if◌then◌else◌}
-use Rattle.std.specs.List.{Contains}
 use Rattle.mn_base.proofs.Bools.{test_same}
 use Rattle.mn_drops.specs.declared.drops.Rule.{Rule}
 use Rattle.mn_drops.specs.declared.drops.Rule.TheVariants as rule
@@ -21,7 +20,7 @@ use Rattle.mn_laws.proofs.Accounted.{frames_good}
 use Rattle.mn_laws.proofs.There.{home_there, vrf_there}
 use Rattle.mn_laws.proofs.Entering.{best_is}
 use Rattle.mn_topo.specs.Lawful.{IsLawful}
-use Rattle.mn_frames.specs.Given.{given, attachment_of}
+use Rattle.mn_frames.specs.Given.{given, attachment_of, HasLabel}
 use Rattle.mn_frames.specs.Frames.{IsSound}
 use Rattle.mn_frames.specs.Attached.{IsAttachmentAt, AllHaveLabels, LeavesSound, AllAreSound}
 use Rattle.mn_frames.specs.Entries.{Fate, Falls, Stays, Leaves, fate_of, IsFit, IsFall}
@@ -30,9 +29,9 @@ use Rattle.mn_frames.proofs.Anew.{gives_to_each}
 
 -- what a site's edge has given, at the node that is this edge
 labelled : (t : Network) (entries : List JournalEntry) (node site k : ℕ) → IsAttachmentAt t (world_of t entries).config node site k →
-    Contains (given t entries node) (attachment_of site k)
+    HasLabel (given t entries node) (attachment_of site k)
 labelled t entries node site k is =
-    subst (λ n. Contains (given t entries n) (attachment_of site k)) is.home
+    subst (λ n. HasLabel (given t entries n) (attachment_of site k)) is.home
     (gives_to_each t entries site k (record { home = refl; there = is.there; first = is.first; last = is.last }))
 
 of_export : (t : Network) (c : Config) (teller : ℕ) (export : Export) → NamesAnAttachment t c teller export →

@@ -2,10 +2,10 @@
 --
 --     site a --- pe1 --- p --- pe2 --- site b
 --
--- Its nodes are 0, 1 and 2. Each has given label 16 for the first of the other nodes and 17 for the second; the edges have given 18 for
--- their site.
+-- Its nodes are 0, 1 and 2. Each edge has given 16 for its site, 17 for p's FEC, of which it hears first, and 18 for the other edge's;
+-- p has given 16 for pe2's FEC and 17 for pe1's.
 use Rattle.std.proofs.Common.{ℕ, zero, suc, ◌≡◌, ◌≢◌, ◌+◌, ◌<◌, ◌≤◌, inl, inr, Bool, true, false, cond, List, [], ◌∷◌, ◌++◌, length, refl}
-use Rattle.std.proofs.Common.{append_assoc, Less, Equal, Greater, rules, arith, sym, ◌∙◌, ap, subst, Some, None}
+use Rattle.std.proofs.Common.{Less, Equal, Greater, rules, arith, sym, ◌∙◌, ap, subst, Some, None}
 use Rattle.std.specs.Prelude.{◌==◌, nat_lt, slice_index}
 use Rattle.std.specs.List.{Contains, list_all}
 use Rattle.std.specs.Ordering.{nat_cmp, is_eq}
@@ -17,6 +17,8 @@ use Rattle.mn_wiring.specs.Paths.{next}
 use Rattle.mn_ipv4.specs.Header.{is_not_ipv4, is_malformed, is_truncated, has_bad_checksum, good, checksum_for, with_ttl, aged}
 use Rattle.mn_stack.specs.Labelled.{Labelled}
 use Rattle.mn_labels.specs.declared.meaning.Bind.{Bind}
+use Rattle.mn_labels.specs.declared.meaning.Given.{Given}
+use Rattle.mn_labels.specs.Labels.{Labels, greatest, meaning_of}
 use Rattle.mn_lfib.specs.declared.answer.Use.{Use}
 use Rattle.mn_lfib.specs.declared.answer.Use.TheVariants as label_of
 use Rattle.mn_lfib.specs.Uses.{use_of, fec_use}
@@ -36,15 +38,18 @@ use Rattle.mn_ledger.specs.Verdicts.{injections}
 use Rattle.mn_laws.specs.Named.{AreBytes}
 use Rattle.mn_ledger.proofs.Members.{In, in_contained, contained_in}
 use Rattle.mn_ledger.proofs.Parts.{knowledge_kept}
-use Rattle.mn_ledger.proofs.TwoLinks.{node_no, site_no, two_links, at_start, settling, packet, too_high}
-use Rattle.mn_frames.specs.Given.{Labelling, given, given_in, fec_of, attachment_of, label_in}
+use Rattle.mn_ledger.proofs.TwoLinks.{node_no, site_no, two_links, the_topology_is_lawful, at_start, settling, packet, too_high}
+use Rattle.mn_reuse.specs.Labels.{labels_of, attached_in}
+use Rattle.mn_frames.specs.Given.{Labelling, HasLabel, given, fec_of, attachment_of, label_in}
 use Rattle.mn_frames.specs.Frames.{entry, IsFrameOf, IsSound}
-use Rattle.mn_frames.specs.Tables.{TableStands, next_entry, site_entry}
+use Rattle.mn_frames.specs.Tables.{AreMapped, TableStands, next_entry, site_entry}
 use Rattle.mn_frames.specs.Entries.{Leaves, fate, IsPushed, IsAged}
-use Rattle.mn_frames.specs.Laws.{Extends, HasFecs}
 use Rattle.mn_frames.specs.Attachments.{Attaches, Detaches}
-use Rattle.mn_frames.proofs.Labels.{has_fecs, gives_more}
-use Rattle.mn_frames.proofs.Attaching.{site_of, number_of}
+use Rattle.mn_frames.proofs.Bridge.{given_fit, has_in}
+use Rattle.mn_frames.proofs.Labels.{means_one, fec_within}
+use Rattle.mn_frames.proofs.Unmoved.{gives_by_attaching}
+use Rattle.mn_frames.proofs.Mapped.{all_are_mapped}
+use Rattle.mn_frames.proofs.Anew.{site_of, number_of, never_given}
 
 -- 1. The journal
 
@@ -65,35 +70,49 @@ world = world_of two_links on_its_way
 abbrev pub labels : Labelling
 labels = given two_links on_its_way
 
-pub labels_of_pe1 : labels 0 ≡ fec_of 1 ∷ fec_of 2 ∷ attachment_of 0 1 ∷ []
-unfolding given
+abbrev giving : ℕ → Bind → Given
+giving label what = record { label = label; what = what }
+
+abbrev pe1 : Labels
+pe1 = record { given = giving 16 (attachment_of 0 1) ∷ giving 17 (fec_of 1) ∷ giving 18 (fec_of 2) ∷ []; fecs = None ∷ Some 17 ∷ Some 18 ∷ [] }
+
+abbrev p : Labels
+p = record { given = giving 16 (fec_of 2) ∷ giving 17 (fec_of 0) ∷ []; fecs = Some 17 ∷ None ∷ Some 16 ∷ [] }
+
+abbrev pe2 : Labels
+pe2 = record { given = giving 16 (attachment_of 1 1) ∷ giving 17 (fec_of 1) ∷ giving 18 (fec_of 0) ∷ []; fecs = Some 18 ∷ Some 17 ∷ None ∷ [] }
+
+pub labels_of_pe1 : labels 0 ≡ pe1
+unfolding next knowledge_of news sessions_after peerings_after given labels_of
 labels_of_pe1 = refl
 
-pub labels_of_p : labels 1 ≡ fec_of 0 ∷ fec_of 2 ∷ []
-unfolding given
+pub labels_of_p : labels 1 ≡ p
+unfolding next knowledge_of news sessions_after peerings_after given labels_of
 labels_of_p = refl
 
-pub labels_of_pe2 : labels 2 ≡ fec_of 0 ∷ fec_of 1 ∷ attachment_of 1 1 ∷ []
-unfolding given
+pub labels_of_pe2 : labels 2 ≡ pe2
+unfolding next knowledge_of news sessions_after peerings_after given labels_of
 labels_of_pe2 = refl
 
-pub site_b_has_a_label : Contains (labels 2) (attachment_of 1 1)
-unfolding given
-site_b_has_a_label = contained_in (fec_of 0 ∷ fec_of 1 ∷ attachment_of 1 1 ∷ []) (attachment_of 1 1) (inr (inr (inl refl)))
+site_b_has_one : HasLabel pe2 (attachment_of 1 1)
+site_b_has_one = omega arith
 
-pub all_fecs : HasFecs two_links labels
-all_fecs = has_fecs two_links on_its_way
+pub site_b_has_a_label : HasLabel (labels 2) (attachment_of 1 1)
+site_b_has_a_label = subst (λ ls. HasLabel ls (attachment_of 1 1)) (sym labels_of_pe2) site_b_has_one
+
+pub next_hops_have_labels : AreMapped two_links labels world
+next_hops_have_labels = all_are_mapped two_links on_its_way (packet ∷ []) the_topology_is_lawful it_is_lawful
 
 -- 2. The three tables
 
 abbrev pub uses_of_pe1 : List (ℕ × Use)
-uses_of_pe1 = (16, label_of.Fec (node_no 1) 3) ∷ (17, label_of.Fec (node_no 1) 17) ∷ (18, label_of.Site (site_no 0)) ∷ []
+uses_of_pe1 = (16, label_of.Site (site_no 0)) ∷ (17, label_of.Fec (node_no 1) 3) ∷ (18, label_of.Fec (node_no 1) 16) ∷ []
 
 abbrev pub uses_of_p : List (ℕ × Use)
-uses_of_p = (16, label_of.Fec (node_no 0) 3) ∷ (17, label_of.Fec (node_no 2) 3) ∷ []
+uses_of_p = (16, label_of.Fec (node_no 2) 3) ∷ (17, label_of.Fec (node_no 0) 3) ∷ []
 
 abbrev pub uses_of_pe2 : List (ℕ × Use)
-uses_of_pe2 = (16, label_of.Fec (node_no 1) 16) ∷ (17, label_of.Fec (node_no 1) 3) ∷ (18, label_of.Site (site_no 1)) ∷ []
+uses_of_pe2 = (16, label_of.Site (site_no 1)) ∷ (17, label_of.Fec (node_no 1) 3) ∷ (18, label_of.Fec (node_no 1) 17) ∷ []
 
 other_key : (label key : ℕ) → label ≢ key → is_at (nat_cmp label) key ≡ false
 other_key label key apart = by (nat_lt label key) (label == key) (other_test label key apart)
@@ -108,7 +127,7 @@ no_use label x y z a b c = rw (other_key label 16 a, other_key label 17 b, other
 
 fecs_of_pe1 : (edge : ℕ) → edge < 3 → edge ≢ 0 → use_of uses_of_pe1 (label_in (labels 0) (fec_of edge)) ≡ fec_use (next_entry two_links labels world 0 edge)
 unfolding next knowledge_of news sessions_after peerings_after held packets_after is_not_ipv4 is_malformed is_truncated has_bad_checksum good checksum_for
-    with_ttl aged in_flight bytes_flying given
+    with_ttl aged in_flight bytes_flying given labels_of
 fecs_of_pe1 zero h apart = absurd (apart refl)
 fecs_of_pe1 (suc zero) h apart = refl
 fecs_of_pe1 (suc (suc zero)) h apart = refl
@@ -116,7 +135,7 @@ fecs_of_pe1 (suc (suc (suc n))) h apart = absurd (too_high n h)
 
 fecs_of_p : (edge : ℕ) → edge < 3 → edge ≢ 1 → use_of uses_of_p (label_in (labels 1) (fec_of edge)) ≡ fec_use (next_entry two_links labels world 1 edge)
 unfolding next knowledge_of news sessions_after peerings_after held packets_after is_not_ipv4 is_malformed is_truncated has_bad_checksum good checksum_for
-    with_ttl aged in_flight bytes_flying given
+    with_ttl aged in_flight bytes_flying given labels_of
 fecs_of_p zero h apart = refl
 fecs_of_p (suc zero) h apart = absurd (apart refl)
 fecs_of_p (suc (suc zero)) h apart = refl
@@ -124,60 +143,55 @@ fecs_of_p (suc (suc (suc n))) h apart = absurd (too_high n h)
 
 fecs_of_pe2 : (edge : ℕ) → edge < 3 → edge ≢ 2 → use_of uses_of_pe2 (label_in (labels 2) (fec_of edge)) ≡ fec_use (next_entry two_links labels world 2 edge)
 unfolding next knowledge_of news sessions_after peerings_after held packets_after is_not_ipv4 is_malformed is_truncated has_bad_checksum good checksum_for
-    with_ttl aged in_flight bytes_flying given
+    with_ttl aged in_flight bytes_flying given labels_of
 fecs_of_pe2 zero h apart = refl
 fecs_of_pe2 (suc zero) h apart = refl
 fecs_of_pe2 (suc (suc zero)) h apart = absurd (apart refl)
 fecs_of_pe2 (suc (suc (suc n))) h apart = absurd (too_high n h)
 
 -- an edge has one site
-one_site : (a b s site k : ℕ) (P : ℕ → ℕ → Type 0) → P s 1 → In (fec_of a ∷ fec_of b ∷ attachment_of s 1 ∷ []) (attachment_of site k) → P site k
-one_site a b s site k P h (inl e) = absurd (let none : fec_of a ≡ attachment_of site k → ⊥ = (λ q. cc) in none e)
-one_site a b s site k P h (inr (inl e)) = absurd (let none : fec_of b ≡ attachment_of site k → ⊥ = (λ q. cc) in none e)
-one_site a b s site k P h (inr (inr (inl e))) = subst (λ n. P site n) (ap number_of e) (subst (λ x. P x 1) (ap site_of e) h)
-one_site a b s site k P h (inr (inr (inr i))) = absurd i
-
-no_site : (site k : ℕ) → In (fec_of 0 ∷ fec_of 2 ∷ []) (attachment_of site k) → ⊥
-no_site site k (inl e) = let none : fec_of 0 ≡ attachment_of site k → ⊥ = (λ q. cc) in none e
-no_site site k (inr (inl e)) = let none : fec_of 2 ≡ attachment_of site k → ⊥ = (λ q. cc) in none e
-no_site site k (inr (inr i)) = i
+one_site : (s site k : ℕ) (P : ℕ → ℕ → Type 0) → P s 1 → In (attachment_of s 1 ∷ []) (attachment_of site k) → P site k
+one_site s site k P h (inl e) = subst (λ n. P site n) (ap number_of e) (subst (λ x. P x 1) (ap site_of e) h)
+one_site s site k P h (inr i) = absurd i
 
 site_a : use_of uses_of_pe1 (label_in (labels 0) (attachment_of 0 1)) ≡ Some (site_entry world 0 1)
 unfolding next knowledge_of news sessions_after peerings_after held packets_after is_not_ipv4 is_malformed is_truncated has_bad_checksum good checksum_for
-    with_ttl aged in_flight bytes_flying given
+    with_ttl aged in_flight bytes_flying given labels_of
 site_a = refl
 
 site_b : use_of uses_of_pe2 (label_in (labels 2) (attachment_of 1 1)) ≡ Some (site_entry world 1 1)
 unfolding next knowledge_of news sessions_after peerings_after held packets_after is_not_ipv4 is_malformed is_truncated has_bad_checksum good checksum_for
-    with_ttl aged in_flight bytes_flying given
+    with_ttl aged in_flight bytes_flying given labels_of
 site_b = refl
 
 below : (label m : ℕ) → label < 16 → 16 ≤ m → label ≢ m
 below label m h g e = omega (arith, h, g, e)
 
-above : (label m : ℕ) → 16 + 3 ≤ label → m ≤ 18 → label ≢ m
-above label m h g e = omega (arith, h, g, e)
-
-above_two : (label m : ℕ) → 16 + 2 ≤ label → m ≤ 17 → label ≢ m
-above_two label m h g e = omega (arith, h, g, e)
+-- a label that nothing has isn't the one that this thing has
+another : (labels : Labels) (thing : Bind) (label m : ℕ) → ((other : Bind) → HasLabel labels other → label_in labels other ≢ label) →
+    label_in labels thing ≡ m → 16 ≤ m → label ≢ m
+another labels thing label m none is low same = none thing (subst (λ n. 16 ≤ n) (sym is) low) (is ∙ sym same)
 
 pub the_table_of_pe1 : TableStands two_links labels world 0 uses_of_pe1
 the_table_of_pe1 = record {
-  fecs = fecs_of_pe1;
-  sites = λ site k c. one_site 1 2 0 site k (λ x n. use_of uses_of_pe1 (label_in (labels 0) (attachment_of x n)) ≡ Some (site_entry world x n)) site_a
-      (subst (λ binds. In binds (attachment_of site k)) labels_of_pe1 (in_contained (labels 0) (attachment_of site k) c));
+  fecs = λ edge h apart had. fecs_of_pe1 edge h apart;
+  sites = λ site k c. one_site 0 site k (λ x n. use_of uses_of_pe1 (label_in (labels 0) (attachment_of x n)) ≡ Some (site_entry world x n)) site_a
+      (has_in pe1.given site k (subst (λ ls. HasLabel ls (attachment_of site k)) labels_of_pe1 c));
   reserved = λ label h. no_use label _ _ _ (below label 16 h (omega arith)) (below label 17 h (omega arith)) (below label 18 h (omega arith));
-  later = λ label h. let high : 16 + 3 ≤ label = subst (λ binds. 16 + length binds ≤ label) labels_of_pe1 h in
-      no_use label _ _ _ (above label 16 high (omega arith)) (above label 17 high (omega arith)) (above label 18 high (omega arith));
+  others = λ label none. no_use label _ _ _
+      (another (labels 0) (attachment_of 0 1) label 16 none (ap (λ ls. label_in ls (attachment_of 0 1)) labels_of_pe1) (omega arith))
+      (another (labels 0) (fec_of 1) label 17 none (ap (λ ls. label_in ls (fec_of 1)) labels_of_pe1) (omega arith))
+      (another (labels 0) (fec_of 2) label 18 none (ap (λ ls. label_in ls (fec_of 2)) labels_of_pe1) (omega arith));
 }
 
 pub the_table_of_p : TableStands two_links labels world 1 uses_of_p
 the_table_of_p = record {
-  fecs = fecs_of_p;
-  sites = λ site k c. absurd (no_site site k (subst (λ binds. In binds (attachment_of site k)) labels_of_p (in_contained (labels 1) (attachment_of site k) c)));
+  fecs = λ edge h apart had. fecs_of_p edge h apart;
+  sites = λ site k c. absurd (has_in p.given site k (subst (λ ls. HasLabel ls (attachment_of site k)) labels_of_p c));
   reserved = λ label h. none label (below label 16 h (omega arith)) (below label 17 h (omega arith));
-  later = λ label h. let high : 16 + 2 ≤ label = subst (λ binds. 16 + length binds ≤ label) labels_of_p h in
-      none label (above_two label 16 high (omega arith)) (above_two label 17 high (omega arith));
+  others = λ label no_one. none label
+      (another (labels 1) (fec_of 2) label 16 no_one (ap (λ ls. label_in ls (fec_of 2)) labels_of_p) (omega arith))
+      (another (labels 1) (fec_of 0) label 17 no_one (ap (λ ls. label_in ls (fec_of 0)) labels_of_p) (omega arith));
 }
   where
     none : (label : ℕ) → label ≢ 16 → label ≢ 17 → use_of uses_of_p label ≡ None
@@ -185,99 +199,92 @@ the_table_of_p = record {
 
 pub the_table_of_pe2 : TableStands two_links labels world 2 uses_of_pe2
 the_table_of_pe2 = record {
-  fecs = fecs_of_pe2;
-  sites = λ site k c. one_site 0 1 1 site k (λ x n. use_of uses_of_pe2 (label_in (labels 2) (attachment_of x n)) ≡ Some (site_entry world x n)) site_b
-      (subst (λ binds. In binds (attachment_of site k)) labels_of_pe2 (in_contained (labels 2) (attachment_of site k) c));
+  fecs = λ edge h apart had. fecs_of_pe2 edge h apart;
+  sites = λ site k c. one_site 1 site k (λ x n. use_of uses_of_pe2 (label_in (labels 2) (attachment_of x n)) ≡ Some (site_entry world x n)) site_b
+      (has_in pe2.given site k (subst (λ ls. HasLabel ls (attachment_of site k)) labels_of_pe2 c));
   reserved = λ label h. no_use label _ _ _ (below label 16 h (omega arith)) (below label 17 h (omega arith)) (below label 18 h (omega arith));
-  later = λ label h. let high : 16 + 3 ≤ label = subst (λ binds. 16 + length binds ≤ label) labels_of_pe2 h in
-      no_use label _ _ _ (above label 16 high (omega arith)) (above label 17 high (omega arith)) (above label 18 high (omega arith));
+  others = λ label none. no_use label _ _ _
+      (another (labels 2) (attachment_of 1 1) label 16 none (ap (λ ls. label_in ls (attachment_of 1 1)) labels_of_pe2) (omega arith))
+      (another (labels 2) (fec_of 1) label 17 none (ap (λ ls. label_in ls (fec_of 1)) labels_of_pe2) (omega arith))
+      (another (labels 2) (fec_of 0) label 18 none (ap (λ ls. label_in ls (fec_of 0)) labels_of_pe2) (omega arith));
 }
 
--- 3. At the start, where no node can send and each site is attached
+-- 3. At the start, where no node can send, no FEC has a label and each site is attached
 
 abbrev pub first_labels : Labelling
 first_labels = given two_links []
 
-one_use : (label : ℕ) (x : Use) → label ≢ 18 → use_of ((18, x) ∷ []) label ≡ None
-one_use label x apart = rw (other_key label 18 apart) refl
+abbrev with_site : ℕ → Labels
+with_site site = record { given = giving 16 (attachment_of site 1) ∷ []; fecs = None ∷ None ∷ None ∷ [] }
 
-first_fecs_of_pe1 : (edge : ℕ) → edge < 3 → edge ≢ 0 →
-    use_of ((18, label_of.Site (site_no 0)) ∷ []) (label_in (first_labels 0) (fec_of edge)) ≡ fec_use
-    (next_entry two_links first_labels (start two_links) 0 edge)
-unfolding next knowledge_of given
-first_fecs_of_pe1 zero h apart = absurd (apart refl)
-first_fecs_of_pe1 (suc zero) h apart = refl
-first_fecs_of_pe1 (suc (suc zero)) h apart = refl
-first_fecs_of_pe1 (suc (suc (suc n))) h apart = absurd (too_high n h)
+abbrev without : Labels
+without = record { given = []; fecs = None ∷ None ∷ None ∷ [] }
 
-first_fecs_of_p : (edge : ℕ) → edge < 3 → edge ≢ 1 →
-    use_of [] (label_in (first_labels 1) (fec_of edge)) ≡ fec_use (next_entry two_links first_labels (start two_links) 1 edge)
-unfolding next knowledge_of given
-first_fecs_of_p zero h apart = refl
-first_fecs_of_p (suc zero) h apart = absurd (apart refl)
-first_fecs_of_p (suc (suc zero)) h apart = refl
-first_fecs_of_p (suc (suc (suc n))) h apart = absurd (too_high n h)
-
-first_fecs_of_pe2 : (edge : ℕ) → edge < 3 → edge ≢ 2 →
-    use_of ((18, label_of.Site (site_no 1)) ∷ []) (label_in (first_labels 2) (fec_of edge)) ≡ fec_use
-    (next_entry two_links first_labels (start two_links) 2 edge)
-unfolding next knowledge_of given
-first_fecs_of_pe2 zero h apart = refl
-first_fecs_of_pe2 (suc zero) h apart = refl
-first_fecs_of_pe2 (suc (suc zero)) h apart = absurd (apart refl)
-first_fecs_of_pe2 (suc (suc (suc n))) h apart = absurd (too_high n h)
-
-first_site_a : use_of ((18, label_of.Site (site_no 0)) ∷ []) (label_in (first_labels 0) (attachment_of 0 1)) ≡ Some (site_entry (start two_links) 0 1)
-unfolding given
-first_site_a = refl
-
-first_site_b : use_of ((18, label_of.Site (site_no 1)) ∷ []) (label_in (first_labels 2) (attachment_of 1 1)) ≡ Some (site_entry (start two_links) 1 1)
-unfolding given
-first_site_b = refl
-
-first_of_pe1 : first_labels 0 ≡ fec_of 1 ∷ fec_of 2 ∷ attachment_of 0 1 ∷ []
-unfolding given
+first_of_pe1 : first_labels 0 ≡ with_site 0
+unfolding given labels_of
 first_of_pe1 = refl
 
-first_of_p : first_labels 1 ≡ fec_of 0 ∷ fec_of 2 ∷ []
-unfolding given
+first_of_p : first_labels 1 ≡ without
+unfolding given labels_of
 first_of_p = refl
 
-first_of_pe2 : first_labels 2 ≡ fec_of 0 ∷ fec_of 1 ∷ attachment_of 1 1 ∷ []
-unfolding given
+first_of_pe2 : first_labels 2 ≡ with_site 1
+unfolding given labels_of
 first_of_pe2 = refl
 
-pub the_first_table_of_pe1 : TableStands two_links first_labels (start two_links) 0 ((18, label_of.Site (site_no 0)) ∷ [])
+one_use : (label : ℕ) (x : Use) → label ≢ 16 → use_of ((16, x) ∷ []) label ≡ None
+one_use label x apart = rw (other_key label 16 apart) refl
+
+no_fec : (labels : Labels) (edge : ℕ) → labels.fecs ≡ None ∷ None ∷ None ∷ [] → edge < 3 → HasLabel labels (fec_of edge) → ⊥
+no_fec labels edge e h had = by edge h (subst (λ fecs. HasLabel (record labels { fecs = fecs }) (fec_of edge)) e had)
+  where
+    none : 16 ≤ 0 → ⊥
+    none x = omega (arith, x)
+
+    by : (edge : ℕ) → edge < 3 → HasLabel (record labels { fecs = None ∷ None ∷ None ∷ [] }) (fec_of edge) → ⊥
+    by zero h had = none had
+    by (suc zero) h had = none had
+    by (suc (suc zero)) h had = none had
+    by (suc (suc (suc n))) h had = too_high n h
+
+first_site_a : use_of ((16, label_of.Site (site_no 0)) ∷ []) (label_in (first_labels 0) (attachment_of 0 1)) ≡ Some (site_entry (start two_links) 0 1)
+unfolding given labels_of
+first_site_a = refl
+
+first_site_b : use_of ((16, label_of.Site (site_no 1)) ∷ []) (label_in (first_labels 2) (attachment_of 1 1)) ≡ Some (site_entry (start two_links) 1 1)
+unfolding given labels_of
+first_site_b = refl
+
+pub the_first_table_of_pe1 : TableStands two_links first_labels (start two_links) 0 ((16, label_of.Site (site_no 0)) ∷ [])
 the_first_table_of_pe1 = record {
-  fecs = first_fecs_of_pe1;
-  sites = λ site k c. one_site 1 2 0 site k
-      (λ x n. use_of ((18, label_of.Site (site_no 0)) ∷ []) (label_in (first_labels 0) (attachment_of x n)) ≡ Some (site_entry (start two_links) x n))
+  fecs = λ edge h apart had. absurd (no_fec (first_labels 0) edge (ap (λ (ls : Labels). ls.fecs) first_of_pe1) h had);
+  sites = λ site k c. one_site 0 site k
+      (λ x n. use_of ((16, label_of.Site (site_no 0)) ∷ []) (label_in (first_labels 0) (attachment_of x n)) ≡ Some (site_entry (start two_links) x n))
       first_site_a
-      (subst (λ binds. In binds (attachment_of site k)) first_of_pe1 (in_contained (first_labels 0) (attachment_of site k) c));
-  reserved = λ label h. one_use label _ (below label 18 h (omega arith));
-  later = λ label h. let high : 16 + 3 ≤ label = subst (λ binds. 16 + length binds ≤ label) first_of_pe1 h in
-      one_use label _ (above label 18 high (omega arith));
+      (has_in (with_site 0).given site k (subst (λ ls. HasLabel ls (attachment_of site k)) first_of_pe1 c));
+  reserved = λ label h. one_use label _ (below label 16 h (omega arith));
+  others = λ label none. one_use label _
+      (another (first_labels 0) (attachment_of 0 1) label 16 none (ap (λ ls. label_in ls (attachment_of 0 1)) first_of_pe1) (omega arith));
 }
 
 pub the_first_table_of_p : TableStands two_links first_labels (start two_links) 1 []
 the_first_table_of_p = record {
-  fecs = first_fecs_of_p;
-  sites = λ site k c. absurd
-      (no_site site k (subst (λ binds. In binds (attachment_of site k)) first_of_p (in_contained (first_labels 1) (attachment_of site k) c)));
+  fecs = λ edge h apart had. absurd (no_fec (first_labels 1) edge (ap (λ (ls : Labels). ls.fecs) first_of_p) h had);
+  sites = λ site k c. absurd (has_in without.given site k (subst (λ ls. HasLabel ls (attachment_of site k)) first_of_p c));
   reserved = λ label h. refl;
-  later = λ label h. refl;
+  others = λ label none. refl;
 }
 
-pub the_first_table_of_pe2 : TableStands two_links first_labels (start two_links) 2 ((18, label_of.Site (site_no 1)) ∷ [])
+pub the_first_table_of_pe2 : TableStands two_links first_labels (start two_links) 2 ((16, label_of.Site (site_no 1)) ∷ [])
 the_first_table_of_pe2 = record {
-  fecs = first_fecs_of_pe2;
-  sites = λ site k c. one_site 0 1 1 site k
-      (λ x n. use_of ((18, label_of.Site (site_no 1)) ∷ []) (label_in (first_labels 2) (attachment_of x n)) ≡ Some (site_entry (start two_links) x n))
+  fecs = λ edge h apart had. absurd (no_fec (first_labels 2) edge (ap (λ (ls : Labels). ls.fecs) first_of_pe2) h had);
+  sites = λ site k c. one_site 1 site k
+      (λ x n. use_of ((16, label_of.Site (site_no 1)) ∷ []) (label_in (first_labels 2) (attachment_of x n)) ≡ Some (site_entry (start two_links) x n))
       first_site_b
-      (subst (λ binds. In binds (attachment_of site k)) first_of_pe2 (in_contained (first_labels 2) (attachment_of site k) c));
-  reserved = λ label h. one_use label _ (below label 18 h (omega arith));
-  later = λ label h. let high : 16 + 3 ≤ label = subst (λ binds. 16 + length binds ≤ label) first_of_pe2 h in
-      one_use label _ (above label 18 high (omega arith));
+      (has_in (with_site 1).given site k (subst (λ ls. HasLabel ls (attachment_of site k)) first_of_pe2 c));
+  reserved = λ label h. one_use label _ (below label 16 h (omega arith));
+  others = λ label none. one_use label _
+      (another (first_labels 2) (attachment_of 1 1) label 16 none (ap (λ ls. label_in ls (attachment_of 1 1)) first_of_pe2) (omega arith));
 }
 
 -- 4. The packet on its way, and its frames
@@ -291,7 +298,7 @@ unfolding next knowledge_of news sessions_after peerings_after held packets_afte
 the_packet_flies = refl
 
 pub it_is_sound : IsSound two_links labels token
-unfolding is_not_ipv4 is_malformed is_truncated has_bad_checksum good checksum_for with_ttl aged given
+unfolding is_not_ipv4 is_malformed is_truncated has_bad_checksum good checksum_for with_ttl aged
 it_is_sound = record {
   home = refl;
   node = omega arith;
@@ -303,18 +310,28 @@ it_is_sound = record {
 
 -- on its way to p, and then to pe2
 abbrev pub to_p : Labelled
-to_p = record { entries = entry 17 false 63 ∷ entry 18 true 63 ∷ []; packet = aged packet 1; room = 0 }
+to_p = record { entries = entry 16 false 63 ∷ entry 16 true 63 ∷ []; packet = aged packet 1; room = 0 }
 
 abbrev pub to_pe2 : Labelled
-to_pe2 = record { entries = entry 18 true 62 ∷ []; packet = aged packet 1; room = 1 }
+to_pe2 = record { entries = entry 16 true 62 ∷ []; packet = aged packet 1; room = 1 }
+
+p_has_a_label : HasLabel (labels 1) (fec_of 2)
+p_has_a_label = subst (λ ls. HasLabel ls (fec_of 2)) (sym labels_of_p) (omega arith)
 
 pub its_frame_to_p : IsFrameOf labels token 1 to_p
-unfolding given
-its_frame_to_p = record { stack = refl; packet = refl }
+its_frame_to_p = record {
+  stack = ap (λ l. entry l false 63 ∷ entry 16 true 63 ∷ []) (sym (ap (λ ls. label_in ls (fec_of 2)) labels_of_p))
+      ∙ ap (λ l. entry (label_in (labels 1) (fec_of 2)) false 63 ∷ entry l true 63 ∷ []) (sym (ap (λ ls. label_in ls (attachment_of 1 1)) labels_of_pe2));
+  packet = refl;
+  outer = λ apart. p_has_a_label;
+}
 
 pub its_frame_to_pe2 : IsFrameOf labels (record token { ttl = 62 }) 2 to_pe2
-unfolding given
-its_frame_to_pe2 = record { stack = refl; packet = refl }
+its_frame_to_pe2 = record {
+  stack = ap (λ l. entry l true 62 ∷ []) (sym (ap (λ ls. label_in ls (attachment_of 1 1)) labels_of_pe2));
+  packet = refl;
+  outer = λ apart. absurd (apart refl);
+}
 
 -- 5. As it entered
 
@@ -326,10 +343,10 @@ unfolding next knowledge_of news sessions_after peerings_after held packets_afte
     with_ttl aged in_flight bytes_flying
 it_is_bound_to_the_far_edge = refl
 
-pub it_is_pushed : IsPushed two_links labels route packet (record { entries = entry 18 true 63 ∷ []; packet = aged packet 1; room = 1 })
-unfolding is_not_ipv4 is_malformed is_truncated has_bad_checksum good checksum_for with_ttl aged given
+pub it_is_pushed : IsPushed two_links labels route packet (record { entries = entry 16 true 63 ∷ []; packet = aged packet 1; room = 1 })
+unfolding is_not_ipv4 is_malformed is_truncated has_bad_checksum good checksum_for with_ttl aged
 it_is_pushed = record {
-  stack = refl;
+  stack = ap (λ l. entry l true 63 ∷ []) (sym (ap (λ ls. label_in ls (attachment_of 1 1)) labels_of_pe2));
   packet = refl;
   sound = record { home = refl; node = omega arith; labelled = site_b_has_a_label; within = omega arith; pushed = refl; packet = refl };
 }
@@ -359,10 +376,10 @@ abbrev pub attached : World
 attached = after two_links detached (Attach (site_no 1))
 
 abbrev pub uses_while_detached : List (ℕ × Use)
-uses_while_detached = (16, label_of.Fec (node_no 1) 16) ∷ (17, label_of.Fec (node_no 1) 3) ∷ (18, label_of.Ended) ∷ []
+uses_while_detached = (16, label_of.Ended) ∷ (17, label_of.Fec (node_no 1) 3) ∷ (18, label_of.Fec (node_no 1) 17) ∷ []
 
 abbrev pub uses_once_attached : List (ℕ × Use)
-uses_once_attached = (16, label_of.Fec (node_no 1) 16) ∷ (17, label_of.Fec (node_no 1) 3) ∷ (18, label_of.Ended) ∷ (19, label_of.Site (site_no 1)) ∷ []
+uses_once_attached = (16, label_of.Ended) ∷ (17, label_of.Fec (node_no 1) 3) ∷ (18, label_of.Fec (node_no 1) 17) ∷ (19, label_of.Site (site_no 1)) ∷ []
 
 abbrev pub later : List JournalEntry
 later = on_its_way ++ at_start (Detach (site_no 1)) ∷ []
@@ -370,12 +387,15 @@ later = on_its_way ++ at_start (Detach (site_no 1)) ∷ []
 abbrev pub later_labels : Labelling
 later_labels = given two_links (later ++ at_start (Attach (site_no 1)) ∷ [])
 
-pub labels_go_on : Extends labels later_labels
+labels_go_on : (node : ℕ) → later_labels node ≡ attached_in two_links (world_of two_links later) (Attach (site_no 1)) node (labels node)
 labels_go_on node =
-    let once = gives_more two_links on_its_way (at_start (Detach (site_no 1))) node in
-    let twice = gives_more two_links later (at_start (Attach (site_no 1))) node in
-    let more : List Bind = given_in two_links node (world_of two_links later).config (Attach (site_no 1)) in
-    (more, twice ∙ ap (λ binds. binds ++ more) once ∙ append_assoc (labels node) [] more)
+    gives_by_attaching two_links later (at_start (Attach (site_no 1))) node refl
+    ∙ ap (attached_in two_links (world_of two_links later) (Attach (site_no 1)) node)
+    (gives_by_attaching two_links on_its_way (at_start (Detach (site_no 1))) node refl)
+
+-- the new label is the edge's alone
+no_more_elsewhere : (node : ℕ) (now : Labels) → node ≢ 2 → attached_in two_links (world_of two_links later) (Attach (site_no 1)) node now ≡ now
+no_more_elsewhere node now apart = let other : (2 == node) ≡ false = other_test 2 node (λ e. apart (sym e)) in rw other refl
 
 sends_still : (w : World) (step : Step) (edge : ℕ) →
     knowledge_of (wiring_of two_links) (after two_links w step).config (after two_links w step).views (after two_links w step).sessions 2
@@ -385,33 +405,35 @@ sends_still : (w : World) (step : Step) (edge : ℕ) →
 sends_still w step edge h = ap (λ k. usable_by (wiring_of two_links) k 2 edge) h
 
 pub the_site_is_detached : Detaches two_links labels world detached 2 1 1 uses_of_pe2 uses_while_detached
-unfolding given
 the_site_is_detached = record {
-  fecs = all_fecs;
   labelled = site_b_has_a_label;
+  told = λ one other had also same. same_Some one other (sym (means one had) ∙ ap (meaning_of (labels 2)) same ∙ means other also);
   attached = refl;
   detached = refl;
   sends = λ edge. sends_still world (Detach (site_no 1)) edge (knowledge_kept two_links world (Detach (site_no 1)) 2 refl);
-  set = refl;
-  others = λ label apart. rw (other_key label 18 apart) refl;
+  set = ap (use_of uses_while_detached) its_label;
+  others = λ label apart. rw (other_key label 16 (λ e. apart (e ∙ sym its_label))) refl;
 }
+  where
+    its_label : label_in (labels 2) (attachment_of 1 1) ≡ 16
+    its_label = ap (λ ls. label_in ls (attachment_of 1 1)) labels_of_pe2
+
+    means : (thing : Bind) → HasLabel (labels 2) thing → meaning_of (labels 2) (label_in (labels 2) thing) ≡ Some thing
+    means thing had = means_one two_links on_its_way (packet ∷ []) 2 thing (omega arith) the_topology_is_lawful it_is_lawful had
 
 pub the_site_is_attached_anew : Attaches two_links labels later_labels detached attached 2 1 2 uses_while_detached uses_once_attached
-unfolding given
 the_site_is_attached_anew = record {
-  given = refl;
-  extends = labels_go_on;
-  fecs = all_fecs;
-  fresh = λ c. fresh (in_contained (labels 2) (attachment_of 1 2) c);
+  given = labels_go_on 2;
+  elsewhere = λ node apart. labels_go_on node ∙ no_more_elsewhere node (labels node) apart;
+  fecs = fec_within (labels 2) (given_fit two_links on_its_way 2);
+  low = λ giving c. (given_fit two_links on_its_way 2).reserved giving (in_contained (labels 2).given giving c);
+  fresh = never_given two_links on_its_way 2 1 2 (omega arith);
   detached = refl;
   attached = refl;
   sends = λ edge. sends_still detached (Attach (site_no 1)) edge (knowledge_kept two_links detached (Attach (site_no 1)) 2 refl);
-  set = refl;
-  others = λ label apart. rw (other_key label 19 apart) refl;
+  set = ap (use_of uses_once_attached) its_label;
+  others = λ label apart. rw (other_key label 19 (λ e. apart (e ∙ sym its_label))) refl;
 }
   where
-    fresh : In (fec_of 0 ∷ fec_of 1 ∷ attachment_of 1 1 ∷ []) (attachment_of 1 2) → ⊥
-    fresh (inl e) = let none : fec_of 0 ≡ attachment_of 1 2 → ⊥ = (λ q. cc) in none e
-    fresh (inr (inl e)) = let none : fec_of 1 ≡ attachment_of 1 2 → ⊥ = (λ q. cc) in none e
-    fresh (inr (inr (inl e))) = let none : 1 ≡ 2 → ⊥ = (λ q. omega (arith, q)) in none (ap number_of e)
-    fresh (inr (inr (inr i))) = i
+    its_label : greatest (labels 2).given + 1 ≡ 19
+    its_label = ap (λ (ls : Labels). greatest ls.given + 1) labels_of_pe2

@@ -13,7 +13,7 @@ use Rattle.mn_ledger.specs.Ledger.{world_of, packets_of}
 use Rattle.mn_ledger.specs.Lawful.{IsLawfulJournal}
 use Rattle.mn_ledger.specs.Verdicts.{injections}
 use Rattle.mn_laws.specs.Named.{AreBytes}
-use Rattle.mn_frames.specs.Given.{given, attachment_of}
+use Rattle.mn_frames.specs.Given.{given, attachment_of, HasLabel}
 use Rattle.mn_frames.specs.Frames.{IsSound}
 use Rattle.mn_frames.specs.Entries.{Leaves, fate}
 
@@ -28,21 +28,21 @@ pub record IsAttachmentAt (topology : Network) (config : Config) (node site atta
 abbrev pub GivesToEach : Type 0
 GivesToEach = (topology : Network) (entries : List JournalEntry) (site attachment : ℕ) →
     IsAttachmentAt topology (world_of topology entries).config (home_of topology site) site attachment →
-    Contains (given topology entries (home_of topology site)) (attachment_of site attachment)
+    HasLabel (given topology entries (home_of topology site)) (attachment_of site attachment)
 
 -- and for no other
 abbrev pub GivesToNoOther : Type 0
 GivesToNoOther = (topology : Network) (entries : List JournalEntry) (inputs : List (List ℕ)) (node site attachment : ℕ) →
-    IsLawfulJournal topology entries inputs → Contains (given topology entries node) (attachment_of site attachment) →
+    IsLawfulJournal topology entries inputs → HasLabel (given topology entries node) (attachment_of site attachment) →
     IsAttachmentAt topology (world_of topology entries).config node site attachment
 
 -- each announcement that was told, and each route that a VRF holds, names an attachment that has a label at its edge
 pub record NamesWhatHasLabels (topology : Network) (entries : List JournalEntry) : Type 0 where
   pub told : (teller peer : ℕ) (export : Export) → Contains ((world_of topology entries).peerings.told teller peer) (Announcement export) →
-      Contains (given topology entries teller) (attachment_of export.site export.attachment)
+      HasLabel (given topology entries teller) (attachment_of export.site export.attachment)
   pub held : (v : ℕ) (route : HeldRoute) → v < length topology.vrfs →
       Contains (held topology (world_of topology entries).config (world_of topology entries).peerings (edge_of topology v) v) route →
-      Contains (given topology entries route.edge) (attachment_of route.site route.attachment)
+      HasLabel (given topology entries route.edge) (attachment_of route.site route.attachment)
 
 abbrev pub AllHaveLabels : Type 0
 AllHaveLabels = (topology : Network) (entries : List JournalEntry) (inputs : List (List ℕ)) → IsLawful topology → IsLawfulJournal topology entries inputs →

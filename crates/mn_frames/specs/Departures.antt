@@ -16,6 +16,7 @@ use Rattle.mn_frames.specs.Given.{Labelling}
 use Rattle.mn_frames.specs.Frames.{IsFrameOf, IsSound}
 use Rattle.mn_frames.specs.Entries.{IsPushed, IsAged, outer_for}
 use Rattle.mn_frames.specs.Arrivals.{sent}
+use Rattle.mn_frames.specs.Tables.{AreMapped}
 
 -- the label on top, if there is one, with the TTL of the entry below it
 abbrev pub with_outer : Option ℕ → List Entry → List Entry
@@ -37,7 +38,7 @@ Departs topology given packets token node later (Some out) frame =
 abbrev pub LeavesAsTold : Type 0
 LeavesAsTold =
     (topology : Network) (given : Labelling) (world : World) (packets : Packets) (packet : ℕ) (route : HeldRoute) (bytes : List ℕ) (node : ℕ) (frame : Labelled)
-    → IsLawful topology → node < length topology.loopbacks → node ≢ route.edge → IsPushed topology given route bytes frame
+    → IsLawful topology → node < length topology.loopbacks → node ≢ route.edge → AreMapped topology given world → IsPushed topology given route bytes frame
     → Departs topology given packets (bound packet route bytes) node (hop_on topology world packets (bound packet route bytes) node rule.NoLsp)
     (outer_for topology given world node route.edge) frame
 

@@ -4,3 +4,11 @@ pub mod Answer
 pub mod Promise
 pub mod Ending
 pub mod Headline
+pub use Rattle.mn_perform.specs.Faults
+pub use Rattle.mn_perform.specs.Inside
+pub use Rattle.mn_perform.specs.Memory
+pub use Rattle.mn_perform.specs.Running
+pub use Rattle.mn_perform.specs.Total
+pub use Rattle.mn_perform.specs.Whole
+pub use Rattle.mn_perform.specs.declared.ended.Ended
+pub use Rattle.mn_perform.specs.declared.ended.Fault

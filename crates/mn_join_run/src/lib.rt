@@ -25,3 +25,4 @@ mod run;
 mod script;
 
 pub use command::join;
+pub use mn_perform::{Ended, Fault, MemoryCapture, perform, tally};

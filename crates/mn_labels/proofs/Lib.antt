@@ -1,1 +1,5 @@
-pub mod Giving
+mod Lists
+mod Having
+mod Keeping
+pub mod GivingUp
+pub mod Offering

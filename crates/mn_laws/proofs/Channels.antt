@@ -18,8 +18,8 @@ use Rattle.mn_ledger.specs.declared.verdict.Verdict.{Verdict}
 use Rattle.mn_ledger.specs.declared.verdict.Verdict.TheVariants.{Delivered, Dropped, Flying}
 use Rattle.mn_ledger.specs.Tables.{put_pair}
 use Rattle.mn_ledger.specs.Places.{edges}
-use Rattle.mn_node.specs.Ldp.{Message, Initialization, Said, Knowledge, is_operational, said_on, mention, mentioned_on, mentioned_from, offered}
-use Rattle.mn_node.specs.Ldp.{by_neighbour, news}
+use Rattle.mn_ledger.specs.Ldp.{Message, Initialization, Said, Knowledge, is_operational, said_on, mention, mentioned_on, mentioned_from, offered}
+use Rattle.mn_ledger.specs.Ldp.{by_neighbour, news}
 use Rattle.mn_ledger.specs.World.{World, Config, Views, Sessions, Peerings, Telling, Open}
 use Rattle.mn_ledger.specs.Transport.{lives, opening, ldp_replies, knowledge_of, speakers, said_in, ldp_counted, is_transport}
 use Rattle.mn_ledger.specs.Bgp as ledger_bgp

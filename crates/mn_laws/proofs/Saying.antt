@@ -5,8 +5,8 @@ use Rattle.std.specs.List.{flat_map, range_with_len}
 use Rattle.mn_base.proofs.Bools.{no, none_below, same_numbers, same_test}
 use Rattle.mn_wiring.specs.Wiring.{Wiring, nodes_of, links_of, links_at, joining, is_end, across}
 use Rattle.mn_base.proofs.Members.{flat_map_in, map_in, range_in}
-use Rattle.mn_node.specs.Ldp.{Message, Initialization, KeepAlive, Address, Mapping, Withdraw, Release, Said, said_on, Knowledge, is_operational, offers}
-use Rattle.mn_node.specs.Ldp.{offered, mention, by_neighbour, mentioned_on, mentioned_from, news}
+use Rattle.mn_ledger.specs.Ldp.{Message, Initialization, KeepAlive, Address, Mapping, Withdraw, Release, Said, said_on, Knowledge, is_operational, offers}
+use Rattle.mn_ledger.specs.Ldp.{offered, mention, by_neighbour, mentioned_on, mentioned_from, news}
 use Rattle.mn_ledger.proofs.Members.{In, in_append, in_front, in_rest, in_map, in_filter, filter_in, in_flat_map, in_range, in_contained, contained_in}
 use Rattle.mn_laws.specs.Mentions.{had_offered, IsNewsOf, IsLinkOf, SaysItsNews}
 use Rattle.mn_laws.proofs.Holding.{length_range}

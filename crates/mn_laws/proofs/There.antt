@@ -15,7 +15,7 @@ use Rattle.mn_topo.specs.Lawful.{IsLawful, is_vrf_of}
 use Rattle.mn_topo.specs.Network.{Network, wiring_of}
 use Rattle.mn_ledger.specs.Places.{vrf_at, vrf_of, edge_of, home_of}
 use Rattle.mn_ledger.specs.World.{World}
-use Rattle.mn_node.specs.Ldp.{Knowledge, hearing, is_operational, is_mapped, usable_over}
+use Rattle.mn_ledger.specs.Ldp.{Knowledge, hearing, is_operational, is_mapped, usable_over}
 use Rattle.mn_ledger.specs.Transport.{usable, knowledge_of}
 use Rattle.mn_ledger.specs.Packets.{away_from}
 use Rattle.mn_ledger.proofs.Peers.{same_numbers}

@@ -14,7 +14,7 @@ use Rattle.mn_topo.specs.Network.{wiring_of}
 use Rattle.mn_topo.specs.declared.steps.Step.TheVariants.{Inject, Carry}
 use Rattle.mn_topo.specs.declared.steps.JournalEntry.{JournalEntry}
 use Rattle.mn_topo.specs.declared.steps.Damaged.TheVariants.{Undamaged}
-use Rattle.mn_node.specs.Ldp.{Initialization, KeepAlive, Address, Mapping, news}
+use Rattle.mn_ledger.specs.Ldp.{Initialization, KeepAlive, Address, Mapping, news}
 use Rattle.mn_ledger.specs.Lawful.{IsLawfulJournal}
 use Rattle.mn_ledger.specs.Packets.{packets_after}
 use Rattle.mn_ledger.specs.Refusal.{in_flight, bytes_flying}

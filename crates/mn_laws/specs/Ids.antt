@@ -4,7 +4,7 @@ use Rattle.std.specs.List.{range_with_len}
 use Rattle.mn_wiring.specs.declared.links.Dir.{Dir}
 use Rattle.mn_topo.specs.Network.{Network}
 use Rattle.mn_topo.specs.declared.steps.JournalEntry.{JournalEntry}
-use Rattle.mn_node.specs.Ldp.{Message, Initialization}
+use Rattle.mn_ledger.specs.Ldp.{Message, Initialization}
 use Rattle.mn_ledger.specs.Ledger.{world_of}
 use Rattle.mn_ledger.specs.Items.{Messages, Frames, Says, Item, items_on, loads_on, made_by}
 

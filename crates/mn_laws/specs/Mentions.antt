@@ -2,7 +2,7 @@
 use Rattle.std.specs.Prelude.{◌≡◌, ◌<◌, ℕ, ◌&&◌, Bool, true, false, length}
 use Rattle.std.specs.List.{Contains}
 use Rattle.mn_wiring.specs.Wiring.{Wiring, is_end, across}
-use Rattle.mn_node.specs.Ldp.{Message, Mapping, Withdraw, Said, Knowledge, is_operational, offers, news}
+use Rattle.mn_ledger.specs.Ldp.{Message, Mapping, Withdraw, Said, Knowledge, is_operational, offers, news}
 
 -- the node had offered the FEC to the other end of the link
 abbrev pub had_offered : Wiring → Knowledge → ℕ → ℕ → ℕ → Bool

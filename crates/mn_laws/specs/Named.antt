@@ -6,7 +6,7 @@ use Rattle.mn_ipv4.specs.Header.{good, total_length, ttl_of}
 use Rattle.mn_prefix.specs.Prefix.{IsPrefix}
 use Rattle.mn_topo.specs.Network.{Network}
 use Rattle.mn_topo.specs.VrfTable.{is_edge}
-use Rattle.mn_node.specs.Ldp.{Message, Initialization, KeepAlive, Address, Mapping, Withdraw, Release}
+use Rattle.mn_ledger.specs.Ldp.{Message, Initialization, KeepAlive, Address, Mapping, Withdraw, Release}
 use Rattle.mn_ledger.specs.Places.{vrf_of, edge_of, home_of}
 use Rattle.mn_ledger.specs.World.{Config, Export, Telling, Open, BgpKeepAlive, Announcement, Withdrawal, World}
 use Rattle.mn_ledger.specs.Held.{HeldRoute, held}

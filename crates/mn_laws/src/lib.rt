@@ -26,7 +26,7 @@ ghost use Rattle.mn_wiring.specs.Wiring.{Wiring, is_end};
 ghost use Rattle.mn_topo.specs.Lawful.{IsLawful};
 ghost use Rattle.mn_topo.specs.Network.{Network, wiring_of};
 ghost use Rattle.mn_topo.specs.declared.steps.JournalEntry.{JournalEntry};
-ghost use Rattle.mn_node.specs.Ldp.{Knowledge};
+ghost use Rattle.mn_ledger.specs.Ldp.{Knowledge};
 ghost use Rattle.mn_ledger.specs.World.{Config, Export, Peerings};
 ghost use Rattle.mn_ledger.specs.Ledger.{world_of, packets_of};
 ghost use Rattle.mn_ledger.specs.Lawful.{IsLawfulJournal};

@@ -4,7 +4,7 @@ use Rattle.mn_ldp_wire.specs.Grammar.{framed, prefix_element, written_message, w
 use Rattle.mn_node.specs.Ldp.{Mapping}
 use Rattle.mn_node.specs.Machine.{loopback_of}
 use Rattle.mn_ldp_session.specs.Spelling.{AreSpelled, pdu_in_network}
-use Rattle.mn_ldp_session.specs.Routers.{routers_in_a_row, own_mapping}
+use Rattle.mn_ldp_session.specs.Routers.{implicit_null, routers_in_a_row, own_mapping}
 
 fit : (node : ℕ) → node < 3 → loopback_of routers_in_a_row node < 2 ^ 32
 fit zero h = omega arith
@@ -30,6 +30,6 @@ distinct (suc (suc (suc k))) other h g d e = absurd (omega (arith, h))
 pub spelled : AreSpelled routers_in_a_row
 spelled = record { few = omega arith; fit = fit; distinct = distinct }
 
-pub worked : pdu_in_network routers_in_a_row 0 1 4 (Mapping 1) ≡ own_mapping
+pub worked : pdu_in_network routers_in_a_row 0 1 implicit_null implicit_null 4 (Mapping 1) ≡ own_mapping
 unfolding framed prefix_element written_message written
 worked = refl

@@ -11,6 +11,10 @@ hop a b = record { a = record { 0 = a }; b = record { 0 = b }; cost = 10; delay 
 abbrev pub routers_in_a_row : Wiring
 routers_in_a_row = record { loopbacks = 0xC0000201 ∷ 0xC0000202 ∷ 0xC0000203 ∷ []; ends = hop 0 1 ∷ hop 1 2 ∷ [] }
 
+-- each maps its own loopback alone
+abbrev pub implicit_null : ℕ → ℕ
+implicit_null fec = 3
+
 -- the middle one maps its own loopback to label 3, implicit null, in the fourth message of the session on link 0
 abbrev pub own_mapping : Pdu
 own_mapping = record {

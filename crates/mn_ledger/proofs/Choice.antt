@@ -4,7 +4,7 @@ use Rattle.std.specs.Prelude.{◌==◌, ◌&&◌, ◌||◌, not, nat_lt}
 use Rattle.std.specs.List.{list_any}
 use Rattle.std.proofs.lemmas.Bool.Decides.{eqb_tells, leb_tells, nat_tests}
 use Rattle.mn_base.proofs.Bools.{less_is, less_tells, no, not_true, less_itself}
-use Rattle.mn_prefix.specs.Prefix.{IsPrefix, contains}
+use Rattle.mn_topo.specs.Prefix.{IsPrefix, contains}
 use Rattle.mn_topo.specs.Network.{Network}
 use Rattle.mn_topo.specs.Lawful.{IsLawful}
 use Rattle.mn_topo.specs.declared.steps.JournalEntry.{JournalEntry}
@@ -21,7 +21,7 @@ use Rattle.mn_ledger.proofs.Members.{In, in_contained, contained_in, in_filter, 
 use Rattle.mn_ledger.proofs.Statics.{HasStatics, HasForms, first_statics, first_forms, statics_go, forms_go}
 use Rattle.mn_ledger.proofs.Tellings.{AllGood, tellings_go}
 use Rattle.mn_ledger.proofs.Held.{one_held, held_formed}
-pub use Rattle.mn_prefix.proofs.Matches.{one_of_length as one_prefix}
+pub use Rattle.mn_topo.proofs.Matches.{one_of_length as one_prefix}
 
 -- 1. A number first, and then something else
 

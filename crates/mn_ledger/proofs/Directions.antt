@@ -1,7 +1,7 @@
 -- Two directions of links.
 use Rattle.std.proofs.Common.{ℕ, ◌≡◌, refl, arith}
-use Rattle.mn_wiring.specs.declared.links.Dir.{Dir}
-use Rattle.mn_wiring.specs.declared.links.Dir.TheVariants.{Forth, Back}
+use Rattle.mn_topo.specs.Dir.{Dir}
+use Rattle.mn_topo.specs.Dir.TheVariants.{Forth, Back}
 use Rattle.mn_ledger.specs.Packets.{channel}
 
 -- two directions of one number are one direction of one link

@@ -6,9 +6,9 @@ use Rattle.std.proofs.lemmas.Bool.Decides.{eqb_tells, leb_tells}
 use Rattle.std.proofs.lemmas.List.{append_assoc, length-append}
 use Rattle.mn_drops.specs.declared.drops.Rule.{Rule}
 use Rattle.mn_drops.specs.declared.drops.Rule.TheVariants as rule
-use Rattle.mn_wiring.specs.declared.links.Dir.{Dir}
-use Rattle.mn_wiring.specs.declared.links.Dir.TheVariants.{Forth, Back}
-use Rattle.mn_wiring.specs.Wiring.{links_of, sender}
+use Rattle.mn_topo.specs.Dir.{Dir}
+use Rattle.mn_topo.specs.Dir.TheVariants.{Forth, Back}
+use Rattle.mn_topo.specs.Wiring.{links_of, sender}
 use Rattle.mn_base.proofs.Bools.{two_ways, clash, same_numbers, less_tells, not_less_tells}
 use Rattle.mn_base.proofs.Members.{In, range_in, in_range}
 use Rattle.mn_topo.specs.Network.{Network, wiring_of}

@@ -2,8 +2,8 @@
 -- what one edge tells another 3.
 use Rattle.std.specs.Prelude.{◌≡◌, refl, false, ◌++◌, ℕ, List, [], ◌∷◌}
 use Rattle.std.proofs.Common.{rules}
-use Rattle.mn_wiring.specs.declared.links.Dir.TheVariants.{Forth, Back}
-use Rattle.mn_wiring.specs.Paths.{next}
+use Rattle.mn_topo.specs.Dir.TheVariants.{Forth, Back}
+use Rattle.mn_topo.specs.Paths.{next}
 use Rattle.mn_ipv4.specs.Header.{is_not_ipv4, is_malformed, is_truncated, has_bad_checksum, good, checksum_for, with_ttl, aged}
 use Rattle.mn_topo.specs.declared.steps.Step.{Step}
 use Rattle.mn_topo.specs.declared.steps.Step.TheVariants.{LinkUp, LinkDown, Learn, LdpAdmin, HearLdp, BgpUp, BgpDown, HearBgp, AddRoute, Inject, Carry}

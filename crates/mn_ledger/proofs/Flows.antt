@@ -6,8 +6,8 @@ use Rattle.std.specs.List.{Contains, range_with_len}
 use Rattle.std.proofs.lemmas.Bool.Decides.{eqb_tells}
 use Rattle.std.proofs.lemmas.List.{map-append, append_assoc, drop-map, drop-drop, drop-append-le, length-append, length-drop}
 use Rattle.std.proofs.lemmas.List.Elements.{filter-append}
-use Rattle.mn_wiring.specs.Wiring.{Wiring, nodes_of, link, is_end, across, sender, receiver, JoinsNodes, EndsDiffer}
-use Rattle.mn_wiring.specs.declared.links.Dir.{Dir}
+use Rattle.mn_topo.specs.Wiring.{Wiring, nodes_of, link, is_end, across, sender, receiver, JoinsNodes, EndsDiffer}
+use Rattle.mn_topo.specs.Dir.{Dir}
 use Rattle.mn_base.proofs.Bools.{clash, no, or_true, swap}
 use Rattle.mn_topo.specs.Network.{Network, wiring_of}
 use Rattle.mn_topo.specs.Lawful.{IsLawful}

@@ -6,8 +6,8 @@ use Rattle.std.proofs.lemmas.Bool.Decides.{eqb_tells}
 use Rattle.std.proofs.lemmas.List.{map-append}
 use Rattle.mn_drops.specs.declared.drops.Rule.{Rule}
 use Rattle.mn_drops.specs.declared.drops.Rule.TheVariants as rule
-use Rattle.mn_wiring.specs.declared.links.Dir.{Dir}
-use Rattle.mn_wiring.specs.declared.links.Dir.TheVariants.{Forth, Back}
+use Rattle.mn_topo.specs.Dir.{Dir}
+use Rattle.mn_topo.specs.Dir.TheVariants.{Forth, Back}
 use Rattle.mn_ipv4.specs.Header.{destination_of}
 use Rattle.mn_base.proofs.Bools.{no}
 use Rattle.mn_topo.specs.Network.{Network}

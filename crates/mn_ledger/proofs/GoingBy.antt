@@ -6,7 +6,7 @@ use Rattle.std.specs.List.{flat_map}
 use Rattle.std.proofs.lemmas.Bool.Decides.{eqb_tells}
 use Rattle.std.proofs.lemmas.List.{length-append}
 use Rattle.mn_base.proofs.Bools.{clash, and_off_left}
-use Rattle.mn_wiring.specs.Wiring.{is_end, across, sender, receiver, JoinsNodes, EndsDiffer}
+use Rattle.mn_topo.specs.Wiring.{is_end, across, sender, receiver, JoinsNodes, EndsDiffer}
 pub use Rattle.mn_base.proofs.Bools.{not_false}
 use Rattle.mn_topo.specs.Network.{Network, wiring_of}
 use Rattle.mn_topo.specs.declared.steps.Step.{Step}

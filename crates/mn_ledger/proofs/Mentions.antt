@@ -7,7 +7,7 @@ use Rattle.std.proofs.lemmas.Bool.Decides.{leb_tells}
 use Rattle.std.proofs.lemmas.List.{map-append}
 use Rattle.std.proofs.lemmas.List.Elements.{filter-append}
 use Rattle.std.proofs.lemmas.List.FromFn.{get_or-map-range_with_len}
-use Rattle.mn_wiring.specs.Wiring.{Wiring, is_end}
+use Rattle.mn_topo.specs.Wiring.{Wiring, is_end}
 use Rattle.mn_base.proofs.Bools.{clash, and_left, and_right, same_numbers, two_ways}
 use Rattle.mn_ledger.specs.World.{Config, Views, Sessions}
 use Rattle.mn_ledger.specs.Transport.{Said, Knowledge, lives, knowledge_of, hearing_at, is_operational, is_by, messages_of, said_on, mention, mentioned_on}

@@ -2,11 +2,11 @@
 use Rattle.std.specs.Prelude.{◌≡◌, refl, ℕ, zero, suc, List, [], ◌∷◌, ◌++◌, map, length, Some, None, true, false}
 use Rattle.std.specs.List.{range_with_len}
 use Rattle.mn_base.specs.declared.numbers.Rt.{Rt}
-use Rattle.mn_wiring.specs.declared.links.Dir.TheVariants.{Forth, Back}
+use Rattle.mn_topo.specs.Dir.TheVariants.{Forth, Back}
 use Rattle.mn_drops.specs.declared.drops.Rule.TheVariants as rule
-use Rattle.mn_wiring.specs.Paths.{next}
+use Rattle.mn_topo.specs.Paths.{next}
 use Rattle.mn_ipv4.specs.Header.{is_not_ipv4, is_malformed, is_truncated, has_bad_checksum, good, checksum_for, with_ttl, aged}
-use Rattle.mn_prefix.specs.Prefix.{AddressBlock}
+use Rattle.mn_topo.specs.Prefix.{AddressBlock}
 use Rattle.mn_topo.specs.Network.{Network, wiring_of}
 use Rattle.mn_topo.specs.declared.steps.Step.{Step}
 use Rattle.mn_topo.specs.declared.steps.Step.TheVariants.{LinkUp, LinkDown, Learn, LdpAdmin, HearLdp, BgpUp, BgpDown, HearBgp, AddRoute, DelRoute, Import}

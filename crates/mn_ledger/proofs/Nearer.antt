@@ -3,10 +3,10 @@ use Rattle.std.proofs.Common.{ℕ, zero, suc, ◌≡◌, ◌≢◌, ◌+◌, ◌
 use Rattle.std.specs.Prelude.{slice_index_or}
 use Rattle.std.specs.List.{list_all}
 use Rattle.mn_base.proofs.Bools.{and_left, and_right, at_most_tells}
-use Rattle.mn_wiring.specs.Wiring.{Wiring, View, link}
-use Rattle.mn_wiring.specs.Paths.{IsLeast, IsNext, next}
-use Rattle.mn_wiring.proofs.Next.{next_is}
-use Rattle.mn_wiring.specs.declared.links.LinkEnds.{LinkEnds}
+use Rattle.mn_topo.specs.Wiring.{Wiring, View, link}
+use Rattle.mn_topo.specs.Paths.{IsLeast, IsNext, next}
+use Rattle.mn_topo.proofs.Next.{next_is}
+use Rattle.mn_topo.specs.LinkEnds.{LinkEnds}
 use Rattle.mn_topo.specs.Network.{Network, wiring_of}
 use Rattle.mn_topo.specs.Lawful.{IsLawful, has_figures}
 use Rattle.mn_ledger.specs.Nearer.{IsNearer}

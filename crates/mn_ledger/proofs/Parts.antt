@@ -16,7 +16,7 @@ use Rattle.mn_ledger.specs.Exports.{exports_of}
 use Rattle.mn_ledger.specs.Bgp.{is_routing, peerings_after}
 use Rattle.mn_ledger.specs.Held.{held}
 use Rattle.mn_ledger.specs.Ledger.{after, start, world_from, with_target, is_static}
-use Rattle.mn_prefix.specs.Prefix.{AddressBlock}
+use Rattle.mn_topo.specs.Prefix.{AddressBlock}
 use Rattle.mn_ledger.specs.Exports.{has_target}
 use Rattle.mn_ledger.specs.World.{SiteRoute}
 use Rattle.std.specs.List.{list_any}

@@ -8,8 +8,8 @@ use Rattle.std.proofs.lemmas.List.{length-append, map-append}
 use Rattle.std.proofs.lemmas.List.Elements.{filter-append}
 use Rattle.mn_base.proofs.Bools.{no, clash, none_below, less_is, not_less, swap}
 use Rattle.mn_base.proofs.Places.{all_at, all_append}
-use Rattle.mn_wiring.specs.Wiring.{nodes_of}
-use Rattle.mn_states.specs.declared.states.BgpState.TheVariants.{Idle}
+use Rattle.mn_topo.specs.Wiring.{nodes_of}
+use Rattle.mn_node.specs.BgpState.TheVariants.{Idle}
 pub use Rattle.mn_base.proofs.Bools.{and_left, and_right, other_test, same_numbers, same_test, two_ways}
 use Rattle.mn_topo.specs.Network.{Network, wiring_of}
 use Rattle.mn_topo.specs.declared.steps.Step.{Step}

@@ -1,9 +1,9 @@
 -- What the laws ask is met in the network of two links, once it is settled.
 use Rattle.std.proofs.Common.{arith}
 use Rattle.std.specs.Prelude.{◌≡◌, refl, true, false, [], ◌∷◌, length, Some}
-use Rattle.mn_wiring.specs.Wiring.{View}
-use Rattle.mn_wiring.specs.Paths.{IsLeast, next}
-use Rattle.mn_wiring.proofs.Dist.{dists_are_least}
+use Rattle.mn_topo.specs.Wiring.{View}
+use Rattle.mn_topo.specs.Paths.{IsLeast, next}
+use Rattle.mn_topo.proofs.Dist.{dists_are_least}
 use Rattle.mn_ipv4.specs.Header.{is_not_ipv4, is_malformed, is_truncated, has_bad_checksum, good, checksum_for, with_ttl, aged}
 use Rattle.mn_topo.specs.Network.{wiring_of}
 use Rattle.mn_topo.specs.Steps.{fits}

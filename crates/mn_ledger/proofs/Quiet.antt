@@ -5,7 +5,7 @@ use Rattle.std.specs.List.{flat_map}
 use Rattle.std.proofs.lemmas.Bool.Decides.{eqb_tells}
 use Rattle.std.proofs.lemmas.List.Elements.{filter-append}
 use Rattle.std.proofs.lemmas.List.FromFn.{get_or-map-range_with_len}
-use Rattle.mn_wiring.specs.Wiring.{Wiring, link, is_end, receiver, sender}
+use Rattle.mn_topo.specs.Wiring.{Wiring, link, is_end, receiver, sender}
 use Rattle.mn_node.proofs.News.{by-said, by-news, part_none, no_news}
 use Rattle.mn_base.proofs.Bools.{and_on, less_tells, and_off_left, clash}
 use Rattle.mn_topo.specs.Network.{Network, wiring_of}

@@ -7,9 +7,9 @@ use Rattle.std.proofs.Math.Nat.{mul-suc}
 use Rattle.std.proofs.lemmas.Nat.{mul-le}
 use Rattle.std.proofs.lemmas.Bool.Decides.{eqb_tells}
 use Rattle.std.proofs.lemmas.List.FromFn.{length-map-range_with_len}
-use Rattle.mn_states.specs.declared.states.LdpState.{LdpState}
-use Rattle.mn_states.specs.declared.states.LdpState.TheVariants as ldp
-use Rattle.mn_wiring.specs.Wiring.{Wiring, EndsDiffer, nodes_of, links_at, link, is_end, across, joining, sender, receiver}
+use Rattle.mn_node.specs.LdpState.{LdpState}
+use Rattle.mn_node.specs.LdpState.TheVariants as ldp
+use Rattle.mn_topo.specs.Wiring.{Wiring, EndsDiffer, nodes_of, links_at, link, is_end, across, joining, sender, receiver}
 use Rattle.mn_base.proofs.Bools.{clash, less_tells, same_numbers}
 use Rattle.mn_topo.specs.Network.{Network, wiring_of}
 use Rattle.mn_topo.specs.Lawful.{IsLawful}

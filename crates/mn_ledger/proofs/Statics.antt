@@ -5,7 +5,7 @@ use Rattle.std.proofs.lemmas.List.{map-append}
 use Rattle.std.specs.Prelude.{◌==◌, ◌&&◌, not, slice_index_or}
 use Rattle.std.specs.List.{IsDistinct, AllByRecursion, list_all}
 use Rattle.mn_base.proofs.Bools.{clash, and_parts}
-use Rattle.mn_prefix.specs.Prefix.{AddressBlock, IsPrefix, same_prefix}
+use Rattle.mn_topo.specs.Prefix.{AddressBlock, IsPrefix, same_prefix}
 use Rattle.mn_topo.specs.declared.sites.SiteDef.{SiteDef}
 use Rattle.mn_topo.specs.declared.steps.Step.{Step}
 use Rattle.mn_topo.specs.declared.steps.Step.TheVariants.{AddRoute, DelRoute}

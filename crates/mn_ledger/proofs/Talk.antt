@@ -2,7 +2,7 @@
 use Rattle.std.proofs.Common.{ℕ, zero, suc, ◌≡◌, ◌<◌, Bool, true, false, List, [], ◌∷◌, ◌++◌, length, get_or, refl, arith, sym, ◌∙◌, ap, subst, append-nil}
 use Rattle.mn_base.proofs.Bools.{none_below}
 use Rattle.mn_base.proofs.Places.{all_at, all_append}
-use Rattle.mn_states.specs.declared.states.LdpState.TheVariants.{Operational}
+use Rattle.mn_node.specs.LdpState.TheVariants.{Operational}
 use Rattle.mn_ledger.specs.World.{Message, Initialization, KeepAlive, Address, Mapping, Withdraw, Release}
 use Rattle.mn_ledger.specs.Transport.{state_by, answer}
 use Rattle.mn_ledger.specs.Turns.{IsLabelMessage, AreLabelMessages, IsTalk, has_ldp_row}

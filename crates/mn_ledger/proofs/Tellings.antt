@@ -3,9 +3,9 @@ use Rattle.std.proofs.Common.{ℕ, ◌≡◌, ◌<◌, ◌⊎◌, inl, inr, Bool
 use Rattle.std.specs.Prelude.{◌==◌, not, if◌then◌else◌, ⊤}
 use Rattle.std.specs.List.{flat_map, list_any, range_with_len}
 use Rattle.std.proofs.lemmas.Bool.Decides.{eqb_tells}
-use Rattle.mn_states.specs.declared.states.BgpState.{BgpState}
-use Rattle.mn_states.specs.declared.states.BgpState.TheVariants.{OpenSent, OpenConfirm}
-use Rattle.mn_prefix.specs.Prefix.{IsPrefix}
+use Rattle.mn_node.specs.BgpState.{BgpState}
+use Rattle.mn_node.specs.BgpState.TheVariants.{OpenSent, OpenConfirm}
+use Rattle.mn_topo.specs.Prefix.{IsPrefix}
 use Rattle.mn_topo.specs.declared.steps.Step.{Step}
 use Rattle.mn_topo.specs.declared.steps.Step.TheVariants as step
 use Rattle.mn_topo.specs.Network.{Network}

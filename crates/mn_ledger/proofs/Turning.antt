@@ -3,9 +3,9 @@ use Rattle.std.proofs.Common.{ℕ, suc, ◌≡◌, ◌≢◌, ◌<◌, ◌≤◌
 use Rattle.std.specs.Prelude.{◌==◌, ◌&&◌, ◌||◌, nat_lt, if◌then◌else◌}
 use Rattle.std.proofs.lemmas.Bool.Decides.{eqb_tells, leb_tells, nat_tests}
 use Rattle.std.proofs.lemmas.Map.Keys.{apart_from_distinct}
-use Rattle.mn_wiring.specs.Wiring.{Wiring, link, is_end, across, sender, receiver, JoinsNodes, EndsDiffer}
-use Rattle.mn_wiring.specs.declared.links.Dir.{Dir}
-use Rattle.mn_wiring.specs.declared.links.Dir.TheVariants.{Forth, Back}
+use Rattle.mn_topo.specs.Wiring.{Wiring, link, is_end, across, sender, receiver, JoinsNodes, EndsDiffer}
+use Rattle.mn_topo.specs.Dir.{Dir}
+use Rattle.mn_topo.specs.Dir.TheVariants.{Forth, Back}
 use Rattle.mn_base.proofs.Bools.{clash, no, other_test, same_test, or_true}
 use Rattle.mn_topo.specs.Network.{Network, wiring_of}
 use Rattle.mn_topo.specs.Lawful.{IsLawful}

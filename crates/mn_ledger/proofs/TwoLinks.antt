@@ -8,12 +8,12 @@ use Rattle.mn_base.specs.declared.numbers.LinkNo.{LinkNo}
 use Rattle.mn_base.specs.declared.numbers.SiteNo.{SiteNo}
 use Rattle.mn_base.specs.declared.numbers.VrfNo.{VrfNo}
 use Rattle.mn_base.specs.declared.numbers.Rt.{Rt}
-use Rattle.mn_wiring.specs.declared.links.Dir.TheVariants.{Forth, Back}
+use Rattle.mn_topo.specs.Dir.TheVariants.{Forth, Back}
 use Rattle.mn_drops.specs.declared.drops.Rule.TheVariants as rule
-use Rattle.mn_wiring.specs.Paths.{next}
+use Rattle.mn_topo.specs.Paths.{next}
 use Rattle.mn_ipv4.specs.Header.{is_not_ipv4, is_malformed, is_truncated, has_bad_checksum, good, checksum_for, with_ttl, aged}
 use Rattle.mn_topo.specs.Network.{Network, wiring_of}
-use Rattle.mn_wiring.specs.Wiring.{JoinsNodes, EndsDiffer, JoinsOnce}
+use Rattle.mn_topo.specs.Wiring.{JoinsNodes, EndsDiffer, JoinsOnce}
 use Rattle.mn_topo.specs.Lawful.{IsLawful}
 use Rattle.std.specs.List.{IsDistinct}
 use Rattle.mn_base.proofs.Bools.{other_test, no as no_end}
@@ -34,7 +34,7 @@ use Rattle.mn_ledger.proofs.Deciding.{lawful}
 use Rattle.mn_ledger.specs.Lawful.{IsLawfulJournal}
 use Rattle.mn_ledger.specs.World.{World}
 use Rattle.mn_ledger.specs.Settled.{IsSettled}
-use Rattle.mn_wiring.specs.Wiring.{is_end, across}
+use Rattle.mn_topo.specs.Wiring.{is_end, across}
 use Rattle.mn_topo.specs.VrfTable.{is_edge}
 use Rattle.mn_ledger.specs.Bgp.{peers_live}
 use Rattle.mn_ledger.specs.Items.{Item, flight_of}

@@ -1,7 +1,7 @@
 -- The best route for an address, apart from how it is found: RFC 1812, section 5.2.4.3.
 use Rattle.std.specs.Prelude.{◌≡◌, ℕ, true, false, List, Some, None}
 use Rattle.std.specs.List.{Contains}
-use Rattle.mn_prefix.specs.Prefix.{contains}
+use Rattle.mn_topo.specs.Prefix.{contains}
 use Rattle.mn_ledger.specs.Held.{HeldRoute, is_better, best}
 
 -- a held route whose prefix contains the address, and than which none of those is better

@@ -3,11 +3,11 @@
 use Rattle.std.specs.Prelude.{ℕ, zero, suc, ◌+◌, ◌==◌, ◌&&◌, Bool, true, false, not, nat_lt, nat_le, if◌then◌else◌, List, [], ◌∷◌, ◌++◌, map}
 use Rattle.std.specs.Prelude.{filter, slice_index_or}
 use Rattle.std.specs.List.{flat_map, list_any}
-use Rattle.mn_states.specs.declared.states.BgpState.{BgpState}
-use Rattle.mn_states.specs.declared.states.BgpState.TheVariants.{Idle, OpenSent, OpenConfirm, Established}
-use Rattle.mn_prefix.specs.Prefix.{AddressBlock, same_prefix}
+use Rattle.mn_node.specs.BgpState.{BgpState}
+use Rattle.mn_node.specs.BgpState.TheVariants.{Idle, OpenSent, OpenConfirm, Established}
+use Rattle.mn_topo.specs.Prefix.{AddressBlock, same_prefix}
 use Rattle.mn_topo.specs.Network.{Network, wiring_of}
-use Rattle.mn_wiring.specs.Wiring.{nodes_of}
+use Rattle.mn_topo.specs.Wiring.{nodes_of}
 use Rattle.mn_topo.specs.declared.steps.Step.{Step}
 use Rattle.mn_topo.specs.declared.steps.Step.TheVariants as step
 use Rattle.mn_ledger.specs.Tables.{put_pair}

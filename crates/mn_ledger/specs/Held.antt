@@ -2,7 +2,7 @@
 use Rattle.std.specs.Prelude.{ℕ, ◌+◌, ◌==◌, ◌&&◌, ◌||◌, Bool, true, false, not, nat_lt, if◌then◌else◌, List, [], ◌∷◌, ◌++◌, map, take}
 use Rattle.std.specs.Prelude.{filter, Option, Some, None}
 use Rattle.std.specs.List.{flat_map, list_any}
-use Rattle.mn_prefix.specs.Prefix.{AddressBlock, contains}
+use Rattle.mn_topo.specs.Prefix.{AddressBlock, contains}
 use Rattle.mn_topo.specs.Network.{Network}
 use Rattle.mn_ledger.specs.Places.{loopback, vrf_at, edges}
 use Rattle.mn_ledger.specs.World.{Config, Export, Telling, Announcement, Withdrawal, Peerings}

@@ -1,8 +1,8 @@
 -- What flies: of what was made for each channel, what wasn't learned, heard or carried yet.
 use Rattle.std.specs.Prelude.{◌≡◌, ◌≢◌, ◌<◌, ◌+◌, ℕ, Bool, true, false, List, ◌++◌, map, drop, length, slice_get, Some}
 use Rattle.std.specs.List.{Contains}
-use Rattle.mn_wiring.specs.Wiring.{is_end, across}
-use Rattle.mn_wiring.specs.declared.links.Dir.{Dir}
+use Rattle.mn_topo.specs.Wiring.{is_end, across}
+use Rattle.mn_topo.specs.Dir.{Dir}
 use Rattle.mn_topo.specs.Network.{Network, wiring_of}
 use Rattle.mn_ledger.specs.World.{World}
 use Rattle.mn_ledger.specs.Packets.{Packets, flying_on}

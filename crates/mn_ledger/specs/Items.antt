@@ -2,8 +2,8 @@
 -- it is due.
 use Rattle.std.specs.Prelude.{ℕ, zero, suc, ◌+◌, ◌==◌, ◌&&◌, ◌||◌, nat_lt, Bool, false, cond, not, if◌then◌else◌, List, [], ◌∷◌, ◌++◌, map, filter, length}
 use Rattle.std.specs.Prelude.{slice_get, Option, Some, None}
-use Rattle.mn_wiring.specs.Wiring.{nodes_of, link, sender}
-use Rattle.mn_wiring.specs.declared.links.Dir.{Dir}
+use Rattle.mn_topo.specs.Wiring.{nodes_of, link, sender}
+use Rattle.mn_topo.specs.Dir.{Dir}
 use Rattle.mn_topo.specs.Network.{Network, wiring_of}
 use Rattle.mn_topo.specs.declared.steps.Step.{Step}
 use Rattle.mn_topo.specs.declared.steps.Step.TheVariants.{LinkUp, LinkDown, Learn, LdpAdmin, HearLdp, BgpUp, BgpDown, HearBgp, Inject, Carry, Lose, Tick}

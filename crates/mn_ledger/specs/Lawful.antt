@@ -1,8 +1,8 @@
 -- Lawful journals: each step fits the topology, none is refused, and the clock doesn't go back.
 use Rattle.std.specs.Prelude.{◌≡◌, ◌≤◌, ℕ, ◌+◌, ◌||◌, Bool, true, nat_le, List, [], ◌∷◌, ◌++◌, None, ⊤}
 use Rattle.std.specs.List.{list_all}
-use Rattle.mn_wiring.specs.declared.links.Dir.TheVariants.{Forth, Back}
-use Rattle.mn_wiring.specs.Wiring.{link, links_of}
+use Rattle.mn_topo.specs.Dir.TheVariants.{Forth, Back}
+use Rattle.mn_topo.specs.Wiring.{link, links_of}
 use Rattle.mn_topo.specs.Network.{Network, wiring_of}
 use Rattle.mn_topo.specs.Steps.{fits}
 use Rattle.mn_topo.specs.declared.steps.JournalEntry.{JournalEntry}

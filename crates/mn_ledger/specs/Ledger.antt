@@ -1,7 +1,7 @@
 -- The ledger: the world, and the packets in it, after the steps of a journal.
 use Rattle.std.specs.Prelude.{ℕ, ◌+◌, ◌==◌, ◌&&◌, Bool, true, false, cond, not, nat_lt, List, [], ◌∷◌, ◌++◌, map, filter, fold, Some, None}
 use Rattle.mn_base.specs.declared.numbers.Rt.{Rt}
-use Rattle.mn_prefix.specs.Prefix.{AddressBlock, same_prefix}
+use Rattle.mn_topo.specs.Prefix.{AddressBlock, same_prefix}
 use Rattle.mn_topo.specs.declared.sites.SiteDef.{SiteDef}
 use Rattle.mn_topo.specs.Network.{Network}
 use Rattle.mn_topo.specs.declared.steps.Step.{Step}

@@ -24,3 +24,4 @@ pub mod Items
 pub mod InFlight
 pub mod Best
 pub mod OneKind
+pub use Rattle.mn_node.specs.Ldp

@@ -4,9 +4,9 @@ use Rattle.std.specs.Prelude.{Some, None, is_some, is_none}
 use Rattle.std.specs.List.{flat_map, list_any}
 use Rattle.mn_base.specs.Limits.{most_flying_bytes, most_in_flight, most_labels, most_static_routes, most_steps, most_targets}
 pub use Rattle.mn_base.specs.Rules.{when as where_holds, first_broken as first_cause}
-use Rattle.mn_wiring.specs.Wiring.{nodes_of, links_of, link, sender, receiver}
-use Rattle.mn_wiring.specs.declared.links.Dir.TheVariants.{Forth, Back}
-use Rattle.mn_prefix.specs.Prefix.{AddressBlock, same_prefix}
+use Rattle.mn_topo.specs.Wiring.{nodes_of, links_of, link, sender, receiver}
+use Rattle.mn_topo.specs.Dir.TheVariants.{Forth, Back}
+use Rattle.mn_topo.specs.Prefix.{AddressBlock, same_prefix}
 use Rattle.mn_ipv4.specs.Header.{total_length}
 use Rattle.mn_topo.specs.Network.{Network, wiring_of}
 use Rattle.mn_topo.specs.declared.steps.Step.{Step}

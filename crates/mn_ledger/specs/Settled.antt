@@ -1,8 +1,8 @@
 -- Settled worlds, and the stretches of a journal that only move packets.
 use Rattle.std.specs.Prelude.{◌≡◌, ◌<◌, ◌≢◌, ℕ, zero, suc, Bool, true, false, List, [], ◌∷◌, length, Some, None}
 use Rattle.std.specs.List.{list_all}
-use Rattle.mn_wiring.specs.Wiring.{is_end, across}
-use Rattle.mn_wiring.specs.Paths.{next}
+use Rattle.mn_topo.specs.Wiring.{is_end, across}
+use Rattle.mn_topo.specs.Paths.{next}
 use Rattle.mn_topo.specs.Network.{Network, wiring_of}
 use Rattle.mn_topo.specs.VrfTable.{is_edge}
 use Rattle.mn_topo.specs.declared.steps.Step.{Step}

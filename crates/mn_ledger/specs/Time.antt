@@ -1,9 +1,9 @@
 -- Time: how far a step moves the clock, and which frames end by it, before the step does anything else.
 use Rattle.std.specs.Prelude.{ℕ, ◌+◌, Bool, true, false, not, nat_lt, List, [], ◌∷◌, filter, slice_get}
 use Rattle.mn_drops.specs.declared.drops.Rule.TheVariants as rule
-use Rattle.mn_wiring.specs.declared.links.Dir.{Dir}
-use Rattle.mn_wiring.specs.declared.links.Dir.TheVariants.{Forth, Back}
-use Rattle.mn_wiring.specs.Wiring.{link, links_of, sender}
+use Rattle.mn_topo.specs.Dir.{Dir}
+use Rattle.mn_topo.specs.Dir.TheVariants.{Forth, Back}
+use Rattle.mn_topo.specs.Wiring.{link, links_of, sender}
 use Rattle.mn_topo.specs.Network.{Network, wiring_of}
 use Rattle.mn_topo.specs.declared.steps.Step.{Step}
 use Rattle.mn_topo.specs.declared.steps.Step.TheVariants.{Tick}

@@ -3,8 +3,8 @@
 -- 3.19). The next hop is that of a least walk: hop by hop routing, RFC 3031, section 3.21.
 use Rattle.std.specs.Prelude.{ℕ, ◌+◌, ◌%◌, ◌==◌, ◌&&◌, Bool, true, false, not, if◌then◌else◌, List, [], ◌∷◌, ◌++◌, map, take, filter, slice_index_or, Option}
 use Rattle.std.specs.List.{flat_map}
-use Rattle.mn_wiring.specs.Wiring.{Wiring, View, nodes_of, links_of, link, is_end, across, sender, receiver}
-use Rattle.mn_states.specs.declared.states.LdpState.{LdpState}
+use Rattle.mn_topo.specs.Wiring.{Wiring, View, nodes_of, links_of, link, is_end, across, sender, receiver}
+use Rattle.mn_node.specs.LdpState.{LdpState}
 use Rattle.mn_topo.specs.Network.{Network, wiring_of}
 use Rattle.mn_topo.specs.declared.steps.Step.{Step}
 use Rattle.mn_topo.specs.declared.steps.Step.TheVariants.{LinkUp, LinkDown, Learn, LdpAdmin, HearLdp}

@@ -4,9 +4,9 @@
 -- loses or changes it: so no step ends a session for it.
 use Rattle.std.specs.Prelude.{◌≡◌, ◌≤◌, ◌<◌, ◌≢◌, ℕ, zero, suc, Bool, true, false, List, [], ◌∷◌, length, slice_index_or, ⊤}
 use Rattle.std.specs.List.{AllByRecursion}
-use Rattle.mn_wiring.specs.Wiring.{is_end, across}
-use Rattle.mn_states.specs.declared.states.BgpState.{BgpState}
-use Rattle.mn_states.specs.declared.states.BgpState.TheVariants as bgp
+use Rattle.mn_topo.specs.Wiring.{is_end, across}
+use Rattle.mn_node.specs.BgpState.{BgpState}
+use Rattle.mn_node.specs.BgpState.TheVariants as bgp
 use Rattle.mn_topo.specs.Network.{Network, wiring_of}
 pub use Rattle.mn_node.specs.Ldp.{has_ldp_row}
 use Rattle.mn_ledger.specs.World.{Config, Sessions, Peerings, World, Message, Initialization, KeepAlive, Address, Mapping, Withdraw, Release, Telling, Open}

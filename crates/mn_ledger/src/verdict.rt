@@ -1,6 +1,6 @@
 use mn_base::{LinkNo, NodeNo, SiteNo};
 use mn_drops::Rule;
-use mn_wiring::Dir;
+use mn_topo::Dir;
 
 /// What became of a packet.
 #[derive(Clone, Copy, Debug, PartialEq, Eq)]

@@ -8,7 +8,7 @@ use Rattle.std.proofs.lemmas.Grind.{reverse_onto}
 use Rattle.mn_base.proofs.Bools.{same_numbers}
 use Rattle.mn_base.specs.declared.numbers.NodeNo.{NodeNo}
 use Rattle.mn_lib.specs.declared.event.LibEvent.{LibEvent}
-use Rattle.mn_lib.specs.declared.event.LibEvent.TheVariants.{Opened, Closed, Map, Withdraw, Next}
+use Rattle.mn_lib.specs.declared.event.LibEvent.TheVariants.{Opened, Closed, Map, Withdraw, Released, Next}
 use Rattle.mn_lib.specs.Bindings.{Bindings, nodes, nothing_heard, row_of, with_label, after_event, after_events, EventFits, EventsFit}
 use Rattle.mn_lib.specs.History.{said_last, hop_last, cell, IsLast, AreJoined}
 
@@ -88,6 +88,7 @@ shape-event n b (Withdraw k q) s f =
       rows =
           rows-set n b k.0 (with_label (row_of b k.0) q.0 None) s (omega (arith, f.0, s.hops)) (fits-label n (row_of b k.0) q.0 None (s.rows k.0));
     }
+shape-event n b (Released k q) s f = s
 shape-event n b (Next q k) s f = record { hops = length-set b.hops q.0 k ∙ s.hops; heard = s.heard; rows = s.rows }
 
 shape-all : (me : NodeNo) (n : ℕ) (es : List LibEvent) → AllFit (nothing_heard me n) es → HasShape n (after_all (nothing_heard me n) es)
@@ -152,6 +153,7 @@ said me n (Withdraw k q ∷ es) f h p i j =
     let s : HasShape n b = shape-all me n es f.1 in
     label-event n b k.0 q.0 h p None s (omega (arith, f.0.0, s.hops)) (omega (arith, f.0.2, s.hops)) f.0.1
     ∙ ap (cond ((k.0 == h) && (q.0 == p)) (Some None)) (said me n es f.1 h p i j)
+said me n (Released k q ∷ es) f h p i j = said me n es f.1 h p i j
 said me n (Next q k ∷ es) f h p i j = said me n es f.1 h p i j
 
 hop : (me : NodeNo) (n : ℕ) (es : List LibEvent) → AllFit (nothing_heard me n) es →
@@ -161,6 +163,7 @@ hop me n (Opened k ∷ es) f p j = hop me n es f.1 p j
 hop me n (Closed k ∷ es) f p j = hop me n es f.1 p j
 hop me n (Map k q l ∷ es) f p j = hop me n es f.1 p j
 hop me n (Withdraw k q ∷ es) f p j = hop me n es f.1 p j
+hop me n (Released k q ∷ es) f p j = hop me n es f.1 p j
 hop me n (Next q k ∷ es) f p j =
     let b : Bindings = after_all (nothing_heard me n) es in
     let s : HasShape n b = shape-all me n es f.1 in

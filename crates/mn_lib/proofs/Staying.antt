@@ -1,22 +1,22 @@
 -- A FEC that no event is of is used and offered as before, and so nothing is told of it.
-use Rattle.std.proofs.Common.{ℕ, zero, suc, ◌≡◌, ◌≢◌, ◌+◌, ◌<◌, ◌≤◌, false, List, [], ◌∷◌, ◌++◌, length, map, drop, refl, arith, sym, ◌∙◌, ap, subst, inl}
+use Rattle.std.proofs.Common.{ℕ, zero, suc, ◌≡◌, ◌≢◌, ◌+◌, ◌<◌, ◌≤◌, true, false, List, [], ◌∷◌, ◌++◌, length, map, drop, refl, arith, sym, ◌∙◌, ap, subst, inl}
 use Rattle.std.proofs.Common.{inr, Option, Some, None, Bool, cond, append-nil}
 use Rattle.std.specs.Prelude.{◌==◌, ◌||◌, ◌&&◌, not, is_some, slice_index_or, slice_set, ⊤}
-use Rattle.std.specs.List.{flat_map, range_with_len}
+use Rattle.std.specs.List.{flat_map, list_all, range_with_len}
 use Rattle.std.specs.Option.{option_to_list}
 use Rattle.std.proofs.lemmas.Bool.Decides.{eqb_tells, leb_tells}
 use Rattle.std.proofs.lemmas.List.{append_assoc, drop_more, get_or-set_other, get_or_past, map-append}
 use Rattle.std.proofs.lemmas.List.FromFn.{get_or-map-range_with_len}
 use Rattle.mn_base.specs.declared.numbers.NodeNo.{NodeNo}
-use Rattle.mn_base.proofs.Bools.{none_below}
+use Rattle.mn_base.proofs.Bools.{none_below, and_left, and_right}
 use Rattle.mn_lib.specs.declared.event.LibEvent.{LibEvent}
-use Rattle.mn_lib.specs.declared.event.LibEvent.TheVariants.{Opened, Closed, Map, Withdraw, Next}
+use Rattle.mn_lib.specs.declared.event.LibEvent.TheVariants.{Opened, Closed, Map, Withdraw, Released, Next}
 use Rattle.mn_lib.specs.declared.event.Tell.{Tell}
 use Rattle.mn_lib.specs.declared.news.SoFar.{SoFar}
 use Rattle.mn_lib.specs.Bindings.{Bindings, nodes, is_open, row_of, label_learned, labelled, usable, usable_by, offers, with_label, after_event, after_events, EventFits}
 use Rattle.mn_lib.specs.Bindings.{EventsFit}
 use Rattle.mn_lib.specs.Tells.{opens, told, tells_of, tell, mention, offered}
-use Rattle.mn_lib.specs.News.{fec_of, fecs_in, IsFrom, one_past, InOrder, so_far, so_far_in, told_since, AreBelow, Apart, AreAllNews}
+use Rattle.mn_lib.specs.News.{fec_of, fecs_in, IsFrom, one_past, InOrder, so_far, so_far_in, told_since, AreBelow, Apart, AreAllNews, ended_of, ended_since, begun, begun_of, begun_since}
 use Rattle.mn_lib.proofs.Events.{nodes-after_event, nodes-after_events, told-same, told_of-same}
 use Rattle.mn_lib.proofs.Ranges.{flat_none}
 
@@ -61,6 +61,7 @@ usable-other b (Closed k) p d = absurd d
 usable-other b (Map k q l) p d =
     usable-heard b (slice_set b.heard k.0 (with_label (row_of b k.0) q.0 (Some l))) p (λ h. row-other b.heard k.0 h q.0 p (Some l) d)
 usable-other b (Withdraw k q) p d = usable-heard b (slice_set b.heard k.0 (with_label (row_of b k.0) q.0 None)) p (λ h. row-other b.heard k.0 h q.0 p None d)
+usable-other b (Released k q) p d = refl
 usable-other b (Next q k) p d = usable-hops b (slice_set b.hops q.0 k) p (get_or-set_other b.hops q.0 p k None d)
 
 apart-first : (least p : ℕ) (o : Option ℕ) (qs : List ℕ) → IsFrom least o → Apart p (option_to_list o ++ qs) → IsApart p o
@@ -83,6 +84,7 @@ me-after_event b (Opened k) = refl
 me-after_event b (Closed k) = refl
 me-after_event b (Map k q l) = refl
 me-after_event b (Withdraw k q) = refl
+me-after_event b (Released k q) = refl
 me-after_event b (Next q k) = refl
 
 me-after_events : (b : Bindings) (es : List LibEvent) → (after_events b es).me.0 ≡ b.me.0
@@ -100,6 +102,7 @@ opens-none least (Opened k ∷ es) i h = absurd i.0
 opens-none least (Closed k ∷ es) i h = absurd i.0
 opens-none least (Map k q l ∷ es) i h = opens-none (q.0 + 1) es i.1 h
 opens-none least (Withdraw k q ∷ es) i h = opens-none (q.0 + 1) es i.1 h
+opens-none least (Released k q ∷ es) i h = opens-none (q.0 + 1) es i.1 h
 opens-none least (Next q k ∷ es) i h = opens-none (q.0 + 1) es i.1 h
 
 -- 2. Lists of FECs
@@ -126,6 +129,7 @@ below b (e ∷ es) f = one e f.0 (subst (λ n. AreBelow n (fecs_in es)) (nodes-a
     one (Closed k) g r = r
     one (Map k q l) g r = (g.2, r)
     one (Withdraw k q) g r = (g.2, r)
+    one (Released k q) g r = (g.2, r)
     one (Next q k) g r = (g.0, r)
 
 apart-before : (q least : ℕ) (qs : List ℕ) → q < least → Ascend least qs → Apart q qs
@@ -201,9 +205,21 @@ below-range (suc n) least end h = (omega (arith, h), below-range n (least + 1) e
 was : (b a : Bindings) (es : List LibEvent) (q : ℕ) → q < nodes b → tells_of (slice_index_or (offered b) q false) a es q ≡ told_since a es (so_far b q)
 was b a es q h = ap (λ o. tells_of o a es q) (get_or-map-range_with_len (offers b) 0 (nodes b) q q false h (omega arith))
 
+not_ended : (x y : Bool) (q : ℕ) → x ≡ y → cond (x && not y) (q ∷ []) [] ≡ []
+not_ended true true q e = refl
+not_ended false y q e = refl
+not_ended true false q e = cc
+
+not_begun : (x y : Bool) (q : ℕ) → x ≡ y → cond (not x && y) (q ∷ []) [] ≡ []
+not_begun true y q e = refl
+not_begun false false q e = refl
+not_begun false true q e = cc
+
 pub every_is_news : (b : Bindings) (es : List LibEvent) → AreAllNews b es (map (so_far b) (range_with_len 0 (nodes b)))
 every_is_news b es = record {
   below = below-all (nodes b) b (range_with_len 0 (nodes b)) (below-range (nodes b) 0 (nodes b) (omega arith));
+  ends = sym (flat_since (ended_since (after_events b es)) (so_far b) (range_with_len 0 (nodes b)));
+  begins = sym (flat_since (begun_since (after_events b es)) (so_far b) (range_with_len 0 (nodes b)));
   news =
       let a : Bindings = after_events b es in
       ap (λ n. flat_map (λ q. tells_of (slice_index_or (offered b) q false) a es q) (range_with_len 0 n)) (nodes-after_events b es)
@@ -218,6 +234,18 @@ from_none n = omega arith
 by_fecs : (b : Bindings) (es : List LibEvent) → EventsFit b es → InOrder 0 es → AreAllNews b es (map (so_far b) (fecs_in es))
 by_fecs b es f i = record {
   below = below-all (nodes b) b (fecs_in es) (below b es f);
+  ends =
+      let a : Bindings = after_events b es in
+      flat_some (ended_of b a) (λ q. ended_since a (so_far b q)) (nodes b) 0 (fecs_in es) (ascends 0 es i)
+      (subst (λ n. AreBelow n (fecs_in es)) (from_none (nodes b)) (below b es f)) (λ q h. refl)
+      (λ q low h d. not_ended (offers b q) (offers a q) q (offers_stays b es i q d))
+      ∙ sym (flat_since (ended_since a) (so_far b) (fecs_in es));
+  begins =
+      let a : Bindings = after_events b es in
+      flat_some (begun_of b a) (λ q. begun_since a (so_far b q)) (nodes b) 0 (fecs_in es) (ascends 0 es i)
+      (subst (λ n. AreBelow n (fecs_in es)) (from_none (nodes b)) (below b es f)) (λ q h. refl)
+      (λ q low h d. not_begun (offers b q) (offers a q) q (offers_stays b es i q d))
+      ∙ sym (flat_since (begun_since a) (so_far b) (fecs_in es));
   news =
       let a : Bindings = after_events b es in
       ap (λ n. flat_map (λ q. tells_of (slice_index_or (offered b) q false) a es q) (range_with_len 0 n)) (nodes-after_events b es)
@@ -305,3 +333,16 @@ fecs_more es i q d h e = ap fecs_in (drop_more es i d h) ∙ ap (λ o. option_to
 pub fecs_none : (es : List LibEvent) (i : ℕ) (d : LibEvent) → i < length es → fec_of (slice_index_or es i d) ≡ None →
     fecs_in (drop i es) ≡ fecs_in (drop (i + 1) es)
 fecs_none es i d h e = ap fecs_in (drop_more es i d h) ∙ ap (λ o. option_to_list o ++ fecs_in (drop (i + 1) es)) e
+
+-- where each of these FECs is offered already no offer begins
+pub none_begins : (a : Bindings) (all : List SoFar) → list_all (λ (one : SoFar). one.offered) all ≡ true → flat_map (begun_since a) all ≡ []
+none_begins a [] h = refl
+none_begins a (one ∷ all) h =
+    let rest = list_all (λ (one : SoFar). one.offered) all in
+    ap (λ x. cond (not x && offers a one.fec.0) (one.fec.0 ∷ []) [] ++ flat_map (begun_since a) all) (and_left one.offered rest h)
+    ∙ none_begins a all (and_right one.offered rest h)
+
+pub none_begins_by : (b : Bindings) (es : List LibEvent) (r : Bool) → EventsFit b es → InOrder 0 es →
+    r ≡ list_all (λ (one : SoFar). one.offered) (flat_map (so_far_in b) es) → not r ≡ false → begun b (after_events b es) ≡ []
+none_begins_by b es true f i e h = (named_are_news b es f i).begins ∙ none_begins (after_events b es) (flat_map (so_far_in b) es) (sym e)
+none_begins_by b es false f i e h = cc

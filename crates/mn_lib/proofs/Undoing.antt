@@ -3,7 +3,7 @@ use Rattle.std.proofs.Common.{ℕ, ◌≡◌, ◌<◌, false, List, [], ◌∷�
 use Rattle.std.specs.Prelude.{is_some}
 use Rattle.std.proofs.lemmas.List.{set-set, set-get_or, get_or-set_same}
 use Rattle.mn_lib.specs.declared.event.LibEvent.{LibEvent}
-use Rattle.mn_lib.specs.declared.event.LibEvent.TheVariants.{Opened, Closed, Map, Withdraw, Next}
+use Rattle.mn_lib.specs.declared.event.LibEvent.TheVariants.{Opened, Closed, Map, Withdraw, Released, Next}
 use Rattle.mn_lib.specs.declared.undo.Undo.{Undo}
 use Rattle.mn_lib.specs.Bindings.{Bindings, nodes, row_of, with_label, label_learned, after_event, EventFits}
 use Rattle.mn_lib.specs.Undoing.{undone, undo_of, all_undone}
@@ -39,6 +39,7 @@ undone-event b (Opened h) n f = ap (with_heard b) (again b.heard h.0 _ None None
 undone-event b (Closed h) n f = ap (with_heard b) (again b.heard h.0 None (row_of b h.0) None refl)
 undone-event b (Map h p l) n f = ap (with_heard b) (relabel b.heard h.0 p.0 (Some l) (omega (arith, n, f.0)))
 undone-event b (Withdraw h p) n f = ap (with_heard b) (relabel b.heard h.0 p.0 None (omega (arith, n, f.0)))
+undone-event b (Released h p) n f = refl
 undone-event b (Next p h) n f = ap (λ xs. let c : Bindings = record b { hops = xs } in c) (again b.hops p.0 h (slice_index_or b.hops p.0 None) None refl)
 
 pub all_undone-push : (b : Bindings) (us : List Undo) (u : Undo) → all_undone b (us ++ u ∷ []) ≡ all_undone (undone b u) us

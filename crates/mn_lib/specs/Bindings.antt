@@ -3,7 +3,7 @@ use Rattle.std.specs.Prelude.{ℕ, ◌≡◌, ◌<◌, ◌≢◌, ◌==◌, ◌|
 use Rattle.std.specs.Prelude.{None, is_some, ⊤}
 use Rattle.mn_base.specs.declared.numbers.NodeNo.{NodeNo}
 use Rattle.mn_lib.specs.declared.event.LibEvent.{LibEvent}
-use Rattle.mn_lib.specs.declared.event.LibEvent.TheVariants.{Opened, Closed, Map, Withdraw, Next}
+use Rattle.mn_lib.specs.declared.event.LibEvent.TheVariants.{Opened, Closed, Map, Withdraw, Released, Next}
 
 -- what contracts see of a Lib
 pub record Bindings : Type 0 where
@@ -52,12 +52,13 @@ abbrev pub with_label : Option (List (Option ℕ)) → ℕ → Option ℕ → Op
 with_label None fec label = None
 with_label (Some row) fec label = Some (slice_set row fec label)
 
--- A neighbour that opens has said nothing yet, and what one that closes said is forgotten.
+-- A neighbour that opens has said nothing yet, and what one that closes said is forgotten. A Release says nothing of the neighbour's labels.
 abbrev pub after_event : Bindings → LibEvent → Bindings
 after_event bindings (Opened from) = record bindings { heard = slice_set bindings.heard from.0 (Some (replicate (nodes bindings) None)) }
 after_event bindings (Closed from) = record bindings { heard = slice_set bindings.heard from.0 None }
 after_event bindings (Map from fec label) = record bindings { heard = slice_set bindings.heard from.0 (with_label (row_of bindings from.0) fec.0 (Some label)) }
 after_event bindings (Withdraw from fec) = record bindings { heard = slice_set bindings.heard from.0 (with_label (row_of bindings from.0) fec.0 None) }
+after_event bindings (Released from fec) = bindings
 after_event bindings (Next fec hop) = record bindings { hops = slice_set bindings.hops fec.0 hop }
 
 abbrev pub after_events : Bindings → List LibEvent → Bindings
@@ -75,6 +76,7 @@ EventFits bindings (Opened from) = (from.0 < nodes bindings) × (is_open binding
 EventFits bindings (Closed from) = (from.0 < nodes bindings) × (is_open bindings from.0 ≡ true)
 EventFits bindings (Map from fec label) = (from.0 < nodes bindings) × (is_open bindings from.0 ≡ true) × (fec.0 < nodes bindings)
 EventFits bindings (Withdraw from fec) = (from.0 < nodes bindings) × (is_open bindings from.0 ≡ true) × (fec.0 < nodes bindings)
+EventFits bindings (Released from fec) = (from.0 < nodes bindings) × (is_open bindings from.0 ≡ true) × (fec.0 < nodes bindings)
 EventFits bindings (Next fec hop) = (fec.0 < nodes bindings) × (fec.0 ≢ bindings.me.0) × HopFits bindings hop
 
 -- each event may happen once those before it have

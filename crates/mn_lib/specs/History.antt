@@ -2,7 +2,7 @@
 use Rattle.std.specs.Prelude.{ℕ, ◌≡◌, ◌<◌, ◌==◌, ◌&&◌, cond, List, [], ◌∷◌, ◌++◌, reverse, slice_index_or, Option, Some, None}
 use Rattle.mn_base.specs.declared.numbers.NodeNo.{NodeNo}
 use Rattle.mn_lib.specs.declared.event.LibEvent.{LibEvent}
-use Rattle.mn_lib.specs.declared.event.LibEvent.TheVariants.{Opened, Closed, Map, Withdraw, Next}
+use Rattle.mn_lib.specs.declared.event.LibEvent.TheVariants.{Opened, Closed, Map, Withdraw, Released, Next}
 use Rattle.mn_lib.specs.Bindings.{Bindings, nothing_heard, row_of, after_events, EventsFit}
 
 -- What a neighbour said last of a FEC since it was opened, by the events from the newest to the oldest: none where it isn't
@@ -13,6 +13,7 @@ said_last neighbour fec (Opened from ∷ older) = cond (from.0 == neighbour) (So
 said_last neighbour fec (Closed from ∷ older) = cond (from.0 == neighbour) None (said_last neighbour fec older)
 said_last neighbour fec (Map from of label ∷ older) = cond ((from.0 == neighbour) && (of.0 == fec)) (Some (Some label)) (said_last neighbour fec older)
 said_last neighbour fec (Withdraw from of ∷ older) = cond ((from.0 == neighbour) && (of.0 == fec)) (Some None) (said_last neighbour fec older)
+said_last neighbour fec (Released from of ∷ older) = said_last neighbour fec older
 said_last neighbour fec (Next of hop ∷ older) = said_last neighbour fec older
 
 -- the next hop that was named last, by the events from the newest to the oldest

@@ -1,6 +1,6 @@
 -- Of which FECs something may have to be told after a change of the bindings.
-use Rattle.std.specs.Prelude.{ℕ, ◌≡◌, ◌≢◌, ◌≤◌, ◌<◌, ◌+◌, List, [], ◌∷◌, map, Option, Some, None, ⊤}
-use Rattle.std.specs.List.{All, flat_map}
+use Rattle.std.specs.Prelude.{ℕ, ◌≡◌, ◌≢◌, ◌≤◌, ◌<◌, ◌+◌, ◌&&◌, not, cond, List, [], ◌∷◌, map, Option, Some, None, ⊤}
+use Rattle.std.specs.List.{All, flat_map, range_with_len}
 use Rattle.std.specs.Option.{option_to_list}
 use Rattle.mn_lib.specs.declared.event.LibEvent.{LibEvent}
 use Rattle.mn_lib.specs.declared.event.LibEvent.TheVariants as event
@@ -15,6 +15,7 @@ fec_of (event.Opened from) = None
 fec_of (event.Closed from) = None
 fec_of (event.Map from fec label) = Some fec.0
 fec_of (event.Withdraw from fec) = Some fec.0
+fec_of (event.Released from fec) = Some fec.0
 fec_of (event.Next fec hop) = Some fec.0
 
 abbrev pub fecs_in : List LibEvent → List ℕ
@@ -54,7 +55,29 @@ so_far_in bindings event = map (so_far bindings) (option_to_list (fec_of event))
 abbrev pub told_since : Bindings → List LibEvent → SoFar → List Tell
 told_since after events before = tells_of before.offered after events before.fec.0
 
--- these FECs are of the node's, and of no other one anything must be told
+-- the FECs whose offer ended, in node order
+abbrev pub ended_of : Bindings → Bindings → ℕ → List ℕ
+ended_of before after fec = cond (offers before fec && not (offers after fec)) (fec ∷ []) []
+
+abbrev pub ended : Bindings → Bindings → List ℕ
+ended before after = flat_map (ended_of before after) (range_with_len 0 (nodes before))
+
+abbrev pub ended_since : Bindings → SoFar → List ℕ
+ended_since after before = cond (before.offered && not (offers after before.fec.0)) (before.fec.0 ∷ []) []
+
+-- the FECs that are offered newly, in node order
+abbrev pub begun_of : Bindings → Bindings → ℕ → List ℕ
+begun_of before after fec = cond (not (offers before fec) && offers after fec) (fec ∷ []) []
+
+abbrev pub begun : Bindings → Bindings → List ℕ
+begun before after = flat_map (begun_of before after) (range_with_len 0 (nodes before))
+
+abbrev pub begun_since : Bindings → SoFar → List ℕ
+begun_since after before = cond (not before.offered && offers after before.fec.0) (before.fec.0 ∷ []) []
+
+-- these FECs are of the node's, and of no other one anything must be told, nor has its offer begun or ended
 pub record AreAllNews (bindings : Bindings) (events : List LibEvent) (all : List SoFar) : Type 0 where
   pub below : All (λ before. before.fec.0 < nodes bindings) all
+  pub ends : ended bindings (after_events bindings events) ≡ flat_map (ended_since (after_events bindings events)) all
+  pub begins : begun bindings (after_events bindings events) ≡ flat_map (begun_since (after_events bindings events)) all
   pub news : changes (offered bindings) (after_events bindings events) events ≡ flat_map (told_since (after_events bindings events) events) all

@@ -1,10 +1,10 @@
-ghost use Rattle.std.specs.Prelude.{ℕ, ◌≡◌, ◌≤◌, ◌<◌, ◌++◌, ◌==◌, ◌||◌, List, length, slice_index_or, slice_set, replicate, map, IfOk, OnOk, OnErr, is_some, true, false, Bool};
-ghost use Rattle.std.specs.List.{All, flat_map, range_with_len};
+ghost use Rattle.std.specs.Prelude.{ℕ, ◌≡◌, ◌≤◌, ◌<◌, ◌++◌, ◌==◌, ◌||◌, List, [], length, slice_index_or, slice_set, replicate, map, IfOk, OnOk, OnErr, is_some, true, false, Bool};
+ghost use Rattle.std.specs.List.{All, flat_map, list_all, range_with_len};
 ghost use Rattle.mn_lib.specs.Bindings.{nothing_heard, nodes, is_open, usable, offers, after_event, after_events, EventFits, EventsFit, row_of, with_label, label_learned};
 ghost use Rattle.mn_lib.specs.declared.undo.Undo.TheVariants.{Label};
 ghost use Rattle.mn_lib.specs.Undoing.{heard_label, undone, all_undone, undo_of};
 ghost use Rattle.mn_lib.specs.Tells.{tells, told, tells_of, releases, closes, opens};
-ghost use Rattle.mn_lib.specs.News.{fecs_in, InOrder, AreBelow, so_far, so_far_in, told_since, AreAllNews};
+ghost use Rattle.mn_lib.specs.News.{fecs_in, InOrder, AreBelow, begun, so_far, so_far_in, told_since, AreAllNews};
 
 use crate::event::{LibEvent, Tell, TellKind, closes, opened_alone, opens, opens_any};
 use crate::news::{SoFar, are_of_fecs};
@@ -18,14 +18,14 @@ use std::marker::Model;
 ///
 /// Contracts see, by neighbour, what it said last of each FEC, or that it isn't open, and by FEC the next hop.
 #[derive(Drop)]
-pub struct Lib {
+pub(crate) struct Bound {
     alloc: Global,
     me: NodeNo,
     heard: Vec<Option<Row>>,
     hops: Vec<Option<NodeNo>>,
 }
 
-impl Model for Lib {
+impl Model for Bound {
     ghost use Rattle.mn_lib.specs.Bindings.{Bindings};
 
     ghost Value = { Bindings };
@@ -37,10 +37,10 @@ impl Model for Lib {
     ghost invariant = { Stands };
 }
 
-impl Lib {
+impl Bound {
     /// The bindings of a node at the start, in a network of at most 256 nodes: no neighbour is open, and no FEC has a next
     /// hop.
-    pub fn new(alloc: Global, me: NodeNo, nodes: u32) -> Result<Lib, AllocError>
+    pub fn new(alloc: Global, me: NodeNo, nodes: u32) -> Result<Bound, AllocError>
         requires few { nodes ≤ 256 }
         requires me { me.0 < nodes }
         ensures { IfOk result (λ lib. lib ≡ nothing_heard me nodes) }
@@ -51,7 +51,7 @@ impl Lib {
         }
         let mut hops = Vec::new(alloc);
         hops.resize(nodes as usize, None)?;
-        Ok(Lib {
+        Ok(Bound {
             alloc,
             me,
             heard,
@@ -114,7 +114,7 @@ impl Lib {
     }
 
     /// Whether the FEC is mapped to the neighbours: RFC 5036, section 2.6.1.2.
-    fn offers(&self, fec: NodeNo) -> bool
+    pub fn offers(&self, fec: NodeNo) -> bool
         requires { fec.0 < nodes self.now }
         ensures { result ≡ offers self.now fec.0 }
     {
@@ -159,7 +159,7 @@ impl Lib {
 
     /// The FECs of which something may have to be told, in node order: where each event is of a FEC, in node order and none
     /// twice, these alone.
-    fn may_change(&self, events: &[LibEvent]) -> Result<Vec<SoFar>, AllocError>
+    pub fn may_change(&self, events: &[LibEvent]) -> Result<Vec<SoFar>, AllocError>
         requires { EventsFit self.now events.now }
         ensures all { IfOk result (λ all. AreAllNews self.now events.now all.items) }
         ensures alone { InOrder 0 events.now → IfOk result (λ all. all.items ≡ flat_map (so_far_in self.now) events.now) }
@@ -169,6 +169,29 @@ impl Lib {
         } else {
             self.every()
         }
+    }
+
+    /// Whether an offer may begin by these events: not where each is of a FEC that is offered already.
+    pub fn may_begin(&self, events: &[LibEvent]) -> bool
+        requires { EventsFit self.now events.now }
+        ensures { result ≡ false → begun self.now (after_events self.now events.now) ≡ [] }
+    {
+        !are_of_fecs(events) || !self.are_offered(events)
+    }
+
+    /// Whether all FECs that the events are of are offered.
+    fn are_offered(&self, events: &[LibEvent]) -> bool
+        requires { AreBelow (nodes self.now) (fecs_in events.now) }
+        ensures { result ≡ list_all (λ one. one.offered) (flat_map (so_far_in self.now) events.now) }
+    {
+        for event in events {
+            if let Some(fec) = event.fec() {
+                if !self.offers(fec) {
+                    return false;
+                }
+            }
+        }
+        true
     }
 
     /// Takes an event, and says what puts it back.
@@ -188,6 +211,10 @@ impl Lib {
             LibEvent::Closed(from) => Ok(Undo::Row(from, self.heard[from.0 as usize].take())),
             LibEvent::Map(from, fec, label) => Ok(self.hear(from, fec, Some(label))),
             LibEvent::Withdraw(from, fec) => Ok(self.hear(from, fec, None)),
+            LibEvent::Released(_, _) => {
+                let _ = &self.heard;
+                Ok(Undo::Nothing)
+            }
             LibEvent::Next(fec, hop) => {
                 let old = self.hops[fec.0 as usize];
                 self.hops[fec.0 as usize] = hop;
@@ -240,6 +267,7 @@ impl Lib {
                     }
                 }
             }
+            Undo::Nothing => {}
             Undo::Hop(fec, hop) => {
                 let at = fec.0 as usize;
                 if at < self.hops.len() {
@@ -365,15 +393,15 @@ impl Lib {
     /// what isn't offered any more. A neighbour that was opened is told a Map of each FEC that is offered.
     ///
     /// An `Err` is want of memory alone, and changes nothing.
-    pub fn apply(&mut self, events: &[LibEvent]) -> Result<Vec<Tell>, AllocError>
-        requires { EventsFit self.old events.now }
+    pub fn apply(&mut self, events: &[LibEvent], before: &[SoFar]) -> Result<Vec<Tell>, AllocError>
+        requires fit { EventsFit self.old events.now }
+        requires before { AreAllNews self.old events.now before.now }
         ensures tells { IfOk result (λ all. all.items ≡ tells self.old events.now) }
         ensures after { OnOk result (self.new ≡ after_events self.old events.now) }
         ensures kept { OnErr result (self.new ≡ self.old) }
     {
-        let before = self.may_change(events)?;
         let mut undos = Vec::new(self.alloc);
-        match self.take(events, &before, &mut undos) {
+        match self.take(events, before, &mut undos) {
             Ok(tells) => Ok(tells),
             Err(error) => {
                 self.undo_all(undos);

@@ -16,6 +16,8 @@ pub enum LibEvent {
     Map(NodeNo, NodeNo, u32),
     /// An open neighbour takes back its label for a FEC (section 3.5.10).
     Withdraw(NodeNo, NodeNo),
+    /// An open neighbour says that it forgot the node's label for a FEC (section 3.5.11).
+    Released(NodeNo, NodeNo),
     /// A FEC has this next hop from now on, or none.
     Next(NodeNo, Option<NodeNo>),
 }

@@ -14,10 +14,14 @@
 //!                                     +---> usable: the next hop and its label
 //! ```
 //!
+//! Beside these it counts the Releases that neighbours owe (section 3.5.11), and so knows which FECs are free: no neighbour owes a
+//! Release of them, and no frame that was sent while they were offered flies any more. Their labels may be given to others.
+//!
 //! Where memory runs out, the events that were taken are put back.
 //!
 //! - `event`: what happens, and what must be told
-//! - `bindings`: what is kept, and how a list of events is taken
+//! - `known`: the bindings, and since when FECs are at rest
+//! - `bindings`: what is kept of labels, and how a list of events is taken
 //! - `news`: which FECs are looked at
 //! - `row`: what one neighbour said of each FEC
 //! - `undo`: what puts an event back
@@ -26,12 +30,13 @@
 
 mod bindings;
 mod event;
+mod known;
 mod laws;
 mod news;
 mod row;
 mod undo;
 
-pub use bindings::Lib;
 pub use event::{LibEvent, Tell, TellKind};
+pub use known::{Changed, Lib};
 pub use laws::{lists_of_events_join, what_is_kept_was_said_last};
 pub use news::are_of_fecs;

@@ -18,9 +18,10 @@ impl LibEvent {
     {
         match self {
             LibEvent::Opened(_) | LibEvent::Closed(_) => None,
-            LibEvent::Map(_, fec, _) | LibEvent::Withdraw(_, fec) | LibEvent::Next(fec, _) => {
-                Some(*fec)
-            }
+            LibEvent::Map(_, fec, _)
+            | LibEvent::Withdraw(_, fec)
+            | LibEvent::Released(_, fec)
+            | LibEvent::Next(fec, _) => Some(*fec),
         }
     }
 }

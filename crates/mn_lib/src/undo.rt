@@ -8,6 +8,8 @@ pub enum Undo {
     Row(NodeNo, Option<Row>),
     /// What the neighbour had said of the FEC.
     Label(NodeNo, NodeNo, Option<u32>),
+    /// The event changed nothing that is kept.
+    Nothing,
     /// The FEC's next hop before.
     Hop(NodeNo, Option<NodeNo>),
 }

@@ -1,7 +1,7 @@
 -- A fresh node and bindings of which nothing was heard are tied.
 use Rattle.std.proofs.Common.{ℕ, zero, suc, ◌≡◌, ◌+◌, ◌<◌, ◌≤◌, inl, inr, true, false, List, [], ◌∷◌, length, map, refl, arith, sym, ◌∙◌, ap, subst, Option}
 use Rattle.std.proofs.Common.{Some, None, Vec, Global}
-use Rattle.std.specs.Prelude.{◌==◌, ◌&&◌, ◌%◌, nat_le, is_some, slice_index_or, replicate}
+use Rattle.std.specs.Prelude.{◌==◌, ◌&&◌, ◌||◌, ◌%◌, nat_le, is_some, slice_index_or, replicate}
 use Rattle.std.specs.List.{range_with_len}
 use Rattle.std.proofs.lemmas.Bool.Decides.{eqb_tells}
 use Rattle.mn_wiring.specs.Wiring.{Wiring, JoinsNodes}
@@ -21,18 +21,20 @@ use Rattle.mn_linkdb.specs.Learned.{Learned, links_up}
 use Rattle.mn_spf_inc.specs.Mended.{Mended}
 use Rattle.mn_labels.specs.declared.meaning.Bind.{Bind}
 use Rattle.mn_labels.specs.declared.meaning.Bind.TheVariants as bind
-use Rattle.mn_labels.specs.Labels.{LabelTable, meaning_of}
+use Rattle.mn_labels.specs.Labels.{Labels, LabelTable, none_given, fec_with, or_attachment, meaning_of, Means, IsTold}
+use Rattle.mn_rest.specs.Rests.{Resting, at_first}
+use Rattle.mn_lib.specs.Known.{Known, nothing_known}
 use Rattle.mn_lfib.specs.declared.answer.Use.{Use}
-use Rattle.mn_lfib.specs.Uses.{fec_use}
 use Rattle.mn_lib.specs.Bindings as lib
 use Rattle.mn_lib.specs.Bindings.{Bindings, usable}
 use Rattle.mn_node.specs.Node.{Session, Node}
 use Rattle.mn_ldp_session.specs.declared.session.Session.{Session as Machine}
 use Rattle.mn_lsr.specs.declared.parts.Open.{Open}
 use Rattle.mn_lsr.specs.declared.parts.Parts.{Parts}
-use Rattle.mn_lsr.specs.Standing.{IsWired, IsMendedFor, AreGiven, IsUseOf, fecs_given, attachments, sessions_from}
-use Rattle.mn_lsr.specs.Parts.{FitsLabel, machines_of, node_in, Stands}
-use Rattle.mn_lsr.proofs.Given.{are_given, few_given, no_site, none_attached}
+use Rattle.mn_lsr.specs.Standing.{IsWired, IsMendedFor, IsUseOf, attachments, sessions_from}
+use Rattle.mn_lsr.specs.Turns.{Kept}
+use Rattle.mn_lsr.specs.Parts.{FitsLabel, Nothing, machines_of, node_in, kept_of, Stands}
+use Rattle.mn_base.proofs.Members.{in_contained}
 use Rattle.mn_lsr.specs.Ties.{AreTied}
 use Rattle.mn_lsr.specs.Telling.{AreLinks}
 use Rattle.mn_lsr.proofs.Following.{no_next}
@@ -92,6 +94,27 @@ none_usable me nodes fec = ap (lib.usable_by (nothing_heard me nodes) fec) (none
 none_heard : (me : NodeNo) (nodes neighbour fec : ℕ) → lib.label_learned (lib.row_of (nothing_heard me nodes) neighbour) fec ≡ None
 none_heard me nodes neighbour fec = ap (λ r. lib.label_learned r fec) (none_there nodes neighbour)
 
+-- where nothing was given no label means anything
+fec_none : (label k n : ℕ) → fec_with label k (replicate n None) ≡ None
+fec_none label k zero = refl
+fec_none label k (suc n) = fec_none label (k + 1) n
+
+means_nothing : (n label : ℕ) → meaning_of (none_given n) label ≡ None
+means_nothing n label = ap (λ o. or_attachment o label []) (fec_none label 0 n)
+
+none_told : (n : ℕ) → IsTold (none_given n)
+none_told n label thing = (λ e. absurd (clash (sym (means_nothing n label) ∙ e)), λ m. absurd (unmeant thing m))
+  where
+    clash : None ≡ Some thing → ⊥
+    clash e = cc
+
+    unmeant : (x : Bind) → Means (none_given n) label x → ⊥
+    unmeant (bind.Fec fec) m = no (sym (none_there n fec.0) ∙ m)
+      where
+        no : None ≡ Some label → ⊥
+        no e = cc
+    unmeant (bind.Site site number) m = absurd (in_contained [] (record { label = label; what = bind.Site site number }) m)
+
 no_sessions : (w : Wiring) (me : ℕ) (b : Bindings) (q n : ℕ) → sessions_from w me b q (replicate n None) ≡ replicate n None
 no_sessions w me b q zero = refl
 no_sessions w me b q (suc n) = ap (λ ss. let o : List (Option Session) = None ∷ ss in o) (no_sessions w me b (q + 1) n)
@@ -101,11 +124,11 @@ no_machines zero = refl
 no_machines (suc n) = ap (λ ss. let o : List (Option Machine) = None ∷ ss in o) (no_machines n)
 
 -- the parts of a node that has learned nothing stand
-module _ (me : NodeNo) (loopbacks : Vec ℕ Global) (ends : List LinkEnds) (mended : Mended) (sessions : Vec (Option Open) Global) (labels : LabelTable)
+module _ (me : NodeNo) (loopbacks : Vec ℕ Global) (ends : List LinkEnds) (mended : Mended) (sessions : Vec (Option Open) Global) (labels : LabelTable) (life : ℕ)
     (attached : Vec ℕ Global) (links : Vec (Option LinkNo) Global)
     (below : me.0 < length loopbacks.items) (wired : IsWired (record { loopbacks = loopbacks.items; ends = ends }))
     (sessions_are : sessions.items ≡ replicate (length ends) None)
-    (given_are : labels.given ≡ fecs_given (length loopbacks.items) me.0) (none_attached_yet : attached.items ≡ [])
+    (given_are : labels.labels ≡ none_given (length loopbacks.items)) (me_is : labels.me ≡ me.0) (none_attached_yet : attached.items ≡ [])
     (links_are : AreLinks (record { loopbacks = loopbacks.items; ends = ends }) me.0 links.items) where
   abbrev pub w : Wiring
   w = record { loopbacks = loopbacks.items; ends = ends }
@@ -117,7 +140,7 @@ module _ (me : NodeNo) (loopbacks : Vec ℕ Global) (ends : List LinkEnds) (mend
     view = record { nodes = length loopbacks.items; ends = ends; counts = replicate (length ends) 0 };
     mended = mended;
     sessions = sessions;
-    lib = nothing_heard me (length loopbacks.items);
+    lib = nothing_known me (length loopbacks.items) life;
     labels = labels;
     lfib = [];
     attached = attached;
@@ -147,30 +170,40 @@ module _ (me : NodeNo) (loopbacks : Vec ℕ Global) (ends : List LinkEnds) (mend
     rows = so_many (length loopbacks.items) None;
     tied = subst (λ n. AreTied w n (nothing_heard me (length loopbacks.items))) (sym node-is) (fresh_tied w me wired.joins below);
     fit = λ neighbour fec. subst FitsLabel (sym (none_heard me (length loopbacks.items) neighbour fec)) tt;
-    given = subst (AreGiven (length loopbacks.items) me.0) (sym given_are) (are_given (length loopbacks.items) me.0 below);
-    few = subst (λ n. n ≤ 1048560) (ap length (sym given_are))
-        (small (length (fecs_given (length loopbacks.items) me.0)) (length loopbacks.items) (few_given (length loopbacks.items) me.0) wired.spelled.few);
+    labels = record {
+      me_is = me_is;
+      long = ap (λ (l : Labels). length l.fecs) given_are ∙ so_many (length loopbacks.items) None;
+      told = subst IsTold (sym given_are) (none_told (length loopbacks.items));
+      had = λ fec h d on. absurd (d (own_alone fec on));
+    };
+    owed = record {
+      rows = so_many (length loopbacks.items) None;
+      open_is = λ neighbour. ap is_some (none_there (length loopbacks.items) neighbour) ∙ sym (ap is_some (none_there (length loopbacks.items) neighbour));
+      each = λ neighbour. Nothing (none_there (length loopbacks.items) neighbour);
+    };
     attached =
         λ site. ap (λ xs. slice_index_or xs site 0) none_attached_yet
-        ∙ sym (ap (attachments site) given_are ∙ none_attached site (length loopbacks.items) me.0);
+        ∙ sym (ap (λ (l : Labels). attachments site l.given) given_are);
     links = links_are;
-    table = λ label. unused label (meaning_of labels.given label) refl;
+    table = λ label. subst (λ m. IsUseOf (usable (nothing_heard me (length loopbacks.items))) m None)
+        (sym (ap (λ l. meaning_of l label) given_are ∙ means_nothing (length loopbacks.items) label)) refl;
   }
     where
       clash : {s : Machine} → None ≡ Some s → ⊥
       clash e = cc
 
-      small : (a n : ℕ) → a ≤ n → n ≤ 256 → a ≤ 1048560
-      small a n h g = omega (arith, h, g)
-
-      unused : (label : ℕ) (m : Option Bind) → meaning_of labels.given label ≡ m → IsUseOf (usable (nothing_heard me (length loopbacks.items))) m None
-      unused label None e = refl
-      unused label (Some (bind.Fec fec)) e = ap fec_use (sym (none_usable me (length loopbacks.items) fec.0))
-      unused label (Some (bind.Site site number)) e =
-          absurd (no_site (length loopbacks.items) me.0 below label site number (ap (λ gs. meaning_of gs label) (sym given_are) ∙ e))
+      own_alone : (fec : ℕ) → lib.offers (nothing_heard me (length loopbacks.items)) fec ≡ true → fec ≡ me.0
+      own_alone fec on = elim (eqb_tells me.0 fec) [
+        | inl p ↦ sym p.1
+        | inr p ↦ absurd (no (sym on ∙ ap (λ x. x || is_some (usable (nothing_heard me (length loopbacks.items)) fec)) p.0
+            ∙ ap is_some (none_usable me (length loopbacks.items) fec)))
+      ]
+        where
+          no : true ≡ false → ⊥
+          no e = cc
 
 -- the same of parts that are made so
-pub record IsMade (root : NodeNo) (addresses : List ℕ) (links : List LinkEnds) (p : Parts) : Type 0 where
+pub record IsMade (root : NodeNo) (addresses : List ℕ) (links : List LinkEnds) (life : ℕ) (p : Parts) : Type 0 where
   pub me : p.me ≡ root
   pub loopbacks : p.loopbacks.items ≡ addresses
   pub view : p.view ≡ record { nodes = length addresses; ends = links; counts = replicate (length links) 0 }
@@ -180,14 +213,15 @@ pub record IsMade (root : NodeNo) (addresses : List ℕ) (links : List LinkEnds)
   pub ends : p.mended.ends ≡ links
   pub up : p.mended.up ≡ replicate (length links) false
   pub sessions : p.sessions.items ≡ replicate (length links) None
-  pub bindings : p.lib ≡ nothing_heard root (length addresses)
-  pub given : p.labels.given ≡ fecs_given (length addresses) root.0
+  pub bindings : p.lib ≡ nothing_known root (length addresses) life
+  pub given : p.labels.labels ≡ none_given (length addresses)
+  pub given_by : p.labels.me ≡ root.0
   pub uses : p.lfib ≡ []
   pub attached : p.attached.items ≡ []
   pub links_are : AreLinks (record { loopbacks = addresses; ends = links }) root.0 p.links.items
 
-module _ (me : NodeNo) (loopbacks : List ℕ) (ends : List LinkEnds) (p : Parts) (below : me.0 < length loopbacks)
-    (wired : IsWired (record { loopbacks = loopbacks; ends = ends })) (h : IsMade me loopbacks ends p) where
+module _ (me : NodeNo) (loopbacks : List ℕ) (ends : List LinkEnds) (life : ℕ) (p : Parts) (below : me.0 < length loopbacks)
+    (wired : IsWired (record { loopbacks = loopbacks; ends = ends })) (h : IsMade me loopbacks ends life p) where
   here : me.0 < length p.loopbacks.items
   here = subst (λ xs. me.0 < length xs) (sym h.loopbacks) below
 
@@ -198,11 +232,11 @@ module _ (me : NodeNo) (loopbacks : List ℕ) (ends : List LinkEnds) (p : Parts)
   view-is = h.view ∙ ap (λ (xs : List ℕ). let o : Learned = record { nodes = length xs; ends = ends; counts = replicate (length ends) 0 } in
       o) (sym h.loopbacks)
 
-  lib-is : p.lib ≡ nothing_heard me (length p.loopbacks.items)
-  lib-is = h.bindings ∙ ap (λ (xs : List ℕ). nothing_heard me (length xs)) (sym h.loopbacks)
+  lib-is : p.lib ≡ nothing_known me (length p.loopbacks.items) life
+  lib-is = h.bindings ∙ ap (λ (xs : List ℕ). nothing_known me (length xs) life) (sym h.loopbacks)
 
-  given-is : p.labels.given ≡ fecs_given (length p.loopbacks.items) me.0
-  given-is = h.given ∙ ap (λ (xs : List ℕ). fecs_given (length xs) me.0) (sym h.loopbacks)
+  given-is : p.labels.labels ≡ none_given (length p.loopbacks.items)
+  given-is = h.given ∙ ap (λ (xs : List ℕ). none_given (length xs)) (sym h.loopbacks)
 
   mended-is : IsMendedFor (record { loopbacks = p.loopbacks.items; ends = ends })
       (links_up (record { nodes = length p.loopbacks.items; ends = ends; counts = replicate (length ends) 0 })) me.0 p.mended
@@ -221,7 +255,7 @@ module _ (me : NodeNo) (loopbacks : List ℕ) (ends : List LinkEnds) (p : Parts)
   links-are = subst (λ xs. AreLinks (record { loopbacks = xs; ends = ends }) me.0 p.links.items) (sym h.loopbacks) h.links_are
 
   abbrev as_made : Parts
-  as_made = parts me p.loopbacks ends p.mended p.sessions p.labels p.attached p.links here wired-here h.sessions given-is h.attached links-are
+  as_made = parts me p.loopbacks ends p.mended p.sessions p.labels life p.attached p.links here wired-here h.sessions given-is h.given_by h.attached links-are
 
   made-is : p ≡ as_made
   made-is =
@@ -253,14 +287,24 @@ module _ (me : NodeNo) (loopbacks : List ℕ) (ends : List LinkEnds) (p : Parts)
         attached = p.attached;
         links = p.links;
       } in o) view-is
-      ∙ ap (λ (b : Bindings). let o : Parts = record as_made { lib = b; lfib = p.lfib } in o) lib-is
+      ∙ ap (λ (b : Known). let o : Parts = record as_made { lib = b; lfib = p.lfib } in o) lib-is
       ∙ ap (λ (us : List (ℕ × Use)). let o : Parts = record as_made { lfib = us } in o) h.uses
 
   pub made-stands : Stands p
   made-stands =
-      subst Stands (sym made-is) (stands me p.loopbacks ends p.mended p.sessions p.labels p.attached p.links here wired-here h.sessions given-is h.attached links-are mended-is)
+      subst Stands (sym made-is) (stands me p.loopbacks ends p.mended p.sessions p.labels life p.attached p.links here wired-here h.sessions given-is h.given_by h.attached links-are mended-is)
 
-  pub made-node : node_in p ≡ fresh_node (record { loopbacks = loopbacks; ends = ends }) me.0
-  made-node =
-      ap node_in made-is ∙ node-is me p.loopbacks ends p.mended p.sessions p.labels p.attached p.links here wired-here h.sessions given-is h.attached links-are
-      ∙ ap (λ xs. fresh_node (record { loopbacks = xs; ends = ends }) me.0) h.loopbacks
+  pub made-kept : kept_of p ≡ record {
+    node = fresh_node (record { loopbacks = loopbacks; ends = ends }) me.0;
+    labels = none_given (length loopbacks);
+    resting = at_first (length loopbacks) life;
+  }
+  made-kept =
+      let of : Node → Labels → Resting → Kept = λ x y z. record { node = x; labels = y; resting = z } in
+      let node : node_in p ≡ fresh_node (record { loopbacks = loopbacks; ends = ends }) me.0 =
+      ap node_in made-is
+      ∙ node-is me p.loopbacks ends p.mended p.sessions p.labels life p.attached p.links here wired-here h.sessions given-is h.given_by h.attached links-are
+      ∙ ap (λ xs. fresh_node (record { loopbacks = xs; ends = ends }) me.0) h.loopbacks in
+      ap (λ x. of x p.labels.labels p.lib.resting) node
+      ∙ ap (λ y. of (fresh_node (record { loopbacks = loopbacks; ends = ends }) me.0) y p.lib.resting) h.given
+      ∙ ap (λ (k : Known). of (fresh_node (record { loopbacks = loopbacks; ends = ends }) me.0) (none_given (length loopbacks)) k.resting) h.bindings

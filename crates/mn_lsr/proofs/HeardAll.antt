@@ -10,7 +10,7 @@ use Rattle.mn_ldp_session.specs.declared.refusal.SessionBad.{SessionBad}
 use Rattle.mn_ldp_session.specs.declared.session.Session.{Session as Machine}
 use Rattle.mn_ldp_session.specs.Table.{refusal, kind_of, then_state}
 use Rattle.mn_ldp_session.specs.Spelling.{Pdu, message_in}
-use Rattle.mn_node.specs.Node.{Node}
+use Rattle.mn_lsr.specs.Turns.{Kept}
 use Rattle.mn_lsr.specs.declared.parts.Open.{Open}
 use Rattle.mn_lsr.specs.Hearing.{after_message, after_messages, first_refusal, Accepts, AcceptsAll, machine_then}
 use Rattle.mn_lsr.specs.Parts.{machines_of}
@@ -23,20 +23,20 @@ module _ (messages : List LdpMessage) (i : ℕ) (d : LdpMessage) (below : i < le
   seam : drop i messages ≡ slice_index_or messages i d ∷ drop (i + 1) messages
   seam = drop-cons messages i d below ∙ ap (λ k. slice_index_or messages i d ∷ drop k messages) (next i)
 
-  pub said-step : (w : Wiring) (l : ℕ) (n then_n : Node) (out then_out : List Pdu) →
-      then_n ≡ (after_message w l n (message_in w (slice_index_or messages i d).body)).node
-      → then_out ≡ out ++ (after_message w l n (message_in w (slice_index_or messages i d).body)).said →
-      then_out ++ (after_messages w l then_n (drop (i + 1) messages)).said ≡ out ++ (after_messages w l n (drop i messages)).said
-  said-step w l n then_n out then_out e f =
-      ap (λ xs. xs ++ (after_messages w l then_n (drop (i + 1) messages)).said) f
-      ∙ ap (λ m. (out ++ (after_message w l n (message_in w (slice_index_or messages i d).body)).said) ++ (after_messages w l m (drop (i + 1) messages)).said) e
-      ∙ append_assoc out (after_message w l n (message_in w (slice_index_or messages i d).body)).said
-      (after_messages w l (after_message w l n (message_in w (slice_index_or messages i d).body)).node (drop (i + 1) messages)).said
-      ∙ ap (λ ms. out ++ (after_messages w l n ms).said) (sym seam)
+  pub said-step : (w : Wiring) (tick l : ℕ) (n then_n : Kept) (out then_out : List Pdu) →
+      then_n ≡ (after_message w tick l n (message_in w (slice_index_or messages i d).body)).kept
+      → then_out ≡ out ++ (after_message w tick l n (message_in w (slice_index_or messages i d).body)).said →
+      then_out ++ (after_messages w tick l then_n (drop (i + 1) messages)).said ≡ out ++ (after_messages w tick l n (drop i messages)).said
+  said-step w tick l n then_n out then_out e f =
+      ap (λ xs. xs ++ (after_messages w tick l then_n (drop (i + 1) messages)).said) f
+      ∙ ap (λ m. (out ++ (after_message w tick l n (message_in w (slice_index_or messages i d).body)).said) ++ (after_messages w tick l m (drop (i + 1) messages)).said) e
+      ∙ append_assoc out (after_message w tick l n (message_in w (slice_index_or messages i d).body)).said
+      (after_messages w tick l (after_message w tick l n (message_in w (slice_index_or messages i d).body)).kept (drop (i + 1) messages)).said
+      ∙ ap (λ ms. out ++ (after_messages w tick l n ms).said) (sym seam)
 
-  pub node-step : (w : Wiring) (l : ℕ) (n then_n : Node) → then_n ≡ (after_message w l n (message_in w (slice_index_or messages i d).body)).node
-      → (after_messages w l then_n (drop (i + 1) messages)).node ≡ (after_messages w l n (drop i messages)).node
-  node-step w l n then_n e = ap (λ m. (after_messages w l m (drop (i + 1) messages)).node) e ∙ ap (λ ms. (after_messages w l n ms).node) (sym seam)
+  pub node-step : (w : Wiring) (tick l : ℕ) (n then_n : Kept) → then_n ≡ (after_message w tick l n (message_in w (slice_index_or messages i d).body)).kept
+      → (after_messages w tick l then_n (drop (i + 1) messages)).kept ≡ (after_messages w tick l n (drop i messages)).kept
+  node-step w tick l n then_n e = ap (λ m. (after_messages w tick l m (drop (i + 1) messages)).kept) e ∙ ap (λ ms. (after_messages w tick l n ms).kept) (sym seam)
 
   both : (session : Machine) (from : LdpId) → first_refusal session from (slice_index_or messages i d ∷ drop (i + 1) messages) ≡ None
       → (refusal session from (slice_index_or messages i d).body ≡ None)

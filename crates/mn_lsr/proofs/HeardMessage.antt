@@ -1,5 +1,5 @@
 -- A node that hears a message.
-use Rattle.std.proofs.Common.{ℕ, ◌≡◌, ◌≢◌, ◌<◌, ◌^◌, inl, inr, Bool, true, false, List, [], ◌∷◌, ◌++◌, length, refl, arith, sym, ◌∙◌, ap, subst, replicate}
+use Rattle.std.proofs.Common.{ℕ, zero, suc, ◌≡◌, ◌≢◌, ◌≤◌, ◌<◌, ◌^◌, inl, inr, Bool, true, false, List, [], ◌∷◌, ◌++◌, length, refl, arith, sym, ◌∙◌, ap, subst, replicate}
 use Rattle.std.proofs.Common.{Option, Some, None}
 use Rattle.std.specs.Prelude.{◌==◌, ◌||◌, not, nat_le, is_some, slice_index_or, slice_set, option_map, position, if◌then◌else◌, ⊤}
 use Rattle.std.specs.List.{flat_map}
@@ -34,16 +34,22 @@ use Rattle.mn_ldp_session.specs.Table.{kind_of, row, state_after_row, begins}
 use Rattle.mn_ldp_session.specs.Spelling.{node_of, message_in, SpeaksOfNode}
 use Rattle.mn_lsr.specs.declared.parts.Open.{Open}
 use Rattle.mn_lsr.specs.declared.parts.Parts.{Parts}
-use Rattle.mn_lsr.specs.Standing.{labels_in, session_in}
+use Rattle.mn_lsr.specs.Standing.{labels_in, session_in, state_in}
 use Rattle.mn_lsr.specs.Replies.{replied, heard_by}
 use Rattle.mn_lsr.specs.Telling.{said_by_tell, MayTell}
 use Rattle.mn_lsr.specs.Hearing.{machine_then, session_over}
-use Rattle.mn_lsr.specs.Parts.{FitsLabel, IsOwn, machines_of, wiring_in, node_in, Stands}
+use Rattle.mn_lsr.specs.Parts.{FitsLabel, IsOwn, Owes, AtMost, machines_of, wiring_in, node_in, Stands}
 use Rattle.mn_lsr.proofs.Changing.{is_up}
 use Rattle.mn_lsr.proofs.Saying.{at-is}
 use Rattle.mn_lsr.proofs.Sessions.{IsOwnAt, own-at, machine-at, machines-set}
-use Rattle.mn_lsr.proofs.Closing.{only, below, same_row, row-at, operational-at, session-is, one}
-use Rattle.mn_lsr.proofs.After.{Happens}
+use Rattle.mn_labels.specs.Labels.{Labels}
+use Rattle.mn_rest.specs.Rests.{Resting, count_in}
+use Rattle.mn_rest.specs.Rests as rests
+use Rattle.mn_lib.specs.Known.{rested_events}
+use Rattle.mn_lsr.specs.Turns.{rested_by_message, owed_for_said}
+use Rattle.mn_lsr.proofs.Owing.{released-at, released-open}
+use Rattle.mn_lsr.proofs.Closing.{only, below, same_row, row-at, operational-at, session-is, IsOwedThen, far-still, one}
+use Rattle.mn_lsr.proofs.After.{Happens, length-machines}
 
 -- 1. What a body says
 
@@ -182,10 +188,10 @@ module _ (p : Parts) (st : Stands p) (l : ℕ) (there : l < length p.view.ends) 
   far = across (wiring_in p) l p.me.0
 
   abbrev old_row : Option (List (Option ℕ))
-  old_row = row_of p.lib (across (wiring_in p) l p.me.0)
+  old_row = row_of p.lib.bindings (across (wiring_in p) l p.me.0)
 
-  session_there : session_at (node_in p) l ≡ Some (session_in (wiring_in p) p.me.0 p.lib l end)
-  session_there = session-is p st l there at_end ∙ ap (option_map (session_in (wiring_in p) p.me.0 p.lib l)) is
+  session_there : session_at (node_in p) l ≡ Some (session_in (wiring_in p) p.me.0 p.lib.bindings l end)
+  session_there = session-is p st l there at_end ∙ ap (option_map (session_in (wiring_in p) p.me.0 p.lib.bindings l)) is
 
   up-is : is_up (session_at (node_in p) l) ≡ nat_le 2 (count_by end.session.state)
   up-is = ap is_up session_there
@@ -211,16 +217,18 @@ module _ (p : Parts) (st : Stands p) (l : ℕ) (there : l < length p.view.ends) 
   -- the message changes the session and the row to these
   heard : (m : Message) (label : ℕ) (next : LdpState) (es : List LibEvent) (new_row : Option (List (Option ℕ))) (reply : Reply) →
       state_after end.session.state m ≡ next
-      → after_events p.lib es ≡ record p.lib { heard = slice_set p.lib.heard (across (wiring_in p) l p.me.0) new_row }
-      → labels_after (labels_in (length p.loopbacks.items) (row_of p.lib (across (wiring_in p) l p.me.0))) m label ≡ labels_in
+      → after_events p.lib.bindings es ≡ record p.lib.bindings { heard = slice_set p.lib.bindings.heard (across (wiring_in p) l p.me.0) new_row }
+      → labels_after (labels_in (length p.loopbacks.items) (row_of p.lib.bindings (across (wiring_in p) l p.me.0))) m label ≡ labels_in
       (length p.loopbacks.items) new_row
       → is_some new_row ≡ nat_le 2 (count_by next) →
       (nat_le 2 (count_by next) ≡ true → nat_le 2 (count_by end.session.state) ≡ not (opens es (across (wiring_in p) l p.me.0)))
       → ((h : ℕ) → h ≢ across (wiring_in p) l p.me.0 → opens es h ≡ false)
       → said_on l p.me.0 (answer end.session.state m) ≡ said_on l p.me.0 (replied reply) ++ flat_map (said_by_tell (wiring_in p) p.me.0) (releases es)
-      → ((fec : ℕ) → FitsLabel (lib.label_learned new_row fec)) → EventsFit p.lib es
+      → ((fec : ℕ) → FitsLabel (lib.label_learned new_row fec)) → EventsFit p.lib.bindings es → length es ≤ 256
+      → ((tick : ℕ) → rested_events tick p.lib.resting es ≡ rested_by_message tick m (Some end.session.state) (across (wiring_in p) l p.me.0) p.lib.resting)
+      → ((tick : ℕ) → IsOwedThen p st l there at_end tick es (Some (heard_end next)) new_row)
       → Happens p (Hears l m label) p.view.counts es (slice_set p.sessions.items l (Some (heard_end next))) l (replied reply)
-  heard m label next es new_row reply next_is lib_is labels_are up was off answered fit fits =
+  heard m label next es new_row reply next_is lib_is labels_are up was off answered fit fits short rested owes =
       one p st l there at_end (Hears l m label) es (Some (heard_end next)) new_row (replied reply) lib_is
       (ap (λ s. with_session (node_in p) l (option_map (session_after m label) s)) session_there
       ∙ ap (λ s. with_session (node_in p) l (let o : Option Session =
@@ -228,22 +236,46 @@ module _ (p : Parts) (st : Stands p) (l : ℕ) (there : l < length p.view.ends) 
         state = s;
         said = end.said;
         labels =
-            labels_after (labels_in (length p.loopbacks.items) (row_of p.lib (across (wiring_in p) l p.me.0))) m label;
+            labels_after (labels_in (length p.loopbacks.items) (row_of p.lib.bindings (across (wiring_in p) l p.me.0))) m label;
       }) in o)) next_is
       ∙ ap (λ ls. with_session (node_in p) l (let o : Option Session = Some (record { state = next; said = end.said; labels = ls }) in o))
       (labels_are ∙ ap (labels_in (length p.loopbacks.items)) (sym (row-at p st l there at_end new_row))))
-      up (λ on. up-is ∙ was on) off (ap (λ s. said_on l p.me.0 (answer_in s m)) session_there ∙ answered) (own_then next) fit fits
+      up (λ on. up-is ∙ was on) off (ap (λ s. said_on l p.me.0 (answer_in s m)) session_there ∙ answered) (own_then next) fit fits short
+      (λ tick. rested tick ∙ sym (ap (λ s. rested_by_message tick m s (across (wiring_in p) l p.me.0) p.lib.resting) (ap state_in session_there))) owes
+      (λ x. quiet_reply reply x)
+    where
+      quiet_reply : (y : Reply) (x : Resting) → owed_for_said (wiring_in p) p.me.0 x (said_on l p.me.0 (replied y)) ≡ x
+      quiet_reply answer.Nothing x = refl
+      quiet_reply answer.Initialization x = refl
+      quiet_reply answer.Both x = refl
+      quiet_reply answer.KeepAlive x = refl
+      quiet_reply answer.Begins x = refl
+
+  rests_open : is_some (rests.row_of p.lib.resting (across (wiring_in p) l p.me.0)) ≡ is_some old_row
+  rests_open = st.owed.open_is (across (wiring_in p) l p.me.0)
+
+  -- the neighbour owes what it owed
+  same_owed : (next : LdpState) (new_row : Option (List (Option ℕ))) → is_some new_row ≡ is_some old_row → (es : List LibEvent) →
+      ((tick : ℕ) → rested_events tick p.lib.resting es ≡ p.lib.resting) → (tick : ℕ) → IsOwedThen p st l there at_end tick es (Some (heard_end next)) new_row
+  same_owed next new_row same es stays tick = record {
+    rows = ap (λ (x : Resting). length x.owed) (stays tick);
+    others = λ h d. ap (λ x. rests.row_of x h) (stays tick);
+    open_is = ap (λ x. is_some (rests.row_of x (across (wiring_in p) l p.me.0))) (stays tick) ∙ rests_open ∙ sym same;
+    far_owes = subst (λ x. Owes (wiring_in p) p.me.0 x (slice_set p.sessions.items l (Some (heard_end next))) (across (wiring_in p) l p.me.0)) (sym (stays tick))
+        (far-still p st l there at_end p.lib.resting end (heard_end next) is (omega arith) (λ f. omega arith) (λ none. none));
+  }
 
   -- a message before the session is OPERATIONAL changes no row
   before : (m : Message) (label : ℕ) (next : LdpState) (reply : Reply) → state_after end.session.state m ≡ next →
       nat_le 2 (count_by end.session.state) ≡ false → nat_le 2 (count_by next) ≡ false
       → ((labels : List (Option ℕ)) → labels_after labels m label ≡ labels) →
       said_on l p.me.0 (answer end.session.state m) ≡ said_on l p.me.0 (replied reply) ++ []
+      → ((tick : ℕ) → p.lib.resting ≡ rested_by_message tick m (Some end.session.state) (across (wiring_in p) l p.me.0) p.lib.resting)
       → Happens p (Hears l m label) p.view.counts [] (slice_set p.sessions.items l (Some (heard_end next))) l (replied reply)
-  before m label next reply next_is off off_then same answered =
+  before m label next reply next_is off off_then same answered unrested =
       heard m label next [] old_row reply next_is (same_row p st l there at_end) (same (labels_in (length p.loopbacks.items) old_row))
       (open-is ∙ off ∙ sym off_then) (λ on. absurd (clash (sym on ∙ off_then))) (λ h d. refl) answered
-      (λ fec. st.fit (across (wiring_in p) l p.me.0) fec) tt
+      (λ fec. st.fit (across (wiring_in p) l p.me.0) fec) tt (omega arith) unrested (same_owed next old_row refl [] (λ tick. refl))
 
   -- the session begins
   began : (label : ℕ) → end.session.state ≡ OpenRec →
@@ -252,14 +284,33 @@ module _ (p : Parts) (st : Stands p) (l : ℕ) (there : l < length p.view.ends) 
   began label e =
       let off : nat_le 2 (count_by end.session.state) ≡ false = ap (λ s. nat_le 2 (count_by s)) e in
       let row_none : old_row ≡ None = none old_row (open-is ∙ off) in
-      heard KeepAlive label Operational (event.Opened (record { 0 = across (wiring_in p) l p.me.0 }) ∷ []) (Some (replicate (nodes p.lib) None)) answer.Begins
+      heard KeepAlive label Operational (event.Opened (record { 0 = across (wiring_in p) l p.me.0 }) ∷ []) (Some (replicate (nodes p.lib.bindings) None)) answer.Begins
       (ap (λ s. state_after s KeepAlive) e) refl
       (ap (labels_in (length p.loopbacks.items)) row_none ∙ ap (λ k. let o : List (Option ℕ) = replicate k None in o) (sym st.tied.one_each)) refl
       (λ on. off ∙ sym (ap (λ b. not (b || false)) (test_same (across (wiring_in p) l p.me.0))))
       (λ h d. ap (λ b. b || false) (test_other (across (wiring_in p) l p.me.0) h d))
-      (ap (λ s. said_on l p.me.0 (answer s KeepAlive)) e) (λ fec. subst FitsLabel (sym (none_there (nodes p.lib) fec)) tt)
-      ((omega (arith, below p st l there at_end, st.tied.one_each), open-is ∙ off), tt)
+      (ap (λ s. said_on l p.me.0 (answer s KeepAlive)) e) (λ fec. subst FitsLabel (sym (none_there (nodes p.lib.bindings) fec)) tt)
+      ((omega (arith, below p st l there at_end, st.tied.one_each), open-is ∙ off), tt) (omega arith)
+      (λ tick. ap (λ s. rested_by_message tick KeepAlive (let o : Option LdpState = Some s in o) (across (wiring_in p) l p.me.0) p.lib.resting) (sym e))
+      (λ tick. record {
+        rows = length-set p.lib.resting.owed (across (wiring_in p) l p.me.0) _;
+        others = λ h d. get_or-set_other p.lib.resting.owed (across (wiring_in p) l p.me.0) h _ None d;
+        open_is = ap is_some (get_or-set_same p.lib.resting.owed (across (wiring_in p) l p.me.0) (Some (replicate (length p.lib.resting.rested) 0)) None inside);
+        far_owes = AtMost l (heard_end Operational) (only p st l there at_end)
+            (get_or-set_same p.sessions.items l (Some (heard_end Operational)) None (omega (arith, there, st.ends.one_each, length-machines p.sessions.items)))
+            (λ f. subst (λ o. count_in o f ≤ end.said)
+            (sym (get_or-set_same p.lib.resting.owed (across (wiring_in p) l p.me.0) (Some (replicate (length p.lib.resting.rested) 0)) None inside))
+            (subst (λ k. k ≤ end.said) (sym (noughts (length p.lib.resting.rested) f)) (omega arith)));
+      })
     where
+      inside : across (wiring_in p) l p.me.0 < length p.lib.resting.owed
+      inside = omega (arith, below p st l there at_end, st.owed.rows)
+
+      noughts : (k f : ℕ) → slice_index_or (replicate k zero) f zero ≡ zero
+      noughts zero f = refl
+      noughts (suc k) zero = refl
+      noughts (suc k) (suc f) = noughts k f
+
       none : (o : Option (List (Option ℕ))) → is_some o ≡ false → o ≡ None
       none None f = refl
       none (Some labels) f = cc
@@ -268,17 +319,44 @@ module _ (p : Parts) (st : Stands p) (l : ℕ) (there : l < length p.view.ends) 
     on : nat_le 2 (count_by end.session.state) ≡ true
     on = ap (λ s. nat_le 2 (count_by s)) up
 
-    fits_far : (across (wiring_in p) l p.me.0) < nodes p.lib
+    fits_far : (across (wiring_in p) l p.me.0) < nodes p.lib.bindings
     fits_far = omega (arith, below p st l there at_end, st.tied.one_each)
 
     -- a message that says nothing of labels
     idle : (m : Message) (label : ℕ) → state_after Operational m ≡ Operational →
         ((labels : List (Option ℕ)) → labels_after labels m label ≡ labels) → answer Operational m ≡ []
+        → ((tick : ℕ) → p.lib.resting ≡ rested_by_message tick m (Some Operational) (across (wiring_in p) l p.me.0) p.lib.resting)
         → Happens p (Hears l m label) p.view.counts [] (slice_set p.sessions.items l (Some (heard_end Operational))) l (replied answer.Nothing)
-    idle m label stays same quiet =
+    idle m label stays same quiet unrested =
         heard m label Operational [] old_row answer.Nothing (ap (λ s. state_after s m) up ∙ stays) (same_row p st l there at_end)
         (same (labels_in (length p.loopbacks.items) old_row)) (open-is ∙ on) (λ f. on) (λ h d. refl)
-        (ap (λ s. said_on l p.me.0 (answer s m)) up ∙ ap (said_on l p.me.0) quiet) (λ fec. st.fit (across (wiring_in p) l p.me.0) fec) tt
+        (ap (λ s. said_on l p.me.0 (answer s m)) up ∙ ap (said_on l p.me.0) quiet) (λ fec. st.fit (across (wiring_in p) l p.me.0) fec) tt (omega arith)
+        (λ tick. unrested tick
+        ∙ ap (λ s. rested_by_message tick m (let o : Option LdpState = Some s in o) (across (wiring_in p) l p.me.0) p.lib.resting) (sym up))
+        (same_owed Operational old_row refl [] (λ tick. refl))
+
+    -- a Release
+    released : (fec label : ℕ) → fec < length p.loopbacks.items
+        → Happens p (Hears l (Release fec) label) p.view.counts (event.Released (record { 0 = across (wiring_in p) l p.me.0 }) (record { 0 = fec }) ∷ [])
+        (slice_set p.sessions.items l (Some (heard_end Operational))) l (replied answer.Nothing)
+    released fec label fec_below =
+        heard (Release fec) label Operational (event.Released (record { 0 = across (wiring_in p) l p.me.0 }) (record { 0 = fec }) ∷ []) old_row answer.Nothing
+        (ap (λ s. state_after s (Release fec)) up) (same_row p st l there at_end) refl (open-is ∙ on) (λ f. on) (λ h d. refl)
+        (ap (λ s. said_on l p.me.0 (answer s (Release fec))) up) (λ k. st.fit (across (wiring_in p) l p.me.0) k)
+        ((fits_far, open-is ∙ on, omega (arith, fec_below, st.tied.one_each)), tt) (omega arith) (λ tick. refl)
+        (λ tick. record {
+          rows = length-set p.lib.resting.owed (across (wiring_in p) l p.me.0) _;
+          others = λ h d. get_or-set_other p.lib.resting.owed (across (wiring_in p) l p.me.0) h _ None d;
+          open_is = released-open p.lib.resting (across (wiring_in p) l p.me.0) fec tick (across (wiring_in p) l p.me.0) ∙ rests_open;
+          far_owes = far-still p st l there at_end (rests.released p.lib.resting (across (wiring_in p) l p.me.0) fec tick) end (heard_end Operational) is (omega arith)
+              (λ f. released-at p.lib.resting (across (wiring_in p) l p.me.0) fec tick f)
+              (λ none. unowed (rests.row_of (rests.released p.lib.resting (across (wiring_in p) l p.me.0) fec tick) (across (wiring_in p) l p.me.0))
+              (released-open p.lib.resting (across (wiring_in p) l p.me.0) fec tick (across (wiring_in p) l p.me.0) ∙ ap is_some none));
+        })
+      where
+        unowed : (o : Option (List ℕ)) → is_some o ≡ false → o ≡ None
+        unowed None f = refl
+        unowed (Some row) f = cc
 
     mapped : (fec label : ℕ) → fec < length p.loopbacks.items → IsLabel label
         → Happens p (Hears l (Mapping fec) label) p.view.counts (event.Map (record { 0 = across (wiring_in p) l p.me.0 }) (record { 0 = fec }) label ∷ [])
@@ -289,7 +367,9 @@ module _ (p : Parts) (st : Stands p) (l : ℕ) (there : l < length p.view.ends) 
         (labels-with (length p.loopbacks.items) old_row fec (Some label) (open-is ∙ on)) (some-with old_row fec (Some label) ∙ open-is ∙ on) (λ f. on)
         (λ h d. refl) (ap (λ s. said_on l p.me.0 (answer s (Mapping fec))) up)
         (fit-with old_row fec (Some label) (label-small label is_label) (λ k. st.fit (across (wiring_in p) l p.me.0) k))
-        ((fits_far, open-is ∙ on, omega (arith, fec_below, st.tied.one_each)), tt)
+        ((fits_far, open-is ∙ on, omega (arith, fec_below, st.tied.one_each)), tt) (omega arith) (λ tick. refl)
+        (same_owed Operational (with_label old_row fec (Some label)) (some-with old_row fec (Some label))
+        (event.Map (record { 0 = across (wiring_in p) l p.me.0 }) (record { 0 = fec }) label ∷ []) (λ tick. refl))
 
     withdrawn : (fec label : ℕ) → fec < length p.loopbacks.items
         → Happens p (Hears l (Withdraw fec) label) p.view.counts (event.Withdraw (record { 0 = across (wiring_in p) l p.me.0 }) (record { 0 = fec }) ∷ [])
@@ -301,7 +381,9 @@ module _ (p : Parts) (st : Stands p) (l : ℕ) (there : l < length p.view.ends) 
         (ap (λ s. said_on l p.me.0 (answer s (Withdraw fec))) up
         ∙ sym (ap (λ ls. flat_map (λ k. said_on k p.me.0 (Release fec ∷ [])) ls ++ []) (only p st l there at_end)))
         (fit-with old_row fec None tt (λ k. st.fit (across (wiring_in p) l p.me.0) k))
-        ((fits_far, open-is ∙ on, omega (arith, fec_below, st.tied.one_each)), tt)
+        ((fits_far, open-is ∙ on, omega (arith, fec_below, st.tied.one_each)), tt) (omega arith) (λ tick. refl)
+        (same_owed Operational (with_label old_row fec None) (some-with old_row fec None)
+        (event.Withdraw (record { 0 = across (wiring_in p) l p.me.0 }) (record { 0 = fec }) ∷ []) (λ tick. refl))
 
   abbrev IsHearing : Message → ℕ → Reply → LdpState → Type 0
   IsHearing m label reply next =
@@ -314,19 +396,19 @@ module _ (p : Parts) (st : Stands p) (l : ℕ) (there : l < length p.view.ends) 
   by_table Initialized Initialization label e node fits o f reply next g =
       subst (λ (x : Reply × LdpState). IsHearing Initialization label x.0 x.1) (some_same (f ∙ g))
       (before Initialization label OpenRec answer.Both (ap (λ s. state_after s Initialization) e) (ap (λ s. nat_le 2 (count_by s)) e) refl (λ ls. refl)
-      (ap (λ s. said_on l p.me.0 (answer s Initialization)) e))
+      (ap (λ s. said_on l p.me.0 (answer s Initialization)) e) (λ tick. refl))
   by_table OpenSent Initialization label e node fits o f reply next g =
       subst (λ (x : Reply × LdpState). IsHearing Initialization label x.0 x.1) (some_same (f ∙ g))
       (before Initialization label OpenRec answer.KeepAlive (ap (λ s. state_after s Initialization) e) (ap (λ s. nat_le 2 (count_by s)) e) refl (λ ls. refl)
-      (ap (λ s. said_on l p.me.0 (answer s Initialization)) e))
+      (ap (λ s. said_on l p.me.0 (answer s Initialization)) e) (λ tick. refl))
   by_table OpenRec KeepAlive label e node fits o f reply next g =
       subst (λ (x : Reply × LdpState). IsHearing KeepAlive label x.0 x.1) (some_same (f ∙ g)) (began label e)
   by_table Operational KeepAlive label e node fits o f reply next g =
-      subst (λ (x : Reply × LdpState). IsHearing KeepAlive label x.0 x.1) (some_same (f ∙ g)) (idle e KeepAlive label refl (λ ls. refl) refl)
+      subst (λ (x : Reply × LdpState). IsHearing KeepAlive label x.0 x.1) (some_same (f ∙ g)) (idle e KeepAlive label refl (λ ls. refl) refl (λ tick. refl))
   by_table Operational Address label e node fits o f reply next g =
-      subst (λ (x : Reply × LdpState). IsHearing Address label x.0 x.1) (some_same (f ∙ g)) (idle e Address label refl (λ ls. refl) refl)
+      subst (λ (x : Reply × LdpState). IsHearing Address label x.0 x.1) (some_same (f ∙ g)) (idle e Address label refl (λ ls. refl) refl (λ tick. refl))
   by_table Operational (Release fec) label e node fits o f reply next g =
-      subst (λ (x : Reply × LdpState). IsHearing (Release fec) label x.0 x.1) (some_same (f ∙ g)) (idle e (Release fec) label refl (λ ls. refl) refl)
+      subst (λ (x : Reply × LdpState). IsHearing (Release fec) label x.0 x.1) (some_same (f ∙ g)) (released e fec label node)
   by_table Operational (Mapping fec) label e node fits o f reply next g =
       subst (λ (x : Reply × LdpState). IsHearing (Mapping fec) label x.0 x.1) (some_same (f ∙ g)) (mapped e fec label node fits)
   by_table Operational (Withdraw fec) label e node fits o f reply next g =
@@ -339,20 +421,20 @@ module _ (p : Parts) (st : Stands p) (l : ℕ) (there : l < length p.view.ends) 
       by_table end.session.state m label refl meant.node meant.label_fits (row end.session.state (kind_as m)) refl reply next
       (ap (row end.session.state) (sym meant.kind_is) ∙ f)
 
-  pub may_release : (m : Message) (label : ℕ) (began : Bool) → SpeaksOfNode (wiring_in p) m → BringsLabel m label →
-      MayTell (length p.loopbacks.items) label (releases (heard_by (record { 0 = across (wiring_in p) l p.me.0 }) began m label))
-  may_release Initialization label true node fits = tt
-  may_release Initialization label false node fits = tt
-  may_release KeepAlive label true node fits = tt
-  may_release KeepAlive label false node fits = tt
-  may_release Address label true node fits = tt
-  may_release Address label false node fits = tt
-  may_release (Mapping fec) label true node fits = tt
-  may_release (Mapping fec) label false node fits = tt
-  may_release (Withdraw fec) label true node fits = (node, fits, tt)
-  may_release (Withdraw fec) label false node fits = (node, fits, tt)
-  may_release (Release fec) label true node fits = tt
-  may_release (Release fec) label false node fits = tt
+  pub may_release : (m : Message) (label : ℕ) (began : Bool) (labels : Labels) → SpeaksOfNode (wiring_in p) m → BringsLabel m label →
+      MayTell (length p.loopbacks.items) p.me.0 labels label (releases (heard_by (record { 0 = across (wiring_in p) l p.me.0 }) began m label))
+  may_release Initialization label true labels node fits = tt
+  may_release Initialization label false labels node fits = tt
+  may_release KeepAlive label true labels node fits = tt
+  may_release KeepAlive label false labels node fits = tt
+  may_release Address label true labels node fits = tt
+  may_release Address label false labels node fits = tt
+  may_release (Mapping fec) label true labels node fits = tt
+  may_release (Mapping fec) label false labels node fits = tt
+  may_release (Withdraw fec) label true labels node fits = (node, fits, tt)
+  may_release (Withdraw fec) label false labels node fits = (node, fits, tt)
+  may_release (Release fec) label true labels node fits = tt
+  may_release (Release fec) label false labels node fits = tt
 
   -- the same by the state machine that the session has then, and by the events that were made
   pub hearing-as : (body : LdpBody) (m : Message) (label : ℕ) (reply : Reply) (machine : Machine) (to : NodeNo) (es : List LibEvent)
@@ -360,7 +442,7 @@ module _ (p : Parts) (st : Stands p) (l : ℕ) (there : l < length p.view.ends) 
       → row end.session.state (kind_of body) ≡ Some (reply, machine.state) → machine ≡ record end.session { state = machine.state } →
       to.0 ≡ across (wiring_in p) l p.me.0 → es ≡ heard_by to (begins reply) m label
       → ends ≡ slice_set p.sessions.items l (Some (record { session = machine; said = end.said }))
-      → Happens p (Hears l m label) p.view.counts es ends l (replied reply) × MayTell (length p.loopbacks.items) label (releases es)
+      → Happens p (Hears l m label) p.view.counts es ends l (replied reply) × ((labels : Labels) → MayTell (length p.loopbacks.items) p.me.0 labels label (releases es))
   hearing-as body m label reply machine to es ends meant f e g i j =
       let es_are : es ≡ heard_by (record { 0 = across (wiring_in p) l p.me.0 }) (begins reply) m label =
       i ∙ ap (λ k. heard_by (let o : NodeNo = record { 0 = k } in o) (begins reply) m label) g in
@@ -370,8 +452,8 @@ module _ (p : Parts) (st : Stands p) (l : ℕ) (there : l < length p.view.ends) 
             (subst (λ xs. Happens p (Hears l m label) p.view.counts
             (heard_by (record { 0 = across (wiring_in p) l p.me.0 }) (begins reply) m label) xs l (replied reply)) (sym ends_are)
             (hearing body m label reply machine.state meant f)),
-        subst (λ xs. MayTell (length p.loopbacks.items) label (releases xs)) (sym es_are)
-            (may_release m label (begins reply) meant.node meant.label_fits),
+        λ labels. subst (λ xs. MayTell (length p.loopbacks.items) p.me.0 labels label (releases xs)) (sym es_are)
+            (may_release m label (begins reply) labels meant.node meant.label_fits),
       )
 
   -- the state machine then
@@ -389,26 +471,26 @@ module _ (p : Parts) (st : Stands p) (l : ℕ) (there : l < length p.view.ends) 
 
 -- the state machine of a session is that of the node's end
 pub machine-over : (p : Parts) (st : Stands p) (l : ℕ) (session : Session) → session_at (node_in p) l ≡ Some session →
-    slice_index_or (machines_of p.sessions.items) l None ≡ Some (session_over (wiring_in p) l (node_in p) session)
+    slice_index_or (machines_of p.sessions.items) l None ≡ Some (session_over (wiring_in p) l p.me.0 session)
 machine-over p st l session e = by (slice_index_or p.sessions.items l None) refl
   where
-    at : session_at (node_in p) l ≡ option_map (session_in (wiring_in p) p.me.0 p.lib l) (slice_index_or p.sessions.items l None)
-    at = at-is (wiring_in p) p.me.0 p.lib p.sessions.items 0 l l (omega arith)
+    at : session_at (node_in p) l ≡ option_map (session_in (wiring_in p) p.me.0 p.lib.bindings l) (slice_index_or p.sessions.items l None)
+    at = at-is (wiring_in p) p.me.0 p.lib.bindings p.sessions.items 0 l l (omega arith)
 
     by : (o : Option Open) → slice_index_or p.sessions.items l None ≡ o →
-        slice_index_or (machines_of p.sessions.items) l None ≡ Some (session_over (wiring_in p) l (node_in p) session)
-    by None f = absurd (none (sym (at ∙ ap (option_map (session_in (wiring_in p) p.me.0 p.lib l)) f) ∙ e))
+        slice_index_or (machines_of p.sessions.items) l None ≡ Some (session_over (wiring_in p) l p.me.0 session)
+    by None f = absurd (none (sym (at ∙ ap (option_map (session_in (wiring_in p) p.me.0 p.lib.bindings l)) f) ∙ e))
       where
         none : None ≡ Some session → ⊥
         none g = cc
     by (Some end) f =
         let own : IsOwn (wiring_in p) p.me.0 l end.session = (own-at (wiring_in p) p.me.0 p.sessions.items l end st.ends f).0 in
-        let same : session_in (wiring_in p) p.me.0 p.lib l end ≡ session =
-        some_same (sym (at ∙ ap (option_map (session_in (wiring_in p) p.me.0 p.lib l)) f) ∙ e) in
+        let same : session_in (wiring_in p) p.me.0 p.lib.bindings l end ≡ session =
+        some_same (sym (at ∙ ap (option_map (session_in (wiring_in p) p.me.0 p.lib.bindings l)) f) ∙ e) in
         machine-at p.sessions.items l ∙ ap (option_map (λ (x : Open). x.session)) f
         ∙ ap (λ a. let o : Option Machine = Some (record { me = a; peer = end.session.peer; state = end.session.state }) in o) own.me_is
         ∙ ap (λ a. let o : Option Machine = Some (record { me = loopback_of (wiring_in p) p.me.0; peer = a; state = end.session.state }) in o) own.peer_is
-        ∙ ap (λ (s : Session). let o : Option Machine = Some (session_over (wiring_in p) l (node_in p) s) in o) same
+        ∙ ap (λ (s : Session). let o : Option Machine = Some (session_over (wiring_in p) l p.me.0 s) in o) same
 
 pub machine-some : (p : Parts) → Stands p → (l : ℕ) → session_at (node_in p) l ≢ None → slice_index_or (machines_of p.sessions.items) l None ≢ None
 machine-some p st l some none = by (session_at (node_in p) l) refl
@@ -417,5 +499,5 @@ machine-some p st l some none = by (session_at (node_in p) l) refl
     by None e = some e
     by (Some session) e = clash_none (sym none ∙ machine-over p st l session e)
       where
-        clash_none : None ≡ Some (session_over (wiring_in p) l (node_in p) session) → ⊥
+        clash_none : None ≡ Some (session_over (wiring_in p) l p.me.0 session) → ⊥
         clash_none f = cc

@@ -14,7 +14,8 @@ pub mod Tail
 pub mod Opening
 pub mod HeardMessage
 pub mod HeardAll
-pub mod Given
+pub mod Owing
+pub mod Naming
 pub mod Attaching
 pub mod Fresh
 pub mod Ids
@@ -22,3 +23,4 @@ pub mod Inside
 pub mod Wired
 pub mod Mended
 pub mod Opened
+pub mod Followed

@@ -13,7 +13,9 @@ use Rattle.mn_lsr.specs.declared.parts.Parts.{Parts}
 use Rattle.mn_lsr.specs.declared.said.Said.{Said as Spoken}
 use Rattle.mn_lsr.specs.Said.{pdu_of}
 use Rattle.mn_lsr.specs.Standing.{HasNumbers}
-use Rattle.mn_lsr.specs.Parts.{wiring_in, node_in, said_in, one_more, bumped, pdus_by, ends_after, NumbersFit, has_numbers}
+use Rattle.mn_lib.specs.Known.{AreFew}
+use Rattle.mn_lsr.proofs.Owing.{few-owe}
+use Rattle.mn_lsr.specs.Parts.{wiring_in, node_in, Stands, said_in, one_more, bumped, pdus_by, ends_after, NumbersFit, has_numbers}
 use Rattle.mn_lsr.proofs.Saying.{at-is, count-is}
 
 -- 1. A list of which one element is set
@@ -56,15 +58,15 @@ after-fits ends (x ∷ xs) said fit l =
           )) l,
     )
 
-length-pdus : (w : Wiring) (me withdrawn : ℕ) (ends : List (Option Open)) (xs : List Said) → length (pdus_by w me withdrawn ends xs) ≡ length xs
-length-pdus w me withdrawn ends [] = refl
-length-pdus w me withdrawn ends (x ∷ xs) = ap suc (length-pdus w me withdrawn (bumped ends x.link) xs)
+length-pdus : (w : Wiring) (me : ℕ) (own : ℕ → ℕ) (withdrawn : ℕ) (ends : List (Option Open)) (xs : List Said) → length (pdus_by w me own withdrawn ends xs) ≡ length xs
+length-pdus w me own withdrawn ends [] = refl
+length-pdus w me own withdrawn ends (x ∷ xs) = ap suc (length-pdus w me own withdrawn (bumped ends x.link) xs)
 
 -- once these are said
-pub said-fits : (w : Wiring) (me withdrawn : ℕ) (ends then_ends : List (Option Open)) (xs : List Said) (before after_it : List Spoken) →
-    then_ends ≡ ends_after ends xs → map pdu_of after_it ≡ map pdu_of before ++ pdus_by w me withdrawn ends xs →
+pub said-fits : (w : Wiring) (me : ℕ) (own : ℕ → ℕ) (withdrawn : ℕ) (ends then_ends : List (Option Open)) (xs : List Said) (before after_it : List Spoken) →
+    then_ends ≡ ends_after ends xs → map pdu_of after_it ≡ map pdu_of before ++ pdus_by w me own withdrawn ends xs →
     NumbersFit ends (length before) → NumbersFit then_ends (length after_it)
-said-fits w me withdrawn ends then_ends xs before after_it e said fit =
+said-fits w me own withdrawn ends then_ends xs before after_it e said fit =
     subst (λ es. NumbersFit es (length after_it)) (sym e)
     (subst (NumbersFit (ends_after ends xs)) (sym longer) (after-fits ends xs (length before) fit))
   where
@@ -74,8 +76,8 @@ said-fits w me withdrawn ends then_ends xs before after_it e said fit =
       length-map before pdu_of,
       length-map after_it pdu_of,
       ap length said,
-      length-append (map pdu_of before) (pdus_by w me withdrawn ends xs),
-      length-pdus w me withdrawn ends xs,
+      length-append (map pdu_of before) (pdus_by w me own withdrawn ends xs),
+      length-pdus w me own withdrawn ends xs,
     )
 
 -- 3. By the node
@@ -86,8 +88,8 @@ by-ends p said has l =
     omega (
       arith,
       few,
-      ap count_of (at-is (wiring_in p) p.me.0 p.lib p.sessions.items 0 l l (omega arith)),
-      count-is (wiring_in p) p.me.0 p.lib l (slice_index_or p.sessions.items l None),
+      ap count_of (at-is (wiring_in p) p.me.0 p.lib.bindings p.sessions.items 0 l l (omega arith)),
+      count-is (wiring_in p) p.me.0 p.lib.bindings l (slice_index_or p.sessions.items l None),
     )
 
 all-fit : (ends : List (Option Open)) → list_all has_numbers ends ≡ true → NumbersFit ends 0
@@ -101,6 +103,30 @@ all-have p h l =
     omega (
       arith,
       all-fit p.sessions.items h l,
-      ap count_of (at-is (wiring_in p) p.me.0 p.lib p.sessions.items 0 l l (omega arith)),
-      count-is (wiring_in p) p.me.0 p.lib l (slice_index_or p.sessions.items l None),
+      ap count_of (at-is (wiring_in p) p.me.0 p.lib.bindings p.sessions.items 0 l l (omega arith)),
+      count-is (wiring_in p) p.me.0 p.lib.bindings l (slice_index_or p.sessions.items l None),
+    )
+
+-- 4. What is owed
+
+-- no neighbour owes more Releases than was said
+pub few-owed : (p : Parts) → Stands p → (said : ℕ) → NumbersFit p.sessions.items said → AreFew (2 ^ 62 + said) p.lib.resting
+few-owed p st said fit = few-owe (wiring_in p) p.me.0 p.lib.resting p.sessions.items said st.owed.each fit
+
+-- nor once more was said
+pub few-still : (p : Parts) (few more : ℕ) → few ≤ more → AreFew (2 ^ 62 + few) p.lib.resting → AreFew (2 ^ 62 + more) p.lib.resting
+few-still p few more h owed neighbour fec = steps (owed neighbour fec)
+  where
+    steps : {a : ℕ} → a ≤ 2 ^ 62 + few → a ≤ 2 ^ 62 + more
+    steps g = omega (arith, g, h)
+
+pub said-more : (w : Wiring) (me : ℕ) (own : ℕ → ℕ) (withdrawn : ℕ) (ends : List (Option Open)) (xs : List Said) (before after_it : List Spoken) →
+    map pdu_of after_it ≡ map pdu_of before ++ pdus_by w me own withdrawn ends xs → length before ≤ length after_it
+said-more w me own withdrawn ends xs before after_it said =
+    omega (
+      arith,
+      length-map before pdu_of,
+      length-map after_it pdu_of,
+      ap length said,
+      length-append (map pdu_of before) (pdus_by w me own withdrawn ends xs),
     )

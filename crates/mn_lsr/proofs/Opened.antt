@@ -3,7 +3,7 @@ use Rattle.std.proofs.Common.{ℕ, zero, suc, ◌≡◌, true, false, List, [], 
 use Rattle.std.specs.Prelude.{is_some, slice_index_or, slice_set}
 use Rattle.mn_base.specs.declared.numbers.NodeNo.{NodeNo}
 use Rattle.mn_lib.specs.declared.event.LibEvent.{LibEvent}
-use Rattle.mn_lib.specs.declared.event.LibEvent.TheVariants.{Opened, Closed, Map, Withdraw, Next}
+use Rattle.mn_lib.specs.declared.event.LibEvent.TheVariants.{Opened, Closed, Map, Withdraw, Released, Next}
 use Rattle.mn_lib.specs.Bindings.{Bindings, nodes, row_of, label_learned, labelled, usable, usable_by, after_event, after_events, EventsFit}
 use Rattle.mn_lsr.specs.Telling.{opens_one}
 
@@ -35,4 +35,5 @@ usable_opened b (Opened from ∷ x ∷ es) f e fec = cc
 usable_opened b (Closed from ∷ es) f e fec = cc
 usable_opened b (Map from q l ∷ es) f e fec = cc
 usable_opened b (Withdraw from q ∷ es) f e fec = cc
+usable_opened b (Released from q ∷ es) f e fec = cc
 usable_opened b (Next q h ∷ es) f e fec = cc

@@ -1,5 +1,5 @@
 -- A node whose session begins.
-use Rattle.std.proofs.Common.{ℕ, ◌≡◌, ◌<◌, Bool, true, false, List, [], ◌∷◌, ◌++◌, length, refl, sym, ◌∙◌, ap, subst, replicate, Option, Some, None}
+use Rattle.std.proofs.Common.{ℕ, ◌≡◌, ◌<◌, Bool, true, false, List, [], ◌∷◌, ◌++◌, length, refl, arith, sym, ◌∙◌, ap, subst, replicate, Option, Some, None}
 use Rattle.std.specs.Prelude.{nat_le, nat_lt, is_some, slice_set, if◌then◌else◌}
 use Rattle.mn_states.specs.declared.states.LdpState.TheVariants.{Initialized, OpenSent}
 use Rattle.mn_wiring.specs.Wiring.{is_end, across}
@@ -15,7 +15,10 @@ use Rattle.mn_lsr.specs.declared.parts.Open.{Open}
 use Rattle.mn_lsr.specs.declared.parts.Parts.{Parts}
 use Rattle.mn_lsr.specs.Standing.{labels_in}
 use Rattle.mn_lsr.specs.Replies.{replied, first_reply}
-use Rattle.mn_lsr.specs.Parts.{FitsLabel, wiring_in, node_in, Stands}
+use Rattle.mn_rest.specs.Rests.{Resting}
+use Rattle.mn_rest.specs.Rests as rests
+use Rattle.mn_lsr.specs.Turns.{owed_for_said}
+use Rattle.mn_lsr.specs.Parts.{FitsLabel, Nothing, wiring_in, node_in, Stands}
 use Rattle.mn_lsr.proofs.Changing.{is_up}
 use Rattle.mn_lsr.proofs.Closing.{same_row, row-at, operational-at, one}
 use Rattle.mn_lsr.proofs.After.{Happens}
@@ -44,8 +47,8 @@ module _ (p : Parts) (st : Stands p) (l : ℕ) (there : l < length p.view.ends) 
   abbrev end : Open
   end = record { session = opened (loopback_of (wiring_in p) p.me.0) (loopback_of (wiring_in p) (across (wiring_in p) l p.me.0)); said = 0 }
 
-  row_none : row_of p.lib (across (wiring_in p) l p.me.0) ≡ None
-  row_none = none (row_of p.lib (across (wiring_in p) l p.me.0)) (operational-at p st l there at_end ∙ ap is_up closed)
+  row_none : row_of p.lib.bindings (across (wiring_in p) l p.me.0) ≡ None
+  row_none = none (row_of p.lib.bindings (across (wiring_in p) l p.me.0)) (operational-at p st l there at_end ∙ ap is_up closed)
     where
       none : (o : Option (List (Option ℕ))) → is_some o ≡ false → o ≡ None
       none None f = refl
@@ -53,17 +56,33 @@ module _ (p : Parts) (st : Stands p) (l : ℕ) (there : l < length p.view.ends) 
 
   begins : Happens p (Opens l) p.view.counts [] (slice_set p.sessions.items l (Some end)) l (replied (first_reply end.session.state))
   begins =
-      one p st l there at_end (Opens l) [] (Some end) (row_of p.lib (across (wiring_in p) l p.me.0)) (replied (first_reply end.session.state))
+      one p st l there at_end (Opens l) [] (Some end) (row_of p.lib.bindings (across (wiring_in p) l p.me.0)) (replied (first_reply end.session.state))
       (same_row p st l there at_end)
       (ap (λ s. with_session (node_in p) l (let o : Option Session =
       Some (record { state = s; said = 0; labels = replicate (length p.loopbacks.items) None }) in o)) (state-is active)
       ∙ ap (λ r. with_session (node_in p) l (let o : Option Session =
       Some (record { state = if active then OpenSent else Initialized; said = 0; labels = labels_in (length p.loopbacks.items) r }) in o))
-      (sym (row-at p st l there at_end (row_of p.lib (across (wiring_in p) l p.me.0)) ∙ row_none)))
+      (sym (row-at p st l there at_end (row_of p.lib.bindings (across (wiring_in p) l p.me.0)) ∙ row_none)))
       (ap is_some row_none ∙ sym (not_up active)) (λ on. absurd (clash (sym (not_up active) ∙ on))) (λ h d. refl) (first_said l p.me.0 active)
       (λ x e. record { at_end = at_end; me_is = sym (ap (λ (m : Machine). m.me) (same e)); peer_is = sym (ap (λ (m : Machine). m.peer) (same e)) })
-      (λ fec. subst (λ r. FitsLabel (lib.label_learned r fec)) (sym row_none) tt) tt
+      (λ fec. subst (λ r. FitsLabel (lib.label_learned r fec)) (sym row_none) tt) tt (omega arith) (λ tick. refl)
+      (λ tick. record {
+        rows = refl;
+        others = λ h d. refl;
+        open_is = st.owed.open_is (across (wiring_in p) l p.me.0);
+        far_owes = Nothing (unowed (rests.row_of p.lib.resting (across (wiring_in p) l p.me.0))
+            (st.owed.open_is (across (wiring_in p) l p.me.0) ∙ ap is_some row_none));
+      }) (λ r. no_withdraw l p.me.0 active r)
     where
+      unowed : (o : Option (List ℕ)) → is_some o ≡ false → o ≡ None
+      unowed None f = refl
+      unowed (Some row) f = cc
+
+      no_withdraw : (l me : ℕ) (active : Bool) (r : Resting) →
+          owed_for_said (wiring_in p) me r (said_on l me (replied (first_reply (if active then OpenSent else Initialized)))) ≡ r
+      no_withdraw l me true r = refl
+      no_withdraw l me false r = refl
+
       same : {x y : Open} → Some x ≡ Some y → x.session ≡ y.session
       same e = cc
 

@@ -12,6 +12,7 @@ use Rattle.mn_wiring.specs.Wiring.{Wiring}
 use Rattle.mn_lib.specs.declared.event.Tell.{Tell}
 use Rattle.mn_ldp_session.specs.Spelling.{Pdu}
 use Rattle.mn_lib.specs.Bindings.{Bindings}
+use Rattle.mn_labels.specs.Labels.{Labels}
 use Rattle.mn_node.specs.Ldp.{Said, is_by, messages_of}
 use Rattle.mn_node.specs.Node.{Session, Node, session_at}
 use Rattle.mn_node.specs.Machine.{with_count, counted_from, having_said}
@@ -65,14 +66,14 @@ module _ (w : Wiring) (me : ℕ) (lib : Bindings) where
       o) (set-is ends 0 l l (option_map one_more (slice_index_or ends l None)) (omega arith))
 
   -- the PDUs by the ends are the node's
-  pub pdus-by : (withdrawn : ℕ) (learned : List ℕ) (ends : List (Option Open)) (xs : List Said) →
-      pdus_by w me withdrawn ends xs ≡ pdus w withdrawn (with_ends learned ends) xs
-  pdus-by withdrawn learned ends [] = refl
-  pdus-by withdrawn learned ends (x ∷ xs) =
-      ap (λ c. pdu w x.link me withdrawn (c + 1) x.message ∷ pdus_by w me withdrawn (bumped ends x.link) xs)
+  pub pdus-by : (own : ℕ → ℕ) (withdrawn : ℕ) (learned : List ℕ) (ends : List (Option Open)) (xs : List Said) →
+      pdus_by w me own withdrawn ends xs ≡ pdus w own withdrawn (with_ends learned ends) xs
+  pdus-by own withdrawn learned ends [] = refl
+  pdus-by own withdrawn learned ends (x ∷ xs) =
+      ap (λ c. pdu w x.link me own withdrawn (c + 1) x.message ∷ pdus_by w me own withdrawn (bumped ends x.link) xs)
       (sym (ap count_of (at-is ends 0 x.link x.link (omega arith)) ∙ count-is x.link (slice_index_or ends x.link None)))
-      ∙ ap (λ ps. pdu w x.link me withdrawn (count_of (session_at (with_ends learned ends) x.link) + 1) x.message ∷ ps)
-      (pdus-by withdrawn learned (bumped ends x.link) xs ∙ ap (λ n. pdus w withdrawn n xs) (sym (one-is learned ends x.link)))
+      ∙ ap (λ ps. pdu w x.link me own withdrawn (count_of (session_at (with_ends learned ends) x.link) + 1) x.message ∷ ps)
+      (pdus-by own withdrawn learned (bumped ends x.link) xs ∙ ap (λ n. pdus w own withdrawn n xs) (sym (one-is learned ends x.link)))
 
 -- 2. A node that says one message more
 
@@ -161,19 +162,19 @@ pub length-ends_after : (ends : List (Option Open)) (xs : List Said) → length 
 length-ends_after ends [] = refl
 length-ends_after ends (x ∷ xs) = length-ends_after (bumped ends x.link) xs ∙ length-set ends x.link (option_map one_more (slice_index_or ends x.link None))
 
-pub pdus_by-append : (w : Wiring) (me withdrawn : ℕ) (ends : List (Option Open)) (xs ys : List Said)
-    → pdus_by w me withdrawn ends (xs ++ ys) ≡ pdus_by w me withdrawn ends xs ++ pdus_by w me withdrawn (ends_after ends xs) ys
-pdus_by-append w me withdrawn ends [] ys = refl
-pdus_by-append w me withdrawn ends (x ∷ xs) ys =
-    ap (λ ps. pdu w x.link me withdrawn (said_in (slice_index_or ends x.link None) + 1) x.message ∷ ps)
-    (pdus_by-append w me withdrawn (slice_set ends x.link (option_map one_more (slice_index_or ends x.link None))) xs ys)
+pub pdus_by-append : (w : Wiring) (me : ℕ) (own : ℕ → ℕ) (withdrawn : ℕ) (ends : List (Option Open)) (xs ys : List Said)
+    → pdus_by w me own withdrawn ends (xs ++ ys) ≡ pdus_by w me own withdrawn ends xs ++ pdus_by w me own withdrawn (ends_after ends xs) ys
+pdus_by-append w me own withdrawn ends [] ys = refl
+pdus_by-append w me own withdrawn ends (x ∷ xs) ys =
+    ap (λ ps. pdu w x.link me own withdrawn (said_in (slice_index_or ends x.link None) + 1) x.message ∷ ps)
+    (pdus_by-append w me own withdrawn (slice_set ends x.link (option_map one_more (slice_index_or ends x.link None))) xs ys)
 
 pub ends_after-append : (ends : List (Option Open)) (xs ys : List Said) → ends_after ends (xs ++ ys) ≡ ends_after (ends_after ends xs) ys
 ends_after-append ends [] ys = refl
 ends_after-append ends (x ∷ xs) ys = ends_after-append (slice_set ends x.link (option_map one_more (slice_index_or ends x.link None))) xs ys
 
 -- one tell said, and then those after it
-module _ (w : Wiring) (me withdrawn : ℕ) (f : Tell → List Said) (tells : List Tell) (i : ℕ) (d : Tell) (below : i < length tells) where
+module _ (w : Wiring) (me : ℕ) (own : ℕ → ℕ) (withdrawn : ℕ) (f : Tell → List Said) (tells : List Tell) (i : ℕ) (d : Tell) (below : i < length tells) where
   seam : flat_map f (drop i tells) ≡ f (slice_index_or tells i d) ++ flat_map f (drop (i + 1) tells)
   seam = ap (flat_map f) (drop-cons tells i d below) ∙ ap (λ k. f (slice_index_or tells i d) ++ flat_map f (drop k tells)) (next i)
     where
@@ -187,20 +188,20 @@ module _ (w : Wiring) (me withdrawn : ℕ) (f : Tell → List Said) (tells : Lis
       ∙ sym (ends_after-append ends (f (slice_index_or tells i d)) (flat_map f (drop (i + 1) tells))) ∙ ap (ends_after ends) (sym seam)
 
   pub said-one : (out then_out : List Pdu) (ends then_ends : List (Option Open)) → then_ends ≡ ends_after ends (f (slice_index_or tells i d))
-      → then_out ≡ out ++ pdus_by w me withdrawn ends (f (slice_index_or tells i d))
-      → then_out ++ pdus_by w me withdrawn then_ends (flat_map f (drop (i + 1) tells)) ≡ out ++ pdus_by w me withdrawn ends (flat_map f (drop i tells))
+      → then_out ≡ out ++ pdus_by w me own withdrawn ends (f (slice_index_or tells i d))
+      → then_out ++ pdus_by w me own withdrawn then_ends (flat_map f (drop (i + 1) tells)) ≡ out ++ pdus_by w me own withdrawn ends (flat_map f (drop i tells))
   said-one out then_out ends then_ends e o =
-      ap (λ ps. ps ++ pdus_by w me withdrawn then_ends (flat_map f (drop (i + 1) tells))) o
-      ∙ append_assoc out (pdus_by w me withdrawn ends (f (slice_index_or tells i d))) (pdus_by w me withdrawn then_ends (flat_map f (drop (i + 1) tells)))
-      ∙ ap (λ es. out ++ (pdus_by w me withdrawn ends (f (slice_index_or tells i d)) ++ pdus_by w me withdrawn es (flat_map f (drop (i + 1) tells)))) e
-      ∙ ap (λ ps. out ++ ps) (sym (pdus_by-append w me withdrawn ends (f (slice_index_or tells i d)) (flat_map f (drop (i + 1) tells)))
-      ∙ ap (pdus_by w me withdrawn ends) (sym seam))
+      ap (λ ps. ps ++ pdus_by w me own withdrawn then_ends (flat_map f (drop (i + 1) tells))) o
+      ∙ append_assoc out (pdus_by w me own withdrawn ends (f (slice_index_or tells i d))) (pdus_by w me own withdrawn then_ends (flat_map f (drop (i + 1) tells)))
+      ∙ ap (λ es. out ++ (pdus_by w me own withdrawn ends (f (slice_index_or tells i d)) ++ pdus_by w me own withdrawn es (flat_map f (drop (i + 1) tells)))) e
+      ∙ ap (λ ps. out ++ ps) (sym (pdus_by-append w me own withdrawn ends (f (slice_index_or tells i d)) (flat_map f (drop (i + 1) tells)))
+      ∙ ap (pdus_by w me own withdrawn ends) (sym seam))
 
 -- each tell may be told, and then those after it
-pub may-rest : (nodes withdrawn : ℕ) (tells : List Tell) (i : ℕ) (d : Tell) → i < length tells → MayTell nodes withdrawn (drop i tells) →
-    MayTell nodes withdrawn (drop (i + 1) tells)
-may-rest nodes withdrawn tells i d below may =
-    subst (λ k. MayTell nodes withdrawn (drop k tells)) (next i) ((subst (MayTell nodes withdrawn) (drop-cons tells i d below) may).2)
+pub may-rest : (nodes me withdrawn : ℕ) (labels : Labels) (tells : List Tell) (i : ℕ) (d : Tell) → i < length tells →
+    MayTell nodes me labels withdrawn (drop i tells) → MayTell nodes me labels withdrawn (drop (i + 1) tells)
+may-rest nodes me withdrawn labels tells i d below may =
+    subst (λ k. MayTell nodes me labels withdrawn (drop k tells)) (next i) ((subst (MayTell nodes me labels withdrawn) (drop-cons tells i d below) may).2)
   where
     next : (i : ℕ) → suc i ≡ i + 1
     next i = omega arith

@@ -12,8 +12,10 @@ use Rattle.mn_ldp_session.specs.Table.{kind_of, then_state, refusal}
 use Rattle.mn_ldp_session.specs.Spelling.{Pdu, pdus, message_in}
 use Rattle.mn_node.specs.Ldp.{Message}
 use Rattle.mn_node.specs.Node as node
-use Rattle.mn_node.specs.Node.{Node, session_at}
-use Rattle.mn_node.specs.Machine.{Hears, loopback_of, changed, said, after_event}
+use Rattle.mn_node.specs.Node.{session_at}
+use Rattle.mn_node.specs.Machine.{Hears, loopback_of, changed, said}
+use Rattle.mn_labels.specs.Labels.{own_labels}
+use Rattle.mn_lsr.specs.Turns.{Kept, labels_then, kept_then}
 use Rattle.mn_ldp_wire.specs.declared.message.LdpBody.{LdpBody}
 use Rattle.mn_lsr.specs.declared.parts.Open.{Open}
 use Rattle.mn_lsr.specs.declared.refusal.LsrBad.{LsrBad}
@@ -21,7 +23,7 @@ use Rattle.mn_lsr.specs.declared.refusal.LsrBad.TheVariants as bad
 
 -- a node once it has heard something, and what it says then
 pub record Heard : Type 0 where
-  pub node : Node
+  pub kept : Kept
   pub said : List Pdu
 
 -- all messages are tried on the session, in order
@@ -43,21 +45,22 @@ machine_then None body = None
 machine_then (Some end) body = Some (record end.session { state = then_state end.session.state (kind_of body) })
 
 -- a message is heard as one change; one that says nothing to the node is passed over
-abbrev pub after_message : Wiring → ℕ → Node → Option (Message × ℕ) → Heard
-after_message wiring l n None = record { node = n; said = [] }
-after_message wiring l n (Some message) =
+abbrev pub after_message : Wiring → ℕ → ℕ → Kept → Option (Message × ℕ) → Heard
+after_message wiring tick l kept None = record { kept = kept; said = [] }
+after_message wiring tick l kept (Some message) =
     record {
-      node = after_event wiring n (Hears l message.0 message.1);
+      kept = kept_then wiring tick kept (Hears l message.0 message.1);
       said =
-          pdus wiring message.1 (changed wiring n (Hears l message.0 message.1)) (said wiring n (Hears l message.0 message.1));
+          pdus wiring (own_labels kept.node.me (labels_then wiring tick kept (Hears l message.0 message.1))) message.1
+          (changed wiring kept.node (Hears l message.0 message.1)) (said wiring kept.node (Hears l message.0 message.1));
     }
 
-abbrev pub after_messages : Wiring → ℕ → Node → List LdpMessage → Heard
-after_messages wiring l n [] = record { node = n; said = [] }
-after_messages wiring l n (message ∷ messages) =
-    let one : Heard = after_message wiring l n (message_in wiring message.body) in
-    let rest : Heard = after_messages wiring l one.node messages in
-    record { node = rest.node; said = one.said ++ rest.said }
+abbrev pub after_messages : Wiring → ℕ → ℕ → Kept → List LdpMessage → Heard
+after_messages wiring tick l kept [] = record { kept = kept; said = [] }
+after_messages wiring tick l kept (message ∷ messages) =
+    let one : Heard = after_message wiring tick l kept (message_in wiring message.body) in
+    let rest : Heard = after_messages wiring tick l one.kept messages in
+    record { kept = rest.kept; said = one.said ++ rest.said }
 
 -- the session accepts these messages, one after the other
 abbrev pub AcceptsAll : Option Session → LdpId → List LdpMessage → Type 0
@@ -65,22 +68,23 @@ AcceptsAll None from messages = ⊥
 AcceptsAll (Some session) from messages = first_refusal session from messages ≡ None
 
 -- none of the messages of a PDU is heard where one is refused
-abbrev pub after_tried : Wiring → ℕ → Node → PduContents → Option SessionBad → Result Heard LsrBad
-after_tried wiring l n pdu (Some why) = Err (bad.Session why)
-after_tried wiring l n pdu None = Ok (after_messages wiring l n pdu.messages)
+abbrev pub after_tried : Wiring → ℕ → ℕ → Kept → PduContents → Option SessionBad → Result Heard LsrBad
+after_tried wiring tick l kept pdu (Some why) = Err (bad.Session why)
+after_tried wiring tick l kept pdu None = Ok (after_messages wiring tick l kept pdu.messages)
 
-abbrev pub after_read : Wiring → ℕ → Node → Session → Result PduContents WireBad → Result Heard LsrBad
-after_read wiring l n session (Err why) = Err (bad.Wire why)
-after_read wiring l n session (Ok pdu) = after_tried wiring l n pdu (first_refusal session pdu.from pdu.messages)
+abbrev pub after_read : Wiring → ℕ → ℕ → Kept → Session → Result PduContents WireBad → Result Heard LsrBad
+after_read wiring tick l kept session (Err why) = Err (bad.Wire why)
+after_read wiring tick l kept session (Ok pdu) = after_tried wiring tick l kept pdu (first_refusal session pdu.from pdu.messages)
 
 -- the bytes are read as a PDU, and its messages are tried and heard
-abbrev pub after_pdu : Wiring → ℕ → Node → Option Session → List ℕ → Result Heard LsrBad
-after_pdu wiring l n None bytes = Err bad.NoMemory
-after_pdu wiring l n (Some session) bytes = after_read wiring l n session (pdu_of bytes)
+abbrev pub after_pdu : Wiring → ℕ → ℕ → Kept → Option Session → List ℕ → Result Heard LsrBad
+after_pdu wiring tick l kept None bytes = Err bad.NoMemory
+after_pdu wiring tick l kept (Some session) bytes = after_read wiring tick l kept session (pdu_of bytes)
 
 -- the session of a link, as the node's end of it tells
-abbrev pub session_over : Wiring → ℕ → Node → node.Session → Session
-session_over wiring l n session = record { me = loopback_of wiring n.me; peer = loopback_of wiring (across wiring l n.me); state = session.state }
+abbrev pub session_over : Wiring → ℕ → ℕ → node.Session → Session
+session_over wiring l me session = record { me = loopback_of wiring me; peer = loopback_of wiring (across wiring l me); state = session.state }
 
-abbrev pub after_bytes : Wiring → ℕ → Node → node.Session → List ℕ → Result Heard LsrBad
-after_bytes wiring l n session bytes = after_read wiring l n (session_over wiring l n session) (pdu_of bytes)
+-- at this tick
+abbrev pub after_bytes : Wiring → ℕ → ℕ → Kept → node.Session → List ℕ → Result Heard LsrBad
+after_bytes wiring tick l kept session bytes = after_read wiring tick l kept (session_over wiring l kept.node.me session) (pdu_of bytes)

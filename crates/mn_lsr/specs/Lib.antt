@@ -8,3 +8,4 @@ pub mod Replies
 pub mod Hearing
 pub mod Inside
 pub mod InNetwork
+pub mod Turns

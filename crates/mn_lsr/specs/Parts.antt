@@ -1,26 +1,29 @@
 -- The parts of a node, what contracts see of them, and how they hang together.
-use Rattle.std.specs.Prelude.{◌≡◌, ◌≢◌, ◌<◌, ◌≤◌, ◌^◌, ℕ, ◌+◌, ◌==◌, ◌||◌, Bool, true, false, if◌then◌else◌, List, [], ◌∷◌, length, map, slice_index_or}
+use Rattle.std.specs.Prelude.{◌≡◌, ◌≢◌, ◌<◌, ◌≤◌, ◌^◌, ℕ, ◌+◌, ◌==◌, ◌||◌, ◌&&◌, is_some, Bool, true, false, if◌then◌else◌, List, [], ◌∷◌, length, map, slice_index_or}
 use Rattle.std.specs.Prelude.{slice_set, Option, Some, None, option_map, nat_le, ⊤}
 use Rattle.std.specs.List.{flat_map, range_with_len}
-use Rattle.mn_base.specs.Limits.{most_labels}
 use Rattle.mn_base.specs.declared.numbers.NodeNo.{NodeNo}
-use Rattle.mn_wiring.specs.Wiring.{Wiring, is_end, across, JoinsNodes}
+use Rattle.mn_wiring.specs.Wiring.{Wiring, is_end, across, joining, JoinsNodes}
 use Rattle.mn_linkdb.specs.Learned.{links_up, IsView}
 use Rattle.mn_linkdb.specs.PathTable.{PathTable, next_at}
-use Rattle.mn_labels.specs.Labels.{meaning_of}
-use Rattle.mn_lfib.specs.Uses.{use_of, fec_use, IsNextHop}
+use Rattle.mn_labels.specs.Labels.{Labels, LabelTable, label_now, meaning_of, IsTold}
+use Rattle.mn_rest.specs.Rests.{Resting, row_of, count_in}
+use Rattle.mn_lfib.specs.Uses.{use_of, IsNextHop}
 use Rattle.mn_lib.specs.declared.event.LibEvent.{LibEvent}
 use Rattle.mn_lib.specs.declared.event.LibEvent.TheVariants as event
 use Rattle.mn_lib.specs.Bindings as lib
-use Rattle.mn_lib.specs.Tells.{tells}
+use Rattle.mn_lib.specs.Tells.{releases}
+use Rattle.mn_lib.specs.Bindings.{Bindings}
+use Rattle.mn_lib.specs.Known.{Known, is_free}
 use Rattle.mn_node.specs.Ldp.{Said}
-use Rattle.mn_node.specs.Node.{Node, label_of}
+use Rattle.mn_node.specs.Node.{Node}
 use Rattle.mn_node.specs.Machine.{loopback_of}
 use Rattle.mn_ldp_session.specs.declared.session.Session.{Session}
 use Rattle.mn_ldp_session.specs.Spelling.{Pdu, pdu}
 use Rattle.mn_lsr.specs.declared.parts.Open.{Open}
 use Rattle.mn_lsr.specs.declared.parts.Parts.{Parts}
-use Rattle.mn_lsr.specs.Standing.{IsWired, IsMendedFor, AreGiven, IsUseOf, sessions_from, attachments}
+use Rattle.mn_lsr.specs.Standing.{IsWired, IsMendedFor, IsUseOf, IsAttachment, sessions_from, attachments}
+use Rattle.mn_lsr.specs.Turns.{Kept}
 use Rattle.mn_lsr.specs.Telling.{MayTell, AreLinks}
 use Rattle.mn_lsr.specs.Ties.{AreTied}
 
@@ -28,7 +31,10 @@ abbrev pub wiring_in : Parts → Wiring
 wiring_in p = record { loopbacks = p.loopbacks.items; ends = p.view.ends }
 
 abbrev pub node_in : Parts → Node
-node_in p = record { me = p.me.0; learned = p.view.counts; sessions = sessions_from (wiring_in p) p.me.0 p.lib 0 p.sessions.items }
+node_in p = record { me = p.me.0; learned = p.view.counts; sessions = sessions_from (wiring_in p) p.me.0 p.lib.bindings 0 p.sessions.items }
+
+abbrev pub kept_of : Parts → Kept
+kept_of p = record { node = node_in p; labels = p.labels.labels; resting = p.lib.resting }
 
 -- a label has 20 bits
 abbrev pub FitsLabel : Option ℕ → Type 0
@@ -49,6 +55,24 @@ pub record AreOwn (wiring : Wiring) (me : ℕ) (sessions : List (Option Session)
   pub one_each : length sessions ≡ length wiring.ends
   pub own : (l : ℕ) (session : Session) → slice_index_or sessions l None ≡ Some session → IsOwn wiring me l session
 
+-- each FEC that the node offers has a label, but its own, and no label means two things
+pub record HaveLabels (me nodes : ℕ) (bindings : Bindings) (table : LabelTable) : Type 0 where
+  pub me_is : table.me ≡ me
+  pub long : length table.labels.fecs ≡ nodes
+  pub told : IsTold table.labels
+  pub had : (fec : ℕ) → fec < nodes → fec ≢ me → lib.offers bindings fec ≡ true → is_some (label_now table.labels fec) ≡ true
+
+-- what a neighbour owes: nothing where its session isn't open, and of each FEC no more Releases than messages were said in it
+pub data Owes (wiring : Wiring) (me : ℕ) (resting : Resting) (ends : List (Option Open)) (neighbour : ℕ) : Type 0 where
+  Nothing : row_of resting neighbour ≡ None → Owes wiring me resting ends neighbour
+  AtMost : (l : ℕ) → (end : Open) → joining wiring me neighbour ≡ l ∷ [] → slice_index_or ends l None ≡ Some end →
+      ((fec : ℕ) → count_in (row_of resting neighbour) fec ≤ end.said) → Owes wiring me resting ends neighbour
+
+pub record AreOwed (wiring : Wiring) (me : ℕ) (known : Known) (ends : List (Option Open)) : Type 0 where
+  pub rows : length known.resting.owed ≡ length wiring.loopbacks
+  pub open_is : (neighbour : ℕ) → is_some (row_of known.resting neighbour) ≡ lib.is_open known.bindings neighbour
+  pub each : (neighbour : ℕ) → Owes wiring me known.resting ends neighbour
+
 pub record Stands (p : Parts) : Type 0 where
   pub view : IsView p.view
   pub nodes : p.view.nodes ≡ length p.loopbacks.items
@@ -56,14 +80,19 @@ pub record Stands (p : Parts) : Type 0 where
   pub wired : IsWired (wiring_in p)
   pub mended : IsMendedFor (wiring_in p) (links_up p.view) p.me.0 p.mended
   pub ends : AreOwn (wiring_in p) p.me.0 (machines_of p.sessions.items)
-  pub rows : length p.lib.heard ≡ length p.loopbacks.items
-  pub tied : AreTied (wiring_in p) (node_in p) p.lib
-  pub fit : (neighbour fec : ℕ) → FitsLabel (lib.label_learned (lib.row_of p.lib neighbour) fec)
-  pub given : AreGiven (length p.loopbacks.items) p.me.0 p.labels.given
-  pub few : length p.labels.given ≤ most_labels
-  pub attached : (site : ℕ) → slice_index_or p.attached.items site 0 ≡ attachments site p.labels.given
+  pub rows : length p.lib.bindings.heard ≡ length p.loopbacks.items
+  pub tied : AreTied (wiring_in p) (node_in p) p.lib.bindings
+  pub fit : (neighbour fec : ℕ) → FitsLabel (lib.label_learned (lib.row_of p.lib.bindings neighbour) fec)
+  pub labels : HaveLabels p.me.0 (length p.loopbacks.items) p.lib.bindings p.labels
+  pub owed : AreOwed (wiring_in p) p.me.0 p.lib p.sessions.items
+  pub attached : (site : ℕ) → slice_index_or p.attached.items site 0 ≡ attachments site p.labels.labels.given
   pub links : AreLinks (wiring_in p) p.me.0 p.links.items
-  pub table : (label : ℕ) → IsUseOf (lib.usable p.lib) (meaning_of p.labels.given label) (use_of p.lfib label)
+  pub table : (label : ℕ) → IsUseOf (lib.usable p.lib.bindings) (meaning_of p.labels.labels label) (use_of p.lfib label)
+
+-- attachments' labels mean what they meant, and are used as before
+abbrev pub SitesStay : Parts → Parts → Type 0
+SitesStay p q = (label : ℕ) → IsAttachment (meaning_of p.labels.labels label) →
+    (meaning_of q.labels.labels label ≡ meaning_of p.labels.labels label) × (use_of q.lfib label ≡ use_of p.lfib label)
 
 -- how much was said on a link, by its end
 abbrev pub said_in : Option Open → ℕ
@@ -93,11 +122,14 @@ pub record MayFollow (p : Parts) (withdrawn : ℕ) (events : List LibEvent) : Ty
   pub links : AreLinks (wiring_in p) p.me.0 p.links.items
   pub one_each : length p.sessions.items ≡ length p.view.ends
   pub view_nodes : p.view.nodes ≡ length p.loopbacks.items
-  pub lib_nodes : lib.nodes p.lib ≡ length p.loopbacks.items
-  pub fit : lib.EventsFit p.lib events
-  pub may : MayTell (length p.loopbacks.items) withdrawn (tells p.lib events)
-  pub ways : (fec : ℕ) → fec < length p.loopbacks.items → fec ≢ p.me.0 → use_of p.lfib (label_of p.me.0 fec) ≡ fec_use (lib.usable p.lib fec)
-  pub next : (fec : ℕ) → IsNextHop (lib.usable (lib.after_events p.lib events) fec)
+  pub lib_nodes : lib.nodes p.lib.bindings ≡ length p.loopbacks.items
+  pub lib_me : p.lib.bindings.me.0 ≡ p.me.0
+  pub fit : lib.EventsFit p.lib.bindings events
+  pub short : length events ≤ 256
+  pub labels : HaveLabels p.me.0 (length p.loopbacks.items) p.lib.bindings p.labels
+  pub may : (labels : Labels) → MayTell (length p.loopbacks.items) p.me.0 labels withdrawn (releases events)
+  pub table : (label : ℕ) → IsUseOf (lib.usable p.lib.bindings) (meaning_of p.labels.labels label) (use_of p.lfib label)
+  pub next : (fec : ℕ) → IsNextHop (lib.usable (lib.after_events p.lib.bindings events) fec)
 
 abbrev pub same_hop : Option NodeNo → Option NodeNo → Bool
 same_hop None None = true
@@ -123,11 +155,15 @@ abbrev pub bumped : List (Option Open) → ℕ → List (Option Open)
 bumped ends l = slice_set ends l (option_map one_more (slice_index_or ends l None))
 
 -- what is said, with ids from the ends, and the ends then
-abbrev pub pdus_by : Wiring → ℕ → ℕ → List (Option Open) → List Said → List Pdu
-pdus_by wiring me withdrawn ends [] = []
-pdus_by wiring me withdrawn ends (said ∷ sayings) =
-    pdu wiring said.link me withdrawn (said_in (slice_index_or ends said.link None) + 1) said.message
-    ∷ pdus_by wiring me withdrawn (bumped ends said.link) sayings
+abbrev pub pdus_by : Wiring → ℕ → (ℕ → ℕ) → ℕ → List (Option Open) → List Said → List Pdu
+pdus_by wiring me own withdrawn ends [] = []
+pdus_by wiring me own withdrawn ends (said ∷ sayings) =
+    pdu wiring said.link me own withdrawn (said_in (slice_index_or ends said.link None) + 1) said.message
+    ∷ pdus_by wiring me own withdrawn (bumped ends said.link) sayings
+
+-- a FEC with a label that may be another's
+abbrev pub free_of : Known → Labels → ℕ → ℕ → List ℕ
+free_of known labels tick fec = if is_some (label_now labels fec) && is_free known tick fec then fec ∷ [] else []
 
 abbrev pub ends_after : List (Option Open) → List Said → List (Option Open)
 ends_after ends [] = ends

@@ -1,7 +1,6 @@
 -- What contracts see of one node's transport.
-use Rattle.std.specs.Prelude.{◌==◌, if◌then◌else◌, ◌≡◌, ◌≢◌, ◌<◌, ◌≤◌, ◌^◌, ℕ, ◌+◌, Bool, false, not, List, [], ◌∷◌, length, map, filter, replicate}
+use Rattle.std.specs.Prelude.{◌==◌, if◌then◌else◌, ◌≡◌, ◌<◌, ◌≤◌, ◌^◌, ℕ, ◌+◌, Bool, false, List, [], ◌∷◌, length, filter, replicate}
 use Rattle.std.specs.Prelude.{slice_index_or, Option, Some, None, option_map, ⊤}
-use Rattle.std.specs.List.{range_with_len}
 use Rattle.mn_wiring.specs.Wiring.{Wiring, View, across, JoinsNodes, EndsDiffer, JoinsOnce}
 use Rattle.mn_base.specs.declared.numbers.NodeNo.{NodeNo}
 use Rattle.mn_base.specs.declared.numbers.SiteNo.{SiteNo}
@@ -9,22 +8,26 @@ use Rattle.mn_states.specs.declared.states.LdpState.{LdpState}
 use Rattle.mn_linkdb.specs.Network.{IsNetwork}
 use Rattle.mn_labels.specs.declared.meaning.Bind.{Bind}
 use Rattle.mn_labels.specs.declared.meaning.Bind.TheVariants.{Fec, Site}
-use Rattle.mn_labels.specs.Labels.{LabelTable, meaning_of}
+use Rattle.mn_labels.specs.declared.meaning.Given.{Given}
+use Rattle.mn_labels.specs.Labels.{Labels, meaning_of}
+use Rattle.mn_rest.specs.Rests.{Resting}
 use Rattle.mn_lfib.specs.declared.answer.Use.{Use}
 use Rattle.mn_lfib.specs.declared.answer.Use.TheVariants as use_kind
 use Rattle.mn_lfib.specs.Uses.{use_of, fec_use}
 use Rattle.mn_lib.specs.Bindings.{Bindings, row_of}
 use Rattle.mn_node.specs.Ldp.{usable_by}
-use Rattle.mn_node.specs.Node.{Session, Node, session_at, knowledge_in, label_of}
+use Rattle.mn_node.specs.Node.{Session, Node, session_at, knowledge_in}
 use Rattle.mn_ldp_session.specs.Spelling.{AreSpelled, count_of}
 use Rattle.mn_spf_inc.specs.Mended.{Mended, IsOver}
 use Rattle.mn_lsr.specs.declared.parts.Open.{Open}
 
--- the network around it, what it keeps, the labels that it gave, what they are used for, and whether it has wanted memory
+-- the network around it, what it keeps, the labels that it gave, since when its FECs are at rest, what labels are used for, and
+-- whether it has wanted memory
 pub record Standing : Type 0 where
   pub wiring : Wiring
   pub node : Node
-  pub given : LabelTable
+  pub labels : Labels
+  pub resting : Resting
   pub uses : List (ℕ × Use)
   pub failed : Bool
 
@@ -76,22 +79,13 @@ pub record IsWired (wiring : Wiring) : Type 0 where
   pub once : JoinsOnce wiring
   pub spelled : AreSpelled wiring
 
--- the FEC of each other node has its label, and no other label is a FEC's
-pub record AreGiven (nodes me : ℕ) (given : List Bind) : Type 0 where
-  pub each : (fec : ℕ) → fec < nodes → fec ≢ me → meaning_of given (label_of me fec) ≡ Some (Fec (record { 0 = fec }))
-  pub only : (label : ℕ) (fec : NodeNo) → meaning_of given label ≡ Some (Fec fec) → (fec.0 < nodes) × (fec.0 ≢ me) × (label ≡ label_of me fec.0)
-
--- the FECs of the other nodes, in node order, to which labels are given first
-abbrev pub fecs_given : ℕ → ℕ → List Bind
-fecs_given nodes me = map (λ node. Fec (record { 0 = node })) (filter (λ node. not (node == me)) (range_with_len 0 nodes))
-
 abbrev pub is_of : ℕ → Bind → Bool
 is_of site (Fec fec) = false
 is_of site (Site other attachment) = other.0 == site
 
 -- how often a site was attached
-abbrev pub attachments : ℕ → List Bind → ℕ
-attachments site given = length (filter (is_of site) given)
+abbrev pub attachments : ℕ → List Given → ℕ
+attachments site given = length (filter (λ giving. is_of site giving.what) given)
 
 -- a label was given for an attachment
 abbrev pub IsAttachment : Option Bind → Type 0
@@ -106,7 +100,7 @@ IsSiteUse site (Some (use_kind.Fec next_hop label)) = ⊥
 IsSiteUse site (Some (use_kind.Site there)) = there ≡ site
 IsSiteUse site (Some use_kind.Ended) = ⊤
 
--- RFC 3031, section 3.11: what a label is used for that was given so, where `way` leads to each FEC
+-- RFC 3031, section 3.11: what a label is used for that means this, where `way` leads to each FEC
 abbrev pub IsUseOf : (ℕ → Option (NodeNo × ℕ)) → Option Bind → Option Use → Type 0
 IsUseOf way None used = used ≡ None
 IsUseOf way (Some (Fec fec)) used = used ≡ fec_use (way fec.0)
@@ -115,11 +109,11 @@ IsUseOf way (Some (Site site attachment)) used = IsSiteUse site used
 -- A FEC's label is used for the way there exactly where there is one, an attachment's for its site or as one that has ended, and
 -- no other label has a use.
 abbrev pub TableStands : Standing → Type 0
-TableStands standing = (label : ℕ) → IsUseOf (way_to standing.wiring standing.node) (meaning_of standing.given.given label) (use_of standing.uses label)
+TableStands standing = (label : ℕ) → IsUseOf (way_to standing.wiring standing.node) (meaning_of standing.labels label) (use_of standing.uses label)
 
 -- the labels of attachments are used as before
 abbrev pub SitesKeep : Standing → Standing → Type 0
-SitesKeep before after = (label : ℕ) → IsAttachment (meaning_of before.given.given label) → use_of after.uses label ≡ use_of before.uses label
+SitesKeep before after = (label : ℕ) → IsAttachment (meaning_of before.labels label) → use_of after.uses label ≡ use_of before.uses label
 
 -- the state of a session, where there is one
 abbrev pub state_in : Option Session → Option LdpState

@@ -6,6 +6,8 @@ use Rattle.mn_base.specs.declared.numbers.LinkNo.{LinkNo}
 use Rattle.mn_wiring.specs.Wiring.{Wiring, joining}
 use Rattle.mn_wiring.specs.declared.links.LinkEnds.{LinkEnds}
 use Rattle.mn_ldp_wire.specs.Grammar.{IsLabel}
+use Rattle.mn_labels.specs.Labels.{Labels}
+use Rattle.mn_lsr.specs.Message.{HasOne}
 use Rattle.mn_node.specs.Ldp.{Message, Mapping, Withdraw, Release, Said, said_on}
 use Rattle.mn_lib.specs.declared.event.LibEvent.{LibEvent}
 use Rattle.mn_lib.specs.declared.event.LibEvent.TheVariants as event
@@ -38,13 +40,14 @@ abbrev pub opens_one : List LibEvent → Bool
 opens_one (event.Opened from ∷ []) = true
 opens_one _ = false
 
--- a Release brings a lawful label
-abbrev pub MayBring : ℕ → TellKind → Type 0
-MayBring withdrawn tells.Release = IsLabel withdrawn
-MayBring withdrawn tells.Map = ⊤
-MayBring withdrawn tells.Withdraw = ⊤
+-- a Release brings a lawful label, and what maps or withdraws a FEC the one that it has
+abbrev pub MayBring : ℕ → Labels → ℕ → TellKind → ℕ → Type 0
+MayBring me labels withdrawn tells.Release fec = IsLabel withdrawn
+MayBring me labels withdrawn tells.Map fec = HasOne me labels fec
+MayBring me labels withdrawn tells.Withdraw fec = HasOne me labels fec
 
 -- each tell is of one of these nodes' FECs
-abbrev pub MayTell : ℕ → ℕ → List Tell → Type 0
-MayTell nodes withdrawn [] = ⊤
-MayTell nodes withdrawn (tell ∷ rest) = (tell.fec.0 < nodes) × MayBring withdrawn tell.kind × MayTell nodes withdrawn rest
+abbrev pub MayTell : ℕ → ℕ → Labels → ℕ → List Tell → Type 0
+MayTell nodes me labels withdrawn [] = ⊤
+MayTell nodes me labels withdrawn (tell ∷ rest) =
+    (tell.fec.0 < nodes) × MayBring me labels withdrawn tell.kind tell.fec.0 × MayTell nodes me labels withdrawn rest

@@ -1,16 +1,15 @@
 ghost use Rattle.std.specs.Prelude.{◌≡◌, ◌≢◌, ◌≤◌, ◌<◌, ◌++◌, [], ℕ, List, All, None, Some, Ok, Err, length, map, slice_index_or, OnOk, IfOk, IfErr, MatchResult, option_map};
 ghost use Rattle.std.specs.Option.{option_to_list};
 ghost use Rattle.mn_ldp_wire.specs.Grammar.{IsLawful};
-ghost use Rattle.mn_node.specs.Node.{label_of, session_at};
+ghost use Rattle.mn_node.specs.Node.{session_at};
 ghost use Rattle.mn_node.specs.Node as node;
-ghost use Rattle.mn_lfib.specs.Uses.{use_of};
 ghost use Rattle.mn_ldp_session.specs.Spelling.{message_in};
 ghost use Rattle.mn_lsr.specs.Said.{pdu_of};
 ghost use Rattle.mn_lsr.specs.Message.{meaning, meant};
 ghost use Rattle.mn_lsr.specs.Replies.{heard_by};
 ghost use Rattle.mn_lsr.specs.Hearing.{after_message, after_messages, after_pdu, after_bytes, first_refusal, Accepts, AcceptsAll, machine_then};
 ghost use Rattle.mn_lsr.specs.Standing.{HasNumbers};
-ghost use Rattle.mn_lsr.specs.Parts.{wiring_in, node_in, machines_of, NumbersFit, Stands};
+ghost use Rattle.mn_lsr.specs.Parts.{wiring_in, node_in, kept_of, SitesStay, machines_of, NumbersFit, Stands};
 
 use crate::message::{Message, node_of};
 use crate::parts::{Open, Parts};
@@ -61,6 +60,7 @@ fn event_of(far: NodeNo, began: bool, message: Message, label: u32) -> Option<Li
         }
         Message::Mapping(fec) => Some(LibEvent::Map(far, fec, label)),
         Message::Withdraw(fec) => Some(LibEvent::Withdraw(far, fec)),
+        Message::Release(fec) => Some(LibEvent::Released(far, fec)),
         _ => None,
     }
 }
@@ -74,6 +74,7 @@ impl Parts {
         from: LdpId,
         message: &LdpMessage,
         heard: (Message, u32),
+        tick: u64,
         out: &mut Vec<Said>,
     ) -> Result<(), AllocError>
         requires stands { Stands self.old }
@@ -83,13 +84,12 @@ impl Parts {
         requires meant { message_in (wiring_in self.old) message.now.body ≡ Some (meant heard) }
         requires numbers { NumbersFit self.old.sessions.items (length out.old.items) }
         ensures stands { OnOk result (Stands self.new) }
-        ensures node { OnOk result (node_in self.new ≡ (after_message (wiring_in self.old) link.0 (node_in self.old) (Some (meant heard))).node) }
-        ensures said { OnOk result (map pdu_of out.new.items ≡ map pdu_of out.old.items ++ (after_message (wiring_in self.old) link.0 (node_in self.old) (Some (meant heard))).said) }
+        ensures kept { OnOk result (kept_of self.new ≡ (after_message (wiring_in self.old) tick link.0 (kept_of self.old) (Some (meant heard))).kept) }
+        ensures said { OnOk result (map pdu_of out.new.items ≡ map pdu_of out.old.items ++ (after_message (wiring_in self.old) tick link.0 (kept_of self.old) (Some (meant heard))).said) }
         ensures machine { OnOk result (slice_index_or (machines_of self.new.sessions.items) link.0 None ≡ machine_then (slice_index_or self.old.sessions.items link.0 None) message.now.body) }
-        ensures uses { OnOk result ((label : ℕ) → ((fec : ℕ) → fec < length self.old.loopbacks.items → fec ≢ self.old.me.0 → label ≢ label_of self.old.me.0 fec) →
-            use_of self.new.lfib label ≡ use_of self.old.lfib label) }
+        ensures sites { OnOk result (SitesStay self.old self.new) }
         ensures numbers { OnOk result (NumbersFit self.new.sessions.items (length out.new.items)) }
-        ensures others { OnOk result (self.new ≡ record self.old { sessions = self.new.sessions; lib = self.new.lib; lfib = self.new.lfib }) }
+        ensures others { OnOk result (self.new ≡ record self.old { sessions = self.new.sessions; lib = self.new.lib; labels = self.new.labels; lfib = self.new.lfib }) }
     {
         let Some(was) = self.session(link) else {
             unreachable!()
@@ -106,7 +106,7 @@ impl Parts {
         };
         self.set_session(link, Some(now));
         self.reply(alloc, link, reply, out)?;
-        self.tell(alloc, event, label, out)?;
+        self.tell(alloc, event, label, tick, out)?;
         Ok(())
     }
 
@@ -117,6 +117,7 @@ impl Parts {
         link: LinkNo,
         from: LdpId,
         message: &LdpMessage,
+        tick: u64,
         out: &mut Vec<Said>,
     ) -> Result<(), AllocError>
         requires stands { Stands self.old }
@@ -125,17 +126,16 @@ impl Parts {
         requires accepted { Accepts (slice_index_or self.old.sessions.items link.0 None) from message.now.body }
         requires numbers { NumbersFit self.old.sessions.items (length out.old.items) }
         ensures stands { OnOk result (Stands self.new) }
-        ensures node { OnOk result (node_in self.new ≡ (after_message (wiring_in self.old) link.0 (node_in self.old) (message_in (wiring_in self.old) message.now.body)).node) }
-        ensures said { OnOk result (map pdu_of out.new.items ≡ map pdu_of out.old.items ++ (after_message (wiring_in self.old) link.0 (node_in self.old) (message_in (wiring_in self.old) message.now.body)).said) }
+        ensures kept { OnOk result (kept_of self.new ≡ (after_message (wiring_in self.old) tick link.0 (kept_of self.old) (message_in (wiring_in self.old) message.now.body)).kept) }
+        ensures said { OnOk result (map pdu_of out.new.items ≡ map pdu_of out.old.items ++ (after_message (wiring_in self.old) tick link.0 (kept_of self.old) (message_in (wiring_in self.old) message.now.body)).said) }
         ensures machine { OnOk result (slice_index_or (machines_of self.new.sessions.items) link.0 None ≡ machine_then (slice_index_or self.old.sessions.items link.0 None) message.now.body) }
-        ensures uses { OnOk result ((label : ℕ) → ((fec : ℕ) → fec < length self.old.loopbacks.items → fec ≢ self.old.me.0 → label ≢ label_of self.old.me.0 fec) →
-            use_of self.new.lfib label ≡ use_of self.old.lfib label) }
+        ensures sites { OnOk result (SitesStay self.old self.new) }
         ensures numbers { OnOk result (NumbersFit self.new.sessions.items (length out.new.items)) }
-        ensures others { OnOk result (self.new ≡ record self.old { sessions = self.new.sessions; lib = self.new.lib; lfib = self.new.lfib }) }
+        ensures others { OnOk result (self.new ≡ record self.old { sessions = self.new.sessions; lib = self.new.lib; labels = self.new.labels; lfib = self.new.lfib }) }
     {
         match heard_in(&self.loopbacks, &message.body) {
             None => Ok(()),
-            Some(heard) => self.hear_meant(alloc, link, from, message, heard, out),
+            Some(heard) => self.hear_meant(alloc, link, from, message, heard, tick, out),
         }
     }
 }
@@ -161,6 +161,7 @@ impl Parts {
         link: LinkNo,
         from: LdpId,
         messages: &[LdpMessage],
+        tick: u64,
     ) -> Result<Vec<Said>, AllocError>
         requires stands { Stands self.old }
         requires there { link.0 < length self.old.view.ends }
@@ -168,14 +169,13 @@ impl Parts {
         requires accepted { AcceptsAll (slice_index_or (machines_of self.old.sessions.items) link.0 None) from messages.now }
         requires numbers { NumbersFit self.old.sessions.items 0 }
         ensures stands { OnOk result (Stands self.new) }
-        ensures heard { IfOk result (λ out. record { node = node_in self.new; said = map pdu_of out.items } ≡ after_messages (wiring_in self.old) link.0 (node_in self.old) messages.now) }
-        ensures uses { OnOk result ((label : ℕ) → ((fec : ℕ) → fec < length self.old.loopbacks.items → fec ≢ self.old.me.0 → label ≢ label_of self.old.me.0 fec) →
-            use_of self.new.lfib label ≡ use_of self.old.lfib label) }
-        ensures others { OnOk result (self.new ≡ record self.old { sessions = self.new.sessions; lib = self.new.lib; lfib = self.new.lfib }) }
+        ensures heard { IfOk result (λ out. record { kept = kept_of self.new; said = map pdu_of out.items } ≡ after_messages (wiring_in self.old) tick link.0 (kept_of self.old) messages.now) }
+        ensures sites { OnOk result (SitesStay self.old self.new) }
+        ensures others { OnOk result (self.new ≡ record self.old { sessions = self.new.sessions; lib = self.new.lib; labels = self.new.labels; lfib = self.new.lfib }) }
     {
         let mut out = Vec::new(alloc);
         for message in messages {
-            self.hear(alloc, link, from, message, &mut out)?;
+            self.hear(alloc, link, from, message, tick, &mut out)?;
         }
         Ok(out)
     }
@@ -186,6 +186,7 @@ impl Parts {
         alloc: Global,
         link: LinkNo,
         bytes: &[u8],
+        tick: u64,
     ) -> Result<Vec<Said>, LsrBad>
         requires stands { Stands self.old }
         requires there { link.0 < length self.old.view.ends }
@@ -193,11 +194,10 @@ impl Parts {
         requires numbers { HasNumbers (node_in self.old) }
         ensures stands { OnOk result (Stands self.new) }
         ensures heard { MatchResult result
-            (λ out. after_pdu (wiring_in self.old) link.0 (node_in self.old) (slice_index_or (machines_of self.old.sessions.items) link.0 None) bytes.now ≡ Ok (record { node = node_in self.new; said = map pdu_of out.items }))
-            (λ bad. bad ≢ LsrBad.NoMemory → after_pdu (wiring_in self.old) link.0 (node_in self.old) (slice_index_or (machines_of self.old.sessions.items) link.0 None) bytes.now ≡ Err bad) }
-        ensures uses { OnOk result ((label : ℕ) → ((fec : ℕ) → fec < length self.old.loopbacks.items → fec ≢ self.old.me.0 → label ≢ label_of self.old.me.0 fec) →
-            use_of self.new.lfib label ≡ use_of self.old.lfib label) }
-        ensures others { OnOk result (self.new ≡ record self.old { sessions = self.new.sessions; lib = self.new.lib; lfib = self.new.lfib }) }
+            (λ out. after_pdu (wiring_in self.old) tick link.0 (kept_of self.old) (slice_index_or (machines_of self.old.sessions.items) link.0 None) bytes.now ≡ Ok (record { kept = kept_of self.new; said = map pdu_of out.items }))
+            (λ bad. bad ≢ LsrBad.NoMemory → after_pdu (wiring_in self.old) tick link.0 (kept_of self.old) (slice_index_or (machines_of self.old.sessions.items) link.0 None) bytes.now ≡ Err bad) }
+        ensures sites { OnOk result (SitesStay self.old self.new) }
+        ensures others { OnOk result (self.new ≡ record self.old { sessions = self.new.sessions; lib = self.new.lib; labels = self.new.labels; lfib = self.new.lfib }) }
         ensures unchanged { IfErr result (λ bad. bad ≢ LsrBad.NoMemory → self.new ≡ self.old) }
     {
         let pdu = match read_pdu(alloc, bytes) {
@@ -211,7 +211,7 @@ impl Parts {
         if let Some(bad) = first_refusal(open.session, pdu.from(), pdu.messages()) {
             return Err(LsrBad::Session(bad));
         }
-        match self.hear_all(alloc, link, pdu.from(), pdu.messages()) {
+        match self.hear_all(alloc, link, pdu.from(), pdu.messages(), tick) {
             Ok(out) => Ok(out),
             Err(_) => Err(LsrBad::NoMemory),
         }
@@ -223,6 +223,7 @@ impl Parts {
         alloc: Global,
         link: LinkNo,
         bytes: &[u8],
+        tick: u64,
     ) -> Result<Vec<Said>, LsrBad>
         requires stands { Stands self.old }
         requires there { link.0 < length self.old.view.ends }
@@ -230,13 +231,12 @@ impl Parts {
         requires numbers { HasNumbers (node_in self.old) }
         ensures stands { OnOk result (Stands self.new) }
         ensures heard { (session : node.Session) → session_at (node_in self.old) link.0 ≡ Some session → MatchResult result
-            (λ out. after_bytes (wiring_in self.old) link.0 (node_in self.old) session bytes.now ≡ Ok (record { node = node_in self.new; said = map pdu_of out.items }))
-            (λ bad. bad ≢ LsrBad.NoMemory → after_bytes (wiring_in self.old) link.0 (node_in self.old) session bytes.now ≡ Err bad) }
-        ensures uses { OnOk result ((label : ℕ) → ((fec : ℕ) → fec < length self.old.loopbacks.items → fec ≢ self.old.me.0 → label ≢ label_of self.old.me.0 fec) →
-            use_of self.new.lfib label ≡ use_of self.old.lfib label) }
-        ensures others { OnOk result (self.new ≡ record self.old { sessions = self.new.sessions; lib = self.new.lib; lfib = self.new.lfib }) }
+            (λ out. after_bytes (wiring_in self.old) tick link.0 (kept_of self.old) session bytes.now ≡ Ok (record { kept = kept_of self.new; said = map pdu_of out.items }))
+            (λ bad. bad ≢ LsrBad.NoMemory → after_bytes (wiring_in self.old) tick link.0 (kept_of self.old) session bytes.now ≡ Err bad) }
+        ensures sites { OnOk result (SitesStay self.old self.new) }
+        ensures others { OnOk result (self.new ≡ record self.old { sessions = self.new.sessions; lib = self.new.lib; labels = self.new.labels; lfib = self.new.lfib }) }
         ensures unchanged { IfErr result (λ bad. bad ≢ LsrBad.NoMemory → self.new ≡ self.old) }
     {
-        self.hear_ldp(alloc, link, bytes)
+        self.hear_ldp(alloc, link, bytes, tick)
     }
 }

@@ -5,6 +5,7 @@
 //!  a change of a link --> view --> tree --> next hops --+
 //!                                                       +--> bindings --> what is offered --> PDUs to the neighbours
 //!  a PDU from a neighbour --> session --> mappings -----+        |
+//!                                                                +--> labels of what is offered newly
 //!                                                                +--> next hop and its label --> uses of the labels
 //! ```
 //!
@@ -12,6 +13,9 @@
 //! What the node keeps and says after it is what `mn_node`'s machine says, and it says it byte for byte, each message in a
 //! PDU of its own. A node offers its own FEC, and another one while its next hop has mapped it (RFC 5036, section 2.6.1.2);
 //! it keeps what any neighbour said (section 2.6.2.2), so that a new next hop is used at once.
+//!
+//! A FEC that is offered newly takes up the label that it has, or else the least that nothing has; before that, those FECs give up
+//! their labels that aren't offered, of which no neighbour owes a Release and towards which no frame flies any more.
 //!
 //! Where memory is wanted in the midst of a change, the parts may not fit together any more: the node then answers
 //! `NoMemory` to each change from then on.

@@ -1,16 +1,18 @@
-ghost use Rattle.std.specs.Prelude.{◌≡◌, ◌≢◌, ◌≤◌, ◌<◌, ◌+◌, ◌++◌, ◌∷◌, [], ◌↔◌, ℕ, true, false, None, Some, Ok, Err, length, map, slice_index, IfOk, IfErr, OnOk, OnErr, IsErr, IsErrOf, IsTrue, MatchResult, option_map};
+ghost use Rattle.std.specs.Prelude.{◌≡◌, ◌≢◌, ◌≤◌, ◌<◌, ◌+◌, [], ◌↔◌, ℕ, true, false, None, Some, Ok, Err, length, map, slice_index, IfOk, IfErr, OnOk, OnErr, IsErr, IsErrOf, IsTrue, MatchResult, option_map};
 ghost use Rattle.mn_base.specs.Limits.{most_labels};
 ghost use Rattle.mn_wiring.specs.Wiring.{Wiring, is_end};
 ghost use Rattle.mn_node.specs.Node.{Session, session_at, view_in};
 ghost use Rattle.mn_labels.specs.declared.meaning.Bind.TheVariants as bind;
-ghost use Rattle.mn_labels.specs.Labels.{meaning_of};
+ghost use Rattle.mn_labels.specs.Labels.{none_given, own_labels, greatest, attached, attachments_in, meaning_of, IsTold};
+ghost use Rattle.mn_rest.specs.Rests.{at_first};
 ghost use Rattle.mn_lfib.specs.declared.answer.Use.TheVariants as use_kind;
 ghost use Rattle.mn_lfib.specs.Uses.{use_of};
 ghost use Rattle.mn_node.specs.Machine.{fresh_node, Learns, Opens, Closes, changed, said, after_event};
 ghost use Rattle.mn_linkdb.specs.Trees.{IsTree};
 ghost use Rattle.mn_lfib.specs.Forwarding.{forwarded};
 ghost use Rattle.mn_ldp_session.specs.Spelling.{pdus};
-ghost use Rattle.mn_lsr.specs.Standing.{IsWired, IsMendedFor, FitsOuter, TableStands, SitesKeep, HasNumbers, AreGiven, IsAttachment, fecs_given, attachments, way_to, label_sent, sent_to, state_in};
+ghost use Rattle.mn_lsr.specs.Standing.{IsWired, IsMendedFor, FitsOuter, TableStands, SitesKeep, HasNumbers, IsAttachment, attachments, way_to, label_sent, sent_to, state_in};
+ghost use Rattle.mn_lsr.specs.Turns.{kept_in, labels_then, resting_then};
 ghost use Rattle.mn_lsr.specs.Hearing.{after_bytes};
 ghost use Rattle.mn_lsr.specs.Said.{pdu_of};
 
@@ -31,8 +33,8 @@ use std::marker::Model;
 
 /// One node's transport.
 ///
-/// Contracts see the network around it, what the node keeps, the labels that it gave, what they are used for, and whether
-/// it has wanted memory.
+/// Contracts see the network around it, what the node keeps, the labels that it gave, since when its FECs are at rest, what labels
+/// are used for, and whether it has wanted memory.
 #[derive(Drop)]
 pub struct Lsr {
     alloc: Global,
@@ -65,7 +67,7 @@ fn sent(label: u32) -> Option<u32>
 }
 
 impl Lsr {
-    /// A node that has learned nothing, and has no session. Each other node's FEC gets a label, in node order.
+    /// A node that has learned nothing, has no session and gave no label, and on whose links a frame is for at most `life` ticks.
     ///
     /// There are at most 256 nodes and 1,024 links. The loopbacks differ, each link joins two different nodes, at most one
     /// link joins a pair, and a cost is from 1 to 65,535.
@@ -74,15 +76,22 @@ impl Lsr {
         me: NodeNo,
         loopbacks: &[u32],
         ends: &[LinkEnds],
+        life: u32,
     ) -> Result<Lsr, AllocError>
         requires me { me.0 < length loopbacks.now }
         requires wired { IsWired (record { loopbacks = loopbacks.now; ends = ends.now }) }
         ensures fresh { let wiring : Wiring = record { loopbacks = loopbacks.now; ends = ends.now } in
-            IfOk result (λ lsr. lsr ≡ record { wiring = wiring; node = fresh_node wiring me.0; given = lsr.given; uses = []; failed = false }) }
-        ensures given { IfOk result (λ lsr. lsr.given.given ≡ fecs_given (length loopbacks.now) me.0) }
+            IfOk result (λ lsr. lsr ≡ record {
+              wiring = wiring;
+              node = fresh_node wiring me.0;
+              labels = none_given (length loopbacks.now);
+              resting = at_first (length loopbacks.now) life;
+              uses = [];
+              failed = false;
+            }) }
         ensures table { IfOk result (λ lsr. TableStands lsr) }
     {
-        let parts = Parts::new(alloc, me, loopbacks, ends)?;
+        let parts = Parts::new(alloc, me, loopbacks, ends, life)?;
         Ok(Lsr {
             alloc,
             parts,
@@ -90,16 +99,18 @@ impl Lsr {
         })
     }
 
-    /// Learns the next change of a link, and says what its offers have become.
+    /// Learns the next change of a link at this tick, and says what its offers have become.
     ///
     /// `Empty` changes nothing. After `NoMemory` this and the next three calls answer `NoMemory` for good.
-    pub fn learn(&mut self, db: &LinkDb, link: LinkNo) -> Result<Vec<Said>, LsrBad>
+    pub fn learn(&mut self, db: &LinkDb, link: LinkNo, tick: u64) -> Result<Vec<Said>, LsrBad>
         requires there { link.0 < length self.old.wiring.ends }
         requires same_links { length db.now ≡ length self.old.wiring.ends }
         requires not_before { slice_index self.old.node.learned link.0 ≤ slice_index db.now link.0 }
         requires numbers { HasNumbers self.old.node }
-        ensures after { OnOk result (self.new ≡ record self.old { node = after_event self.old.wiring self.old.node (Learns link.0); uses = self.new.uses }) }
-        ensures said { IfOk result (λ out. map pdu_of out.items ≡ pdus self.old.wiring 0 (changed self.old.wiring self.old.node (Learns link.0)) (said self.old.wiring self.old.node (Learns link.0))) }
+        ensures after { OnOk result (self.new ≡ record self.old { node = after_event self.old.wiring self.old.node (Learns link.0); labels = self.new.labels; resting = self.new.resting; uses = self.new.uses }) }
+        ensures labels { OnOk result (self.new.labels ≡ labels_then self.old.wiring tick (kept_in self.old) (Learns link.0)) }
+        ensures resting { OnOk result (self.new.resting ≡ resting_then self.old.wiring tick (kept_in self.old) (Learns link.0)) }
+        ensures said { IfOk result (λ out. map pdu_of out.items ≡ pdus self.old.wiring (own_labels self.old.node.me self.new.labels) 0 (changed self.old.wiring self.old.node (Learns link.0)) (said self.old.wiring self.old.node (Learns link.0))) }
         ensures table { OnOk result (TableStands self.new) }
         ensures sites { OnOk result (SitesKeep self.old self.new) }
         ensures empty { result ≢ Err LsrBad.NoMemory → (result ≡ Err LsrBad.Empty) ↔ (slice_index self.old.node.learned link.0 ≡ slice_index db.now link.0) }
@@ -110,7 +121,7 @@ impl Lsr {
         if self.failed {
             return Err(LsrBad::NoMemory);
         }
-        match self.parts.learn(self.alloc, db, link) {
+        match self.parts.learn(self.alloc, db, link, tick) {
             Ok(out) => Ok(out),
             Err(LsrBad::Empty) => Err(LsrBad::Empty),
             Err(_) => {
@@ -127,7 +138,9 @@ impl Lsr {
         requires closed { session_at self.old.node link.0 ≡ None }
         requires numbers { HasNumbers self.old.node }
         ensures after { OnOk result (self.new ≡ record self.old { node = after_event self.old.wiring self.old.node (Opens link.0) }) }
-        ensures said { IfOk result (λ out. map pdu_of out.items ≡ pdus self.old.wiring 0 (changed self.old.wiring self.old.node (Opens link.0)) (said self.old.wiring self.old.node (Opens link.0))) }
+        ensures labels { (tick : ℕ) → OnOk result (self.new.labels ≡ labels_then self.old.wiring tick (kept_in self.old) (Opens link.0)) }
+        ensures resting { (tick : ℕ) → OnOk result (self.new.resting ≡ resting_then self.old.wiring tick (kept_in self.old) (Opens link.0)) }
+        ensures said { IfOk result (λ out. map pdu_of out.items ≡ pdus self.old.wiring (own_labels self.old.node.me self.new.labels) 0 (changed self.old.wiring self.old.node (Opens link.0)) (said self.old.wiring self.old.node (Opens link.0))) }
         ensures table { OnOk result (TableStands self.new) }
         ensures no_memory { OnErr result (self.new.failed ≡ true) }
         ensures for_good { self.old.failed ≡ true → IsErr result }
@@ -144,13 +157,15 @@ impl Lsr {
         }
     }
 
-    /// Ends the session of a link, and says what the node's offers have become.
-    pub fn close(&mut self, link: LinkNo) -> Result<Vec<Said>, AllocError>
+    /// Ends the session of a link at this tick, and says what the node's offers have become.
+    pub fn close(&mut self, link: LinkNo, tick: u64) -> Result<Vec<Said>, AllocError>
         requires there { link.0 < length self.old.wiring.ends }
         requires open { session_at self.old.node link.0 ≢ None }
         requires numbers { HasNumbers self.old.node }
-        ensures after { OnOk result (self.new ≡ record self.old { node = after_event self.old.wiring self.old.node (Closes link.0); uses = self.new.uses }) }
-        ensures said { IfOk result (λ out. map pdu_of out.items ≡ pdus self.old.wiring 0 (changed self.old.wiring self.old.node (Closes link.0)) (said self.old.wiring self.old.node (Closes link.0))) }
+        ensures after { OnOk result (self.new ≡ record self.old { node = after_event self.old.wiring self.old.node (Closes link.0); labels = self.new.labels; resting = self.new.resting; uses = self.new.uses }) }
+        ensures labels { OnOk result (self.new.labels ≡ labels_then self.old.wiring tick (kept_in self.old) (Closes link.0)) }
+        ensures resting { OnOk result (self.new.resting ≡ resting_then self.old.wiring tick (kept_in self.old) (Closes link.0)) }
+        ensures said { IfOk result (λ out. map pdu_of out.items ≡ pdus self.old.wiring (own_labels self.old.node.me self.new.labels) 0 (changed self.old.wiring self.old.node (Closes link.0)) (said self.old.wiring self.old.node (Closes link.0))) }
         ensures table { OnOk result (TableStands self.new) }
         ensures sites { OnOk result (SitesKeep self.old self.new) }
         ensures no_memory { OnErr result (self.new.failed ≡ true) }
@@ -159,7 +174,7 @@ impl Lsr {
         if self.failed {
             return Err(AllocError);
         }
-        match self.parts.close(self.alloc, link) {
+        match self.parts.close(self.alloc, link, tick) {
             Ok(out) => Ok(out),
             Err(_) => {
                 self.failed = true;
@@ -168,17 +183,17 @@ impl Lsr {
         }
     }
 
-    /// Hears the messages of a PDU, one after the other, where the session accepts them all.
+    /// Hears the messages of a PDU at this tick, one after the other, where the session accepts them all.
     ///
     /// `Wire` and `Session` change nothing. A mention of a FEC that is no node's loopback is passed over.
-    pub fn hear_ldp(&mut self, link: LinkNo, bytes: &[u8]) -> Result<Vec<Said>, LsrBad>
+    pub fn hear_ldp(&mut self, link: LinkNo, bytes: &[u8], tick: u64) -> Result<Vec<Said>, LsrBad>
         requires there { link.0 < length self.old.wiring.ends }
         requires open { session_at self.old.node link.0 ≢ None }
         requires numbers { HasNumbers self.old.node }
         ensures heard { (session : Session) → session_at self.old.node link.0 ≡ Some session → MatchResult result
-            (λ out. after_bytes self.old.wiring link.0 self.old.node session bytes.now ≡ Ok (record { node = self.new.node; said = map pdu_of out.items }))
-            (λ bad. bad ≢ LsrBad.NoMemory → after_bytes self.old.wiring link.0 self.old.node session bytes.now ≡ Err bad) }
-        ensures others { OnOk result (self.new ≡ record self.old { node = self.new.node; uses = self.new.uses }) }
+            (λ out. after_bytes self.old.wiring tick link.0 (kept_in self.old) session bytes.now ≡ Ok (record { kept = kept_in self.new; said = map pdu_of out.items }))
+            (λ bad. bad ≢ LsrBad.NoMemory → after_bytes self.old.wiring tick link.0 (kept_in self.old) session bytes.now ≡ Err bad) }
+        ensures others { OnOk result (self.new ≡ record self.old { node = self.new.node; labels = self.new.labels; resting = self.new.resting; uses = self.new.uses }) }
         ensures table { OnOk result (TableStands self.new) }
         ensures sites { OnOk result (SitesKeep self.old self.new) }
         ensures unchanged { IfErr result (λ bad. bad ≢ LsrBad.NoMemory → self.new ≡ self.old) }
@@ -188,7 +203,7 @@ impl Lsr {
         if self.failed {
             return Err(LsrBad::NoMemory);
         }
-        match self.parts.hear_bytes(self.alloc, link, bytes) {
+        match self.parts.hear_bytes(self.alloc, link, bytes, tick) {
             Ok(out) => Ok(out),
             Err(LsrBad::NoMemory) => {
                 self.failed = true;
@@ -219,14 +234,14 @@ impl Lsr {
     ///
     /// A refusal changes nothing, but for room that was made. After a call that wanted memory the answer is `NoMemory`.
     pub fn attach(&mut self, site: SiteNo) -> Result<u32, LabelBad>
-        ensures label { IfOk result (λ label. label ≡ 16 + length self.old.given.given) }
-        ensures given { OnOk result (self.new.given.given ≡ self.old.given.given ++ bind.Site site (attachments site.0 self.old.given.given + 1) ∷ []) }
+        ensures label { IfOk result (λ label. label ≡ greatest self.old.labels.given + 1) }
+        ensures given { OnOk result (self.new.labels ≡ attached self.old.labels (bind.Site site (attachments site.0 self.old.labels.given + 1))) }
         ensures used { IfOk result (λ label. use_of self.new.uses label ≡ Some (use_kind.Site site)) }
         ensures others { IfOk result (λ label. (other : ℕ) → other ≢ label → use_of self.new.uses other ≡ use_of self.old.uses other) }
         ensures table { OnOk result (TableStands self.new) }
-        ensures kept { self.new ≡ record self.old { given = self.new.given; uses = self.new.uses } }
-        ensures spent { self.old.failed ≡ false → IsErrOf result LabelBad.Spent ↔ (length self.old.given.given ≡ most_labels) }
-        ensures unchanged { OnErr result ((self.new.given.given ≡ self.old.given.given) × (self.new.uses ≡ self.old.uses)) }
+        ensures kept { self.new ≡ record self.old { labels = self.new.labels; uses = self.new.uses } }
+        ensures spent { self.old.failed ≡ false → IsErrOf result LabelBad.Spent ↔ (attachments_in self.old.labels.given + length self.old.wiring.loopbacks ≡ most_labels + 1) }
+        ensures unchanged { OnErr result ((self.new.labels ≡ self.old.labels) × (self.new.uses ≡ self.old.uses)) }
         ensures for_good { self.old.failed ≡ true → result ≡ Err LabelBad.NoMemory }
     {
         if self.failed {
@@ -239,7 +254,7 @@ impl Lsr {
     ///
     /// After a call that wanted memory it does nothing.
     pub fn detach(&mut self, label: u32)
-        requires attachment { IsAttachment (meaning_of self.old.given.given label) }
+        requires attachment { IsAttachment (meaning_of self.old.labels label) }
         ensures ended { self.old.failed ≡ false → use_of self.new.uses label ≡ Some use_kind.Ended }
         ensures others { (other : ℕ) → other ≢ label → use_of self.new.uses other ≡ use_of self.old.uses other }
         ensures table { self.old.failed ≡ false → TableStands self.new }
@@ -286,9 +301,9 @@ impl Lsr {
 
     /// The labels that the node gave.
     pub fn labels(&self) -> &Labels
-        ensures value { result.now ≡ self.now.given }
-        // The FEC of each other node has its label, and no other label is a FEC's.
-        ensures fecs { self.now.failed ≡ false → AreGiven (length self.now.wiring.loopbacks) self.now.node.me self.now.given.given }
+        ensures value { result.now.labels ≡ self.now.labels }
+        // No label means two things.
+        ensures told { self.now.failed ≡ false → IsTold self.now.labels }
     {
         &self.parts.labels
     }

@@ -1,10 +1,12 @@
 ghost use Rattle.std.specs.Prelude.{◌≡◌, ◌≤◌, ◌<◌, [], ◌==◌, length, position, IfOk, IfSome, option_map};
-ghost use Rattle.mn_ldp_wire.specs.Grammar.{written};
+ghost use Rattle.mn_ldp_wire.specs.Grammar.{written, IsWritable};
+ghost use Rattle.mn_labels.specs.Labels.{own_labels};
 ghost use Rattle.mn_ldp_session.specs.Spelling.{body_of, id_of, node_of};
 ghost use Rattle.mn_lsr.specs.Message.{meaning, NamesNode, HasLabel, as_node};
 
-use crate::ways::label_for;
+use crate::ways::own_label;
 use mn_base::NodeNo;
+use mn_labels::Labels;
 use mn_ldp_wire::{Addresses, LdpBody, LdpId, LdpMessage, write_pdu};
 use mn_prefix::Prefix;
 use std::alloc::{AllocError, Global};
@@ -44,19 +46,22 @@ fn host(address: u32) -> Prefix
     }
 }
 
-/// What a message says to a neighbour. A Release brings the label that was withdrawn.
+/// What a message says to a neighbour, by the labels that the node gave. A Release brings the label that was withdrawn.
 pub(crate) fn body_of(
     alloc: Global,
     me: NodeNo,
     far: NodeNo,
     loopbacks: &[u32],
+    labels: &Labels,
     withdrawn: u32,
     message: Message,
 ) -> Result<LdpBody, AllocError>
     requires me { me.0 < length loopbacks.now }
     requires far { far.0 < length loopbacks.now }
     requires fec { NamesNode (length loopbacks.now) message }
-    ensures { IfOk result (λ body. body ≡ body_of (record { loopbacks = loopbacks.now; ends = [] }) me.0 far.0 withdrawn (meaning message)) }
+    requires label { HasLabel me.0 labels.now.labels withdrawn message }
+    ensures body { IfOk result (λ body. body ≡ body_of (record { loopbacks = loopbacks.now; ends = [] }) me.0 (own_labels me.0 labels.now.labels) far.0 withdrawn (meaning message)) }
+    ensures writable { IfOk result (λ body. IsWritable body) }
 {
     match message {
         Message::Initialization => Ok(LdpBody::Initialization {
@@ -74,11 +79,11 @@ pub(crate) fn body_of(
         }
         Message::Mapping(fec) => {
             let prefix = host(loopbacks[fec.0 as usize]);
-            Ok(LdpBody::Mapping(prefix, label_for(me, fec)))
+            Ok(LdpBody::Mapping(prefix, own_label(labels, me, fec)))
         }
         Message::Withdraw(fec) => {
             let prefix = host(loopbacks[fec.0 as usize]);
-            Ok(LdpBody::Withdraw(prefix, label_for(me, fec)))
+            Ok(LdpBody::Withdraw(prefix, own_label(labels, me, fec)))
         }
         Message::Release(fec) => {
             let prefix = host(loopbacks[fec.0 as usize]);
@@ -93,6 +98,7 @@ pub(crate) fn pdu_bytes(
     me: NodeNo,
     far: NodeNo,
     loopbacks: &[u32],
+    labels: &Labels,
     withdrawn: u32,
     number: u64,
     message: Message,
@@ -101,11 +107,11 @@ pub(crate) fn pdu_bytes(
     requires me { me.0 < length loopbacks.now }
     requires far { far.0 < length loopbacks.now }
     requires fec { NamesNode (length loopbacks.now) message }
-    requires label { HasLabel withdrawn message }
+    requires label { HasLabel me.0 labels.now.labels withdrawn message }
     ensures { IfOk result (λ bytes. bytes.items ≡ written (id_of (record { loopbacks = loopbacks.now; ends = [] }) me.0)
-        (record { id = number; body = body_of (record { loopbacks = loopbacks.now; ends = [] }) me.0 far.0 withdrawn (meaning message) })) }
+        (record { id = number; body = body_of (record { loopbacks = loopbacks.now; ends = [] }) me.0 (own_labels me.0 labels.now.labels) far.0 withdrawn (meaning message) })) }
 {
-    let body = body_of(alloc, me, far, loopbacks, withdrawn, message)?;
+    let body = body_of(alloc, me, far, loopbacks, labels, withdrawn, message)?;
     let id = (number % IDS) as u32;
     write_pdu(alloc, id_of(loopbacks, me), &LdpMessage { id, body })
 }

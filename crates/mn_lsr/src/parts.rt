@@ -1,28 +1,32 @@
-ghost use Rattle.std.specs.Prelude.{◌≡◌, ◌≢◌, ◌≤◌, ◌<◌, ◌↔◌, ◌++◌, ◌∷◌, [], ℕ, List, None, Some, Err, length, map, slice_index, slice_index_or, slice_set, OnOk, IfOk, IsTrue, true, if◌then◌else◌};
+ghost use Rattle.std.specs.Prelude.{◌≡◌, ◌≢◌, ◌≤◌, ◌<◌, ◌↔◌, ◌++◌, ◌∷◌, [], ℕ, List, None, Some, Err, length, map, slice_index, slice_index_or, slice_set, ◌+◌, ◌^◌, OnOk, IfOk, IsTrue, true, if◌then◌else◌};
 ghost use Rattle.std.specs.Option.{option_to_list};
 ghost use Rattle.std.specs.List.{flat_map, list_all};
 ghost use Rattle.mn_wiring.specs.Wiring.{is_end, across};
 ghost use Rattle.mn_node.specs.Ldp.{said_on};
-ghost use Rattle.mn_node.specs.Node.{label_of, session_at};
+ghost use Rattle.mn_node.specs.Node.{session_at};
 ghost use Rattle.mn_node.specs.Machine.{loopback_of, Learns, Opens, Closes, changed, said, after_event};
 ghost use Rattle.mn_linkdb.specs.PathTable.{IsTable};
+ghost use Rattle.mn_labels.specs.Labels.{own_labels, meaning_of, offered};
 ghost use Rattle.mn_lib.specs.Bindings.{after_events};
 ghost use Rattle.mn_lib.specs.Bindings as lib;
 ghost use Rattle.mn_lib.specs.Tells.{tells};
-ghost use Rattle.mn_lfib.specs.Uses.{use_of, fec_use};
+ghost use Rattle.mn_lib.specs.News.{begun};
+ghost use Rattle.mn_lib.specs.Known.{known_after, is_free, AreFew};
+ghost use Rattle.mn_lfib.specs.Uses.{use_of};
 ghost use Rattle.mn_ldp_session.specs.Spelling.{pdus};
 ghost use Rattle.mn_lsr.specs.Telling.{said_by_tell};
 ghost use Rattle.mn_lsr.specs.Message.{meaning, NamesNode, HasLabel};
 ghost use Rattle.mn_lsr.specs.Replies.{replied, first_reply, closing_events};
 ghost use Rattle.mn_lsr.specs.Said.{pdu_of};
-ghost use Rattle.mn_lsr.specs.Standing.{HasNumbers};
-ghost use Rattle.mn_lsr.specs.Parts.{wiring_in, node_in, Stands, MayFollow, MaySpeak, NumbersFit, has_numbers, same_hop, stays, hop_events, said_in, pdus_by, ends_after};
+ghost use Rattle.mn_lsr.specs.Standing.{HasNumbers, IsUseOf};
+ghost use Rattle.mn_lsr.specs.Turns.{labels_then, resting_then};
+ghost use Rattle.mn_lsr.specs.Parts.{wiring_in, node_in, kept_of, HaveLabels, SitesStay, Stands, MayFollow, MaySpeak, NumbersFit, has_numbers, same_hop, stays, hop_events, said_in, pdus_by, ends_after};
 
 use crate::message::Message;
 use crate::refusal::LsrBad;
 use crate::said::Said;
 use crate::speaking::{across, say, say_all};
-use crate::ways::use_new_ways;
+use crate::ways::{free_before, use_new_ways};
 use mn_base::{LinkNo, NodeNo};
 use mn_labels::Labels;
 use mn_ldp_session::{Reply, Session};
@@ -89,9 +93,9 @@ fn same_hop(one: Option<NodeNo>, other: Option<NodeNo>) -> bool
 
 /// Whether nothing happens to a FEC: it is the node's own, or the next hop towards it is that of the tree already.
 fn stays(me: NodeNo, before: &Lib, tree: &Tree, fec: NodeNo) -> bool
-    requires before { fec.0 < lib.nodes before.now }
+    requires before { fec.0 < lib.nodes before.now.bindings }
     requires table { fec.0 < length tree.now.dists }
-    ensures { result ≡ stays me.0 before.now.hops tree.now fec.0 }
+    ensures { result ≡ stays me.0 before.now.bindings.hops tree.now fec.0 }
 {
     fec.0 == me.0 || same_hop(before.hop(fec), tree.next(fec))
 }
@@ -105,9 +109,9 @@ fn next_hops(
     nodes: u32,
 ) -> Result<Vec<LibEvent>, AllocError>
     requires few { nodes ≤ 256 }
-    requires before { lib.nodes before.now ≡ nodes }
+    requires before { lib.nodes before.now.bindings ≡ nodes }
     requires table { IsTable nodes tree.now }
-    ensures { IfOk result (λ events. events.items ≡ hop_events me.0 before.now.hops tree.now nodes) }
+    ensures { IfOk result (λ events. events.items ≡ hop_events me.0 before.now.bindings.hops tree.now nodes) }
 {
     let mut events = Vec::new(alloc);
     for at in 0..nodes {
@@ -120,46 +124,50 @@ fn next_hops(
 }
 
 impl Parts {
-    /// Takes what happened to the bindings as one change, says what must be told, and uses the new ways. A Release brings
-    /// the label that was withdrawn.
+    /// Takes what happened to the bindings at this tick as one change, gives the FECs that are offered newly their labels, says
+    /// what must be told, and uses the new ways. A Release brings the label that was withdrawn.
+    ///
+    /// Which FECs are free is asked before the change: one whose last Release comes by it isn't.
     pub(crate) fn follow(
         &mut self,
         alloc: Global,
         events: &[LibEvent],
         withdrawn: u32,
+        tick: u64,
         out: &mut Vec<Said>,
     ) -> Result<(), AllocError>
         requires follow { MayFollow self.old withdrawn events.now }
         requires numbers { NumbersFit self.old.sessions.items (length out.old.items) }
-        ensures said { OnOk result (map pdu_of out.new.items ≡ map pdu_of out.old.items ++ pdus_by (wiring_in self.old) self.old.me.0 withdrawn self.old.sessions.items
-            (flat_map (said_by_tell (wiring_in self.old) self.old.me.0) (tells self.old.lib events.now))) }
-        ensures counted { OnOk result (self.new.sessions.items ≡ ends_after self.old.sessions.items (flat_map (said_by_tell (wiring_in self.old) self.old.me.0) (tells self.old.lib events.now))) }
-        ensures bindings { OnOk result (self.new.lib ≡ after_events self.old.lib events.now) }
-        ensures ways { OnOk result ((fec : ℕ) → fec < length self.old.loopbacks.items → fec ≢ self.old.me.0 →
-            use_of self.new.lfib (label_of self.old.me.0 fec) ≡ fec_use (lib.usable (after_events self.old.lib events.now) fec)) }
-        ensures uses { OnOk result ((label : ℕ) → ((fec : ℕ) → fec < length self.old.loopbacks.items → fec ≢ self.old.me.0 → label ≢ label_of self.old.me.0 fec) →
-            use_of self.new.lfib label ≡ use_of self.old.lfib label) }
-        ensures others { OnOk result (self.new ≡ record self.old { sessions = self.new.sessions; lib = self.new.lib; lfib = self.new.lfib }) }
+        requires owed { AreFew (2 ^ 62 + length out.old.items) self.old.lib.resting }
+        ensures said { OnOk result (map pdu_of out.new.items ≡ map pdu_of out.old.items ++ pdus_by (wiring_in self.old) self.old.me.0 (own_labels self.old.me.0 self.new.labels.labels) withdrawn
+            self.old.sessions.items (flat_map (said_by_tell (wiring_in self.old) self.old.me.0) (tells self.old.lib.bindings events.now))) }
+        ensures counted { OnOk result (self.new.sessions.items ≡ ends_after self.old.sessions.items (flat_map (said_by_tell (wiring_in self.old) self.old.me.0) (tells self.old.lib.bindings events.now))) }
+        ensures known { OnOk result (self.new.lib ≡ known_after self.old.lib events.now tick) }
+        ensures labels { OnOk result (self.new.labels.labels ≡ offered (is_free self.old.lib tick) self.old.labels.labels
+            (begun self.old.lib.bindings (after_events self.old.lib.bindings events.now))) }
+        ensures have { OnOk result (HaveLabels self.old.me.0 (length self.old.loopbacks.items) (after_events self.old.lib.bindings events.now) self.new.labels) }
+        ensures table { OnOk result ((label : ℕ) → IsUseOf (lib.usable (after_events self.old.lib.bindings events.now)) (meaning_of self.new.labels.labels label) (use_of self.new.lfib label)) }
+        ensures sites { OnOk result (SitesStay self.old self.new) }
+        ensures others { OnOk result (self.new ≡ record self.old { sessions = self.new.sessions; lib = self.new.lib; labels = self.new.labels; lfib = self.new.lfib }) }
     {
-        let tells = self.lib.apply(events)?;
+        let nodes = self.view.nodes();
+        let free = free_before(alloc, &self.lib, &self.labels, events, nodes, tick)?;
+        let changed = self.lib.apply(events, tick)?;
+        self.labels.offer(&changed.begun, &free)?;
+        let _given = self.labels.given();
         say_all(
             alloc,
             self.me,
             &self.loopbacks,
             self.view.ends(),
             &self.links,
+            &self.labels,
             withdrawn,
-            &tells,
+            &changed.tells,
             &mut self.sessions,
             out,
         )?;
-        use_new_ways(
-            &mut self.lfib,
-            &self.lib,
-            self.me,
-            self.view.nodes(),
-            events,
-        )
+        use_new_ways(&mut self.lfib, &self.lib, &self.labels, nodes, events)
     }
 
     /// Learns the next change of a link, and says what its offers have become.
@@ -168,6 +176,7 @@ impl Parts {
         alloc: Global,
         db: &LinkDb,
         link: LinkNo,
+        tick: u64,
     ) -> Result<Vec<Said>, LsrBad>
         requires stands { Stands self.old }
         requires there { link.0 < length self.old.view.ends }
@@ -177,10 +186,10 @@ impl Parts {
         ensures stands { OnOk result (Stands self.new) }
         ensures wiring { OnOk result (wiring_in self.new ≡ wiring_in self.old) }
         ensures node { OnOk result (node_in self.new ≡ after_event (wiring_in self.old) (node_in self.old) (Learns link.0)) }
-        ensures said { IfOk result (λ out. map pdu_of out.items ≡ pdus (wiring_in self.old) 0 (changed (wiring_in self.old) (node_in self.old) (Learns link.0)) (said (wiring_in self.old) (node_in self.old) (Learns link.0))) }
-        ensures labels { OnOk result (self.new.labels ≡ self.old.labels) }
-        ensures uses { OnOk result ((label : ℕ) → ((fec : ℕ) → fec < length self.old.loopbacks.items → fec ≢ self.old.me.0 → label ≢ label_of self.old.me.0 fec) →
-            use_of self.new.lfib label ≡ use_of self.old.lfib label) }
+        ensures labels { OnOk result (self.new.labels.labels ≡ labels_then (wiring_in self.old) tick (kept_of self.old) (Learns link.0)) }
+        ensures resting { OnOk result (self.new.lib.resting ≡ resting_then (wiring_in self.old) tick (kept_of self.old) (Learns link.0)) }
+        ensures said { IfOk result (λ out. map pdu_of out.items ≡ pdus (wiring_in self.old) (own_labels self.old.me.0 self.new.labels.labels) 0 (changed (wiring_in self.old) (node_in self.old) (Learns link.0)) (said (wiring_in self.old) (node_in self.old) (Learns link.0))) }
+        ensures sites { OnOk result (SitesStay self.old self.new) }
         ensures empty { result ≢ Err LsrBad.NoMemory → (result ≡ Err LsrBad.Empty) ↔ (slice_index self.old.view.counts link.0 ≡ slice_index db.now link.0) }
         ensures unchanged { result ≡ Err LsrBad.Empty → self.new ≡ self.old }
     {
@@ -196,7 +205,7 @@ impl Parts {
             return Err(LsrBad::NoMemory);
         };
         let mut out = Vec::new(alloc);
-        let Ok(()) = self.follow(alloc, &events, 0, &mut out) else {
+        let Ok(()) = self.follow(alloc, &events, 0, tick, &mut out) else {
             return Err(LsrBad::NoMemory);
         };
         Ok(out)
@@ -208,23 +217,27 @@ impl Parts {
         alloc: Global,
         event: Option<LibEvent>,
         withdrawn: u32,
+        tick: u64,
         out: &mut Vec<Said>,
     ) -> Result<(), AllocError>
         requires follow { MayFollow self.old withdrawn (option_to_list event) }
         requires numbers { NumbersFit self.old.sessions.items (length out.old.items) }
-        ensures said { OnOk result (map pdu_of out.new.items ≡ map pdu_of out.old.items ++ pdus_by (wiring_in self.old) self.old.me.0 withdrawn self.old.sessions.items
-            (flat_map (said_by_tell (wiring_in self.old) self.old.me.0) (tells self.old.lib (option_to_list event)))) }
-        ensures counted { OnOk result (self.new.sessions.items ≡ ends_after self.old.sessions.items (flat_map (said_by_tell (wiring_in self.old) self.old.me.0) (tells self.old.lib (option_to_list event)))) }
-        ensures bindings { OnOk result (self.new.lib ≡ after_events self.old.lib (option_to_list event)) }
-        ensures ways { OnOk result ((fec : ℕ) → fec < length self.old.loopbacks.items → fec ≢ self.old.me.0 →
-            use_of self.new.lfib (label_of self.old.me.0 fec) ≡ fec_use (lib.usable (after_events self.old.lib (option_to_list event)) fec)) }
-        ensures uses { OnOk result ((label : ℕ) → ((fec : ℕ) → fec < length self.old.loopbacks.items → fec ≢ self.old.me.0 → label ≢ label_of self.old.me.0 fec) →
-            use_of self.new.lfib label ≡ use_of self.old.lfib label) }
-        ensures others { OnOk result (self.new ≡ record self.old { sessions = self.new.sessions; lib = self.new.lib; lfib = self.new.lfib }) }
+        requires owed { AreFew (2 ^ 62 + length out.old.items) self.old.lib.resting }
+        ensures said { OnOk result (map pdu_of out.new.items ≡ map pdu_of out.old.items ++ pdus_by (wiring_in self.old) self.old.me.0 (own_labels self.old.me.0 self.new.labels.labels) withdrawn
+            self.old.sessions.items (flat_map (said_by_tell (wiring_in self.old) self.old.me.0) (tells self.old.lib.bindings (option_to_list event)))) }
+        ensures counted { OnOk result (self.new.sessions.items ≡ ends_after self.old.sessions.items
+            (flat_map (said_by_tell (wiring_in self.old) self.old.me.0) (tells self.old.lib.bindings (option_to_list event)))) }
+        ensures known { OnOk result (self.new.lib ≡ known_after self.old.lib (option_to_list event) tick) }
+        ensures labels { OnOk result (self.new.labels.labels ≡ offered (is_free self.old.lib tick) self.old.labels.labels
+            (begun self.old.lib.bindings (after_events self.old.lib.bindings (option_to_list event)))) }
+        ensures have { OnOk result (HaveLabels self.old.me.0 (length self.old.loopbacks.items) (after_events self.old.lib.bindings (option_to_list event)) self.new.labels) }
+        ensures table { OnOk result ((label : ℕ) → IsUseOf (lib.usable (after_events self.old.lib.bindings (option_to_list event))) (meaning_of self.new.labels.labels label) (use_of self.new.lfib label)) }
+        ensures sites { OnOk result (SitesStay self.old self.new) }
+        ensures others { OnOk result (self.new ≡ record self.old { sessions = self.new.sessions; lib = self.new.lib; labels = self.new.labels; lfib = self.new.lfib }) }
     {
         match event {
             None => Ok(()),
-            Some(event) => self.follow(alloc, &[event], withdrawn, out),
+            Some(event) => self.follow(alloc, &[event], withdrawn, tick, out),
         }
     }
 
@@ -284,9 +297,9 @@ impl Parts {
         requires speak { MaySpeak self.old }
         requires there { link.0 < length self.old.view.ends }
         requires fec { NamesNode (length self.old.loopbacks.items) message }
-        requires label { HasLabel 0 message }
+        requires label { HasLabel self.old.me.0 self.old.labels.labels 0 message }
         requires numbers { NumbersFit self.old.sessions.items (length out.old.items) }
-        ensures said { OnOk result (map pdu_of out.new.items ≡ map pdu_of out.old.items ++ pdus_by (wiring_in self.old) self.old.me.0 0 self.old.sessions.items
+        ensures said { OnOk result (map pdu_of out.new.items ≡ map pdu_of out.old.items ++ pdus_by (wiring_in self.old) self.old.me.0 (own_labels self.old.me.0 self.old.labels.labels) 0 self.old.sessions.items
             (said_on link.0 self.old.me.0 (if holds then meaning message ∷ [] else []))) }
         ensures counted { OnOk result (self.new.sessions.items ≡ ends_after self.old.sessions.items (said_on link.0 self.old.me.0 (if holds then meaning message ∷ [] else []))) }
         ensures others { OnOk result (self.new ≡ record self.old { sessions = self.new.sessions }) }
@@ -297,6 +310,7 @@ impl Parts {
                 self.me,
                 &self.loopbacks,
                 self.view.ends(),
+                &self.labels,
                 0,
                 link,
                 message,
@@ -318,7 +332,7 @@ impl Parts {
         requires speak { MaySpeak self.old }
         requires there { link.0 < length self.old.view.ends }
         requires numbers { NumbersFit self.old.sessions.items (length out.old.items) }
-        ensures said { OnOk result (map pdu_of out.new.items ≡ map pdu_of out.old.items ++ pdus_by (wiring_in self.old) self.old.me.0 0 self.old.sessions.items
+        ensures said { OnOk result (map pdu_of out.new.items ≡ map pdu_of out.old.items ++ pdus_by (wiring_in self.old) self.old.me.0 (own_labels self.old.me.0 self.old.labels.labels) 0 self.old.sessions.items
             (said_on link.0 self.old.me.0 (replied reply))) }
         ensures counted { OnOk result (self.new.sessions.items ≡ ends_after self.old.sessions.items (said_on link.0 self.old.me.0 (replied reply))) }
         ensures others { OnOk result (self.new ≡ record self.old { sessions = self.new.sessions }) }
@@ -343,7 +357,9 @@ impl Parts {
         requires numbers { HasNumbers (node_in self.old) }
         ensures stands { OnOk result (Stands self.new) }
         ensures node { OnOk result (node_in self.new ≡ after_event (wiring_in self.old) (node_in self.old) (Opens link.0)) }
-        ensures said { IfOk result (λ out. map pdu_of out.items ≡ pdus (wiring_in self.old) 0 (changed (wiring_in self.old) (node_in self.old) (Opens link.0)) (said (wiring_in self.old) (node_in self.old) (Opens link.0))) }
+        ensures labels { (tick : ℕ) → OnOk result (self.new.labels.labels ≡ labels_then (wiring_in self.old) tick (kept_of self.old) (Opens link.0)) }
+        ensures resting { (tick : ℕ) → OnOk result (self.new.lib.resting ≡ resting_then (wiring_in self.old) tick (kept_of self.old) (Opens link.0)) }
+        ensures said { IfOk result (λ out. map pdu_of out.items ≡ pdus (wiring_in self.old) (own_labels self.old.me.0 self.new.labels.labels) 0 (changed (wiring_in self.old) (node_in self.old) (Opens link.0)) (said (wiring_in self.old) (node_in self.old) (Opens link.0))) }
         ensures others { OnOk result (self.new ≡ record self.old { sessions = self.new.sessions }) }
     {
         let far = self.far(link);
@@ -357,22 +373,28 @@ impl Parts {
     }
 
     /// Ends the session of a link, and says what the node's offers have become.
-    pub(crate) fn close(&mut self, alloc: Global, link: LinkNo) -> Result<Vec<Said>, AllocError>
+    pub(crate) fn close(
+        &mut self,
+        alloc: Global,
+        link: LinkNo,
+        tick: u64,
+    ) -> Result<Vec<Said>, AllocError>
         requires stands { Stands self.old }
         requires there { link.0 < length self.old.view.ends }
         requires open { session_at (node_in self.old) link.0 ≢ None }
         requires numbers { HasNumbers (node_in self.old) }
         ensures stands { OnOk result (Stands self.new) }
         ensures node { OnOk result (node_in self.new ≡ after_event (wiring_in self.old) (node_in self.old) (Closes link.0)) }
-        ensures said { IfOk result (λ out. map pdu_of out.items ≡ pdus (wiring_in self.old) 0 (changed (wiring_in self.old) (node_in self.old) (Closes link.0)) (said (wiring_in self.old) (node_in self.old) (Closes link.0))) }
-        ensures uses { OnOk result ((label : ℕ) → ((fec : ℕ) → fec < length self.old.loopbacks.items → fec ≢ self.old.me.0 → label ≢ label_of self.old.me.0 fec) →
-            use_of self.new.lfib label ≡ use_of self.old.lfib label) }
-        ensures others { OnOk result (self.new ≡ record self.old { sessions = self.new.sessions; lib = self.new.lib; lfib = self.new.lfib }) }
+        ensures labels { OnOk result (self.new.labels.labels ≡ labels_then (wiring_in self.old) tick (kept_of self.old) (Closes link.0)) }
+        ensures resting { OnOk result (self.new.lib.resting ≡ resting_then (wiring_in self.old) tick (kept_of self.old) (Closes link.0)) }
+        ensures said { IfOk result (λ out. map pdu_of out.items ≡ pdus (wiring_in self.old) (own_labels self.old.me.0 self.new.labels.labels) 0 (changed (wiring_in self.old) (node_in self.old) (Closes link.0)) (said (wiring_in self.old) (node_in self.old) (Closes link.0))) }
+        ensures sites { OnOk result (SitesStay self.old self.new) }
+        ensures others { OnOk result (self.new ≡ record self.old { sessions = self.new.sessions; lib = self.new.lib; labels = self.new.labels; lfib = self.new.lfib }) }
     {
         let event = closing(self.session(link), self.far(link));
         self.set_session(link, None);
         let mut out = Vec::new(alloc);
-        self.tell(alloc, event, 0, &mut out)?;
+        self.tell(alloc, event, 0, tick, &mut out)?;
         Ok(out)
     }
 }

@@ -1,7 +1,7 @@
-ghost use Rattle.std.specs.Prelude.{◌≡◌, ◌≢◌, ◌≤◌, ◌<◌, ◌+◌, ◌++◌, ◌∷◌, ◌↔◌, [], ℕ, Some, OnOk, OnErr, IfOk, IsErrOf, length, slice_index_or};
+ghost use Rattle.std.specs.Prelude.{◌≡◌, ◌≢◌, ◌<◌, ◌+◌, ◌↔◌, ℕ, Some, OnOk, OnErr, IfOk, IsErrOf, length, slice_index_or};
 ghost use Rattle.mn_base.specs.Limits.{most_labels};
 ghost use Rattle.mn_labels.specs.declared.meaning.Bind.TheVariants as bind;
-ghost use Rattle.mn_labels.specs.Labels.{meaning_of};
+ghost use Rattle.mn_labels.specs.Labels.{greatest, attached, attachments_in, meaning_of};
 ghost use Rattle.mn_lfib.specs.declared.answer.Use.TheVariants as use_kind;
 ghost use Rattle.mn_lfib.specs.Uses.{use_of};
 ghost use Rattle.mn_lsr.specs.Standing.{IsAttachment, attachments};
@@ -9,22 +9,8 @@ ghost use Rattle.mn_lsr.specs.Parts.{Stands};
 
 use crate::parts::Parts;
 use mn_base::SiteNo;
-use mn_labels::{Bind, LabelBad, Labels};
+use mn_labels::LabelBad;
 use std::alloc::AllocError;
-
-/// The least label that isn't reserved (RFC 3032, section 2.1).
-const FIRST: u32 = 16;
-
-/// A label has 20 bits.
-const LABELS: u32 = 1 << 20;
-
-/// The label that is given next, or 2 ^ 20 where none is left.
-fn next_label(labels: &Labels) -> u32
-    ensures next { result ≡ 16 + length labels.now.given }
-    ensures few { length labels.now.given ≤ most_labels }
-{
-    FIRST + labels.table().len() as u32
-}
 
 /// How often a site was attached, and room to count it once more.
 fn attached_so_far(attached: &mut Vec<u32>, site: SiteNo) -> Result<u32, AllocError>
@@ -44,18 +30,17 @@ impl Parts {
     pub(crate) fn attach(&mut self, site: SiteNo) -> Result<u32, LabelBad>
         requires stands { Stands self.old }
         ensures stands { Stands self.new }
-        ensures label { IfOk result (λ label. label ≡ 16 + length self.old.labels.given) }
-        ensures given { OnOk result (self.new.labels.given ≡ self.old.labels.given ++ bind.Site site (attachments site.0 self.old.labels.given + 1) ∷ []) }
+        ensures label { IfOk result (λ label. label ≡ greatest self.old.labels.labels.given + 1) }
+        ensures given { OnOk result (self.new.labels.labels ≡ attached self.old.labels.labels (bind.Site site (attachments site.0 self.old.labels.labels.given + 1))) }
         ensures used { IfOk result (λ label. use_of self.new.lfib label ≡ Some (use_kind.Site site)) }
         ensures others { IfOk result (λ label. (other : ℕ) → other ≢ label → use_of self.new.lfib other ≡ use_of self.old.lfib other) }
-        ensures spent { IsErrOf result LabelBad.Spent ↔ (length self.old.labels.given ≡ most_labels) }
-        ensures unchanged { OnErr result ((self.new.labels.given ≡ self.old.labels.given) × (self.new.lfib ≡ self.old.lfib)) }
+        ensures spent { IsErrOf result LabelBad.Spent ↔ (attachments_in self.old.labels.labels.given + length self.old.loopbacks.items ≡ most_labels + 1) }
+        ensures unchanged { OnErr result ((self.new.labels.labels ≡ self.old.labels.labels) × (self.new.lfib ≡ self.old.lfib)) }
         ensures kept { self.new ≡ record self.old { labels = self.new.labels; lfib = self.new.lfib; attached = self.new.attached } }
     {
-        let label = next_label(&self.labels);
-        if label == LABELS {
+        let Some(label) = self.labels.next() else {
             return Err(LabelBad::Spent);
-        }
+        };
         let Ok(count) = attached_so_far(&mut self.attached, site) else {
             return Err(LabelBad::NoMemory);
         };
@@ -65,9 +50,10 @@ impl Parts {
         let Ok(()) = self.lfib.set_site(label, Some(site)) else {
             return Err(LabelBad::NoMemory);
         };
-        let Ok(label) = self.labels.give(Bind::Site(site, count + 1)) else {
+        let Ok(label) = self.labels.attach(site, count + 1) else {
             unreachable!()
         };
+        let _given = self.labels.given();
         self.attached[usize::from(site.0)] = count + 1;
         Ok(label)
     }
@@ -75,12 +61,13 @@ impl Parts {
     /// Ends the attachment that has a label.
     pub(crate) fn detach(&mut self, label: u32)
         requires stands { Stands self.old }
-        requires attachment { IsAttachment (meaning_of self.old.labels.given label) }
+        requires attachment { IsAttachment (meaning_of self.old.labels.labels label) }
         ensures stands { Stands self.new }
         ensures ended { use_of self.new.lfib label ≡ Some use_kind.Ended }
         ensures others { (other : ℕ) → other ≢ label → use_of self.new.lfib other ≡ use_of self.old.lfib other }
         ensures kept { self.new ≡ record self.old { lfib = self.new.lfib } }
     {
+        let _given = self.labels.given();
         let Ok(()) = self.lfib.set_site(label, None) else {
             unreachable!()
         };

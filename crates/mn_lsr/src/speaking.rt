@@ -1,6 +1,7 @@
 ghost use Rattle.std.specs.Prelude.{◌≡◌, ◌≤◌, ◌<◌, ◌+◌, ◌∷◌, ◌++◌, [], ℕ, List, None, length, map, slice_index_or, OnOk};
 ghost use Rattle.std.specs.List.{flat_map};
 ghost use Rattle.mn_wiring.specs.Wiring.{joining, JoinsNodes};
+ghost use Rattle.mn_labels.specs.Labels.{Labels as NodeLabels, own_labels};
 ghost use Rattle.mn_ldp_session.specs.Spelling.{pdu};
 ghost use Rattle.mn_node.specs.Ldp.{said_on};
 ghost use Rattle.mn_lsr.specs.Message.{meaning, NamesNode, HasLabel};
@@ -13,6 +14,7 @@ use crate::message::{Message, pdu_bytes};
 use crate::parts::Open;
 use crate::said::Said;
 use mn_base::{LinkNo, NodeNo};
+use mn_labels::Labels;
 use mn_lib::{Tell, TellKind};
 use mn_wiring::LinkEnds;
 use std::alloc::{AllocError, Global};
@@ -30,6 +32,7 @@ pub(crate) fn say(
     me: NodeNo,
     loopbacks: &[u32],
     ends: &[LinkEnds],
+    labels: &Labels,
     withdrawn: u32,
     link: LinkNo,
     message: Message,
@@ -42,9 +45,9 @@ pub(crate) fn say(
     requires there { link.0 < length ends.now }
     requires one_each { length sessions.old.items ≡ length ends.now }
     requires fec { NamesNode (length loopbacks.now) message }
-    requires label { HasLabel withdrawn message }
+    requires label { HasLabel me.0 labels.now.labels withdrawn message }
     requires numbers { NumbersFit sessions.old.items (length out.old.items) }
-    ensures said { OnOk result (map pdu_of out.new.items ≡ map pdu_of out.old.items ++ pdu (record { loopbacks = loopbacks.now; ends = ends.now }) link.0 me.0 withdrawn
+    ensures said { OnOk result (map pdu_of out.new.items ≡ map pdu_of out.old.items ++ pdu (record { loopbacks = loopbacks.now; ends = ends.now }) link.0 me.0 (own_labels me.0 labels.now.labels) withdrawn
         (said_in (slice_index_or sessions.old.items link.0 None) + 1) (meaning message) ∷ []) }
     ensures counted { OnOk result (sessions.new.items ≡ bumped sessions.old.items link.0) }
 {
@@ -55,7 +58,9 @@ pub(crate) fn say(
         Some(open) => open.said,
     };
     let number = said + 1;
-    let bytes = pdu_bytes(alloc, me, far, loopbacks, withdrawn, number, message)?;
+    let bytes = pdu_bytes(
+        alloc, me, far, loopbacks, labels, withdrawn, number, message,
+    )?;
     out.push(Said { link, bytes })?;
     if let Some(open) = &mut sessions[at] {
         open.said = number;
@@ -70,6 +75,7 @@ pub(crate) fn say_to(
     loopbacks: &[u32],
     ends: &[LinkEnds],
     links: &[Option<LinkNo>],
+    labels: &Labels,
     withdrawn: u32,
     to: NodeNo,
     message: Message,
@@ -82,9 +88,9 @@ pub(crate) fn say_to(
     requires links { AreLinks (record { loopbacks = loopbacks.now; ends = ends.now }) me.0 links.now }
     requires one_each { length sessions.old.items ≡ length ends.now }
     requires fec { NamesNode (length loopbacks.now) message }
-    requires label { HasLabel withdrawn message }
+    requires label { HasLabel me.0 labels.now.labels withdrawn message }
     requires numbers { NumbersFit sessions.old.items (length out.old.items) }
-    ensures said { OnOk result (map pdu_of out.new.items ≡ map pdu_of out.old.items ++ pdus_by (record { loopbacks = loopbacks.now; ends = ends.now }) me.0 withdrawn sessions.old.items
+    ensures said { OnOk result (map pdu_of out.new.items ≡ map pdu_of out.old.items ++ pdus_by (record { loopbacks = loopbacks.now; ends = ends.now }) me.0 (own_labels me.0 labels.now.labels) withdrawn sessions.old.items
         (flat_map (λ l. said_on l me.0 (meaning message ∷ [])) (joining (record { loopbacks = loopbacks.now; ends = ends.now }) me.0 to.0))) }
     ensures counted { OnOk result (sessions.new.items ≡ ends_after sessions.old.items
         (flat_map (λ l. said_on l me.0 (meaning message ∷ [])) (joining (record { loopbacks = loopbacks.now; ends = ends.now }) me.0 to.0))) }
@@ -92,7 +98,7 @@ pub(crate) fn say_to(
     match link_to(links, to) {
         None => Ok(()),
         Some(link) => say(
-            alloc, me, loopbacks, ends, withdrawn, link, message, sessions, out,
+            alloc, me, loopbacks, ends, labels, withdrawn, link, message, sessions, out,
         ),
     }
 }
@@ -100,7 +106,7 @@ pub(crate) fn say_to(
 /// The message that a tell asks for.
 fn message_of(tell: &Tell) -> Message
     ensures meaning { meaning result ≡ message_of tell.now.kind tell.now.fec.0 }
-    ensures label { (withdrawn : ℕ) → MayBring withdrawn tell.now.kind → HasLabel withdrawn result }
+    ensures label { (me : ℕ) (labels : NodeLabels) (withdrawn : ℕ) → MayBring me labels withdrawn tell.now.kind tell.now.fec.0 → HasLabel me labels withdrawn result }
     ensures fec { (nodes : ℕ) → tell.now.fec.0 < nodes → NamesNode nodes result }
 {
     match tell.kind {
@@ -117,6 +123,7 @@ pub(crate) fn say_all(
     loopbacks: &[u32],
     ends: &[LinkEnds],
     links: &[Option<LinkNo>],
+    labels: &Labels,
     withdrawn: u32,
     tells: &[Tell],
     sessions: &mut Vec<Option<Open>>,
@@ -127,16 +134,16 @@ pub(crate) fn say_all(
     requires joins { JoinsNodes (record { loopbacks = loopbacks.now; ends = ends.now }) }
     requires links { AreLinks (record { loopbacks = loopbacks.now; ends = ends.now }) me.0 links.now }
     requires one_each { length sessions.old.items ≡ length ends.now }
-    requires may { MayTell (length loopbacks.now) withdrawn tells.now }
+    requires may { MayTell (length loopbacks.now) me.0 labels.now.labels withdrawn tells.now }
     requires numbers { NumbersFit sessions.old.items (length out.old.items) }
-    ensures said { OnOk result (map pdu_of out.new.items ≡ map pdu_of out.old.items ++ pdus_by (record { loopbacks = loopbacks.now; ends = ends.now }) me.0 withdrawn sessions.old.items
+    ensures said { OnOk result (map pdu_of out.new.items ≡ map pdu_of out.old.items ++ pdus_by (record { loopbacks = loopbacks.now; ends = ends.now }) me.0 (own_labels me.0 labels.now.labels) withdrawn sessions.old.items
         (flat_map (said_by_tell (record { loopbacks = loopbacks.now; ends = ends.now }) me.0) tells.now)) }
     ensures counted { OnOk result (sessions.new.items ≡ ends_after sessions.old.items (flat_map (said_by_tell (record { loopbacks = loopbacks.now; ends = ends.now }) me.0) tells.now)) }
 {
     for tell in tells {
         let message = message_of(tell);
         say_to(
-            alloc, me, loopbacks, ends, links, withdrawn, tell.to, message, sessions, out,
+            alloc, me, loopbacks, ends, links, labels, withdrawn, tell.to, message, sessions, out,
         )?;
     }
     Ok(())

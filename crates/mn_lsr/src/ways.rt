@@ -1,57 +1,115 @@
-ghost use Rattle.std.specs.Prelude.{◌≡◌, ◌≢◌, ◌≤◌, ◌<◌, ℕ, OnOk, true};
-ghost use Rattle.mn_node.specs.Node.{label_of};
-ghost use Rattle.mn_lib.specs.Bindings.{nodes, usable};
-ghost use Rattle.mn_lib.specs.News.{InOrder, AreBelow, Apart, fecs_in};
+ghost use Rattle.std.specs.Prelude.{◌≡◌, ◌≢◌, ◌≤◌, ◌<◌, ◌&&◌, ℕ, [], Some, OnOk, IfOk, is_some, true};
+ghost use Rattle.std.specs.List.{flat_map, range_with_len};
+ghost use Rattle.mn_labels.specs.Labels.{label_now, own_labels, numbers, IsTold};
+ghost use Rattle.mn_ldp_wire.specs.Grammar.{IsLabel};
+ghost use Rattle.mn_lib.specs.Bindings.{nodes, usable, after_events, EventsFit};
+ghost use Rattle.mn_lib.specs.Known.{is_free};
+ghost use Rattle.mn_lib.specs.News.{begun, InOrder, AreBelow, Apart, fecs_in};
+ghost use Rattle.mn_lsr.specs.Message.{HasOne};
+ghost use Rattle.mn_lsr.specs.Parts.{free_of};
 ghost use Rattle.mn_lsr.specs.Telling.{opens_one};
 ghost use Rattle.mn_lfib.specs.Uses.{use_of, fec_use, IsNotSite, IsNextHop};
 
 use mn_base::NodeNo;
+use mn_labels::Labels;
 use mn_lfib::Lfib;
 use mn_lib::{Lib, LibEvent, are_of_fecs};
-use std::alloc::AllocError;
+use std::alloc::{AllocError, Global};
 
 /// Implicit null: a node's label for its own FEC (RFC 3032, section 2.1).
 pub(crate) const IMPLICIT_NULL: u32 = 3;
 
-/// The label that a node gives a FEC: implicit null for its own, and else the next from 16 on, by node.
-pub(crate) fn label_for(me: NodeNo, fec: NodeNo) -> u32
-    ensures { result ≡ label_of me.0 fec.0 }
+/// The label that a node says of a FEC: implicit null of its own, and else the one that it gave.
+pub(crate) fn own_label(labels: &Labels, me: NodeNo, fec: NodeNo) -> u32
+    ensures label { result ≡ own_labels me.0 labels.now.labels fec.0 }
+    ensures lawful { HasOne me.0 labels.now.labels fec.0 → IsLabel result }
 {
     if me.0 == fec.0 {
         IMPLICIT_NULL
-    } else if fec.0 < me.0 {
-        16 + u32::from(fec.0)
     } else {
-        15 + u32::from(fec.0)
+        labels.of(fec).unwrap_or(0)
     }
 }
 
-/// Uses the label of a FEC for the way there, or for nothing, unless it is the node's own.
-fn use_way(lfib: &mut Lfib, bindings: &Lib, me: NodeNo, fec: NodeNo) -> Result<(), AllocError>
-    requires few { nodes bindings.now ≤ 256 }
-    requires there { fec.0 < nodes bindings.now }
-    requires free { fec.0 ≢ me.0 → IsNotSite (use_of lfib.old (label_of me.0 fec.0)) }
-    requires fit { IsNextHop (usable bindings.now fec.0) }
-    ensures way { OnOk result (fec.0 ≢ me.0 → use_of lfib.new (label_of me.0 fec.0) ≡ fec_use (usable bindings.now fec.0)) }
-    ensures others { OnOk result ((label : ℕ) → (fec.0 ≢ me.0 → label ≢ label_of me.0 fec.0) → use_of lfib.new label ≡ use_of lfib.old label) }
+/// Whether a FEC has a label which may be another's at this tick.
+fn has_free_label(bindings: &Lib, labels: &Labels, fec: NodeNo, tick: u64) -> bool
+    requires { fec.0 < nodes bindings.now.bindings }
+    ensures { result ≡ (is_some (label_now labels.now.labels fec.0) && is_free bindings.now tick fec.0) }
 {
-    if fec.0 != me.0 {
-        lfib.set_fec(label_for(me, fec), bindings.usable(fec))?;
-    }
-    Ok(())
+    labels.of(fec).is_some() && bindings.is_free(fec, tick)
 }
 
-/// Uses the label of each other node's FEC for the way there, or for nothing.
-fn use_ways(lfib: &mut Lfib, bindings: &Lib, me: NodeNo, count: u32) -> Result<(), AllocError>
+/// The FECs that have a label which may be another's at this tick, in node order, where an offer may begin by these events: none
+/// gives up its label otherwise. Where none can be free yet, and where no offer begins, no FEC is looked at but those of the events.
+pub(crate) fn free_before(
+    alloc: Global,
+    bindings: &Lib,
+    labels: &Labels,
+    events: &[LibEvent],
+    count: u32,
+    tick: u64,
+) -> Result<Vec<NodeNo>, AllocError>
     requires few { count ≤ 256 }
-    requires all { count ≡ nodes bindings.now }
-    requires free { (fec : ℕ) → fec < count → fec ≢ me.0 → IsNotSite (use_of lfib.old (label_of me.0 fec)) }
-    requires fit { (fec : ℕ) → IsNextHop (usable bindings.now fec) }
-    ensures ways { OnOk result ((fec : ℕ) → fec < count → fec ≢ me.0 → use_of lfib.new (label_of me.0 fec) ≡ fec_use (usable bindings.now fec)) }
-    ensures others { OnOk result ((label : ℕ) → ((fec : ℕ) → fec < count → fec ≢ me.0 → label ≢ label_of me.0 fec) → use_of lfib.new label ≡ use_of lfib.old label) }
+    requires all { count ≡ nodes bindings.now.bindings }
+    requires fit { EventsFit bindings.now.bindings events.now }
+    ensures { IfOk result (λ free. (begun bindings.now.bindings (after_events bindings.now.bindings events.now) ≡ [] → ⊥) →
+        numbers free.items ≡ flat_map (free_of bindings.now labels.now.labels tick) (range_with_len 0 count)) }
+{
+    if bindings.may_be_free(tick) && bindings.may_begin(events) {
+        free_fecs(alloc, bindings, labels, count, tick)
+    } else {
+        Ok(Vec::new(alloc))
+    }
+}
+
+/// The FECs that have a label which may be another's at this tick, in node order.
+fn free_fecs(
+    alloc: Global,
+    bindings: &Lib,
+    labels: &Labels,
+    count: u32,
+    tick: u64,
+) -> Result<Vec<NodeNo>, AllocError>
+    requires few { count ≤ 256 }
+    requires all { count ≡ nodes bindings.now.bindings }
+    ensures { IfOk result (λ free. numbers free.items ≡ flat_map (free_of bindings.now labels.now.labels tick) (range_with_len 0 count)) }
+{
+    let mut free = Vec::new(alloc);
+    for at in 0..count {
+        let fec = NodeNo(at as u16);
+        if has_free_label(bindings, labels, fec, tick) {
+            free.push(fec)?;
+        }
+    }
+    Ok(free)
+}
+
+/// Uses the label of a FEC, where it has one, for the way there, or for nothing.
+fn use_way(lfib: &mut Lfib, bindings: &Lib, labels: &Labels, fec: NodeNo) -> Result<(), AllocError>
+    requires there { fec.0 < nodes bindings.now.bindings }
+    requires free { (label : ℕ) → label_now labels.now.labels fec.0 ≡ Some label → IsNotSite (use_of lfib.old label) }
+    requires fit { IsNextHop (usable bindings.now.bindings fec.0) }
+    ensures way { OnOk result ((label : ℕ) → label_now labels.now.labels fec.0 ≡ Some label → use_of lfib.new label ≡ fec_use (usable bindings.now.bindings fec.0)) }
+    ensures others { OnOk result ((label : ℕ) → label_now labels.now.labels fec.0 ≢ Some label → use_of lfib.new label ≡ use_of lfib.old label) }
+{
+    match labels.of(fec) {
+        Some(label) => lfib.set_fec(label, bindings.usable(fec)),
+        None => Ok(()),
+    }
+}
+
+/// Uses the label of each FEC that has one for the way there, or for nothing.
+fn use_ways(lfib: &mut Lfib, bindings: &Lib, labels: &Labels, count: u32) -> Result<(), AllocError>
+    requires few { count ≤ 256 }
+    requires all { count ≡ nodes bindings.now.bindings }
+    requires told { IsTold labels.now.labels }
+    requires free { (fec label : ℕ) → label_now labels.now.labels fec ≡ Some label → IsNotSite (use_of lfib.old label) }
+    requires fit { (fec : ℕ) → IsNextHop (usable bindings.now.bindings fec) }
+    ensures ways { OnOk result ((fec label : ℕ) → fec < count → label_now labels.now.labels fec ≡ Some label → use_of lfib.new label ≡ fec_use (usable bindings.now.bindings fec)) }
+    ensures others { OnOk result ((label : ℕ) → ((fec : ℕ) → label_now labels.now.labels fec ≢ Some label) → use_of lfib.new label ≡ use_of lfib.old label) }
 {
     for at in 0..count {
-        use_way(lfib, bindings, me, NodeNo(at as u16))?;
+        use_way(lfib, bindings, labels, NodeNo(at as u16))?;
     }
     Ok(())
 }
@@ -60,20 +118,21 @@ fn use_ways(lfib: &mut Lfib, bindings: &Lib, me: NodeNo, count: u32) -> Result<(
 fn use_ways_of(
     lfib: &mut Lfib,
     bindings: &Lib,
-    me: NodeNo,
+    labels: &Labels,
     events: &[LibEvent],
 ) -> Result<(), AllocError>
-    requires few { nodes bindings.now ≤ 256 }
-    requires there { AreBelow (nodes bindings.now) (fecs_in events.now) }
-    requires free { (fec : ℕ) → fec < nodes bindings.now → fec ≢ me.0 → IsNotSite (use_of lfib.old (label_of me.0 fec)) }
-    requires fit { (fec : ℕ) → IsNextHop (usable bindings.now fec) }
-    ensures ways { OnOk result ((fec : ℕ) → fec ≢ me.0 → (Apart fec (fecs_in events.now) → use_of lfib.old (label_of me.0 fec) ≡ fec_use (usable bindings.now fec)) →
-        use_of lfib.new (label_of me.0 fec) ≡ fec_use (usable bindings.now fec)) }
-    ensures others { OnOk result ((label : ℕ) → ((fec : ℕ) → fec < nodes bindings.now → fec ≢ me.0 → label ≢ label_of me.0 fec) → use_of lfib.new label ≡ use_of lfib.old label) }
+    requires there { AreBelow (nodes bindings.now.bindings) (fecs_in events.now) }
+    requires told { IsTold labels.now.labels }
+    requires free { (fec label : ℕ) → label_now labels.now.labels fec ≡ Some label → IsNotSite (use_of lfib.old label) }
+    requires fit { (fec : ℕ) → IsNextHop (usable bindings.now.bindings fec) }
+    ensures ways { OnOk result ((fec label : ℕ) → label_now labels.now.labels fec ≡ Some label →
+        (Apart fec (fecs_in events.now) → use_of lfib.old label ≡ fec_use (usable bindings.now.bindings fec)) →
+        use_of lfib.new label ≡ fec_use (usable bindings.now.bindings fec)) }
+    ensures others { OnOk result ((label : ℕ) → ((fec : ℕ) → label_now labels.now.labels fec ≢ Some label) → use_of lfib.new label ≡ use_of lfib.old label) }
 {
     for event in events {
         if let Some(fec) = event.fec() {
-            use_way(lfib, bindings, me, fec)?;
+            use_way(lfib, bindings, labels, fec)?;
         }
     }
     Ok(())
@@ -94,26 +153,27 @@ fn opens_one(events: &[LibEvent]) -> bool
 pub(crate) fn use_new_ways(
     lfib: &mut Lfib,
     bindings: &Lib,
-    me: NodeNo,
+    labels: &Labels,
     count: u32,
     events: &[LibEvent],
 ) -> Result<(), AllocError>
     requires few { count ≤ 256 }
-    requires all { count ≡ nodes bindings.now }
+    requires all { count ≡ nodes bindings.now.bindings }
     requires there { AreBelow count (fecs_in events.now) }
-    requires free { (fec : ℕ) → fec < count → fec ≢ me.0 → IsNotSite (use_of lfib.old (label_of me.0 fec)) }
-    requires fit { (fec : ℕ) → IsNextHop (usable bindings.now fec) }
-    ensures ways { OnOk result ((fec : ℕ) → fec < count → fec ≢ me.0 →
-        (InOrder 0 events.now → Apart fec (fecs_in events.now) → use_of lfib.old (label_of me.0 fec) ≡ fec_use (usable bindings.now fec)) →
-        (opens_one events.now ≡ true → use_of lfib.old (label_of me.0 fec) ≡ fec_use (usable bindings.now fec)) →
-        use_of lfib.new (label_of me.0 fec) ≡ fec_use (usable bindings.now fec)) }
-    ensures others { OnOk result ((label : ℕ) → ((fec : ℕ) → fec < count → fec ≢ me.0 → label ≢ label_of me.0 fec) → use_of lfib.new label ≡ use_of lfib.old label) }
+    requires told { IsTold labels.now.labels }
+    requires free { (fec label : ℕ) → label_now labels.now.labels fec ≡ Some label → IsNotSite (use_of lfib.old label) }
+    requires fit { (fec : ℕ) → IsNextHop (usable bindings.now.bindings fec) }
+    ensures ways { OnOk result ((fec label : ℕ) → fec < count → label_now labels.now.labels fec ≡ Some label →
+        (InOrder 0 events.now → Apart fec (fecs_in events.now) → use_of lfib.old label ≡ fec_use (usable bindings.now.bindings fec)) →
+        (opens_one events.now ≡ true → use_of lfib.old label ≡ fec_use (usable bindings.now.bindings fec)) →
+        use_of lfib.new label ≡ fec_use (usable bindings.now.bindings fec)) }
+    ensures others { OnOk result ((label : ℕ) → ((fec : ℕ) → label_now labels.now.labels fec ≢ Some label) → use_of lfib.new label ≡ use_of lfib.old label) }
 {
     if are_of_fecs(events) {
-        use_ways_of(lfib, bindings, me, events)
+        use_ways_of(lfib, bindings, labels, events)
     } else if opens_one(events) {
         Ok(())
     } else {
-        use_ways(lfib, bindings, me, count)
+        use_ways(lfib, bindings, labels, count)
     }
 }

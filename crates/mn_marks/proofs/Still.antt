@@ -6,13 +6,17 @@ use Rattle.mn_wiring.specs.declared.links.Dir.{Dir}
 use Rattle.mn_wiring.specs.Wiring.{link}
 use Rattle.mn_topo.specs.Network.{Network, wiring_of}
 use Rattle.mn_topo.specs.declared.steps.JournalEntry.{JournalEntry}
-use Rattle.mn_ledger.specs.World.{World, Config}
-use Rattle.mn_ledger.specs.Ledger.{config_after, first_config, world_of, packets_of}
+use Rattle.mn_ledger.specs.World.{World}
+use Rattle.mn_ledger.specs.Ledger.{start, after, world_of, packets_of}
 use Rattle.mn_ledger.specs.Items.{Channel, Notices, Messages, Routes, Frames, Item, Flight, items_on, made_by}
 use Rattle.mn_laws.specs.Ids.{frames_sent}
 use Rattle.mn_course.specs.Coming.{is_each, is_lost}
-use Rattle.mn_frames.specs.Given.{given, given_first, given_from, given_in}
-use Rattle.mn_frames.specs.Numbers.{Labels, labels_of, labels_from, labels_after, first_labels}
+use Rattle.mn_labels.specs.Labels.{Labels}
+use Rattle.mn_ledger.specs.Places.{home_of}
+use Rattle.mn_reuse.specs.Resting.{rested_after, rested_from, rested_of}
+use Rattle.mn_reuse.specs.Labels.{labels_after, first_labels, labels_from, labels_of as node_labels}
+use Rattle.mn_frames.specs.Given.{Labelling, given, label_at}
+use Rattle.mn_frames.specs.Numbers.{labels_of}
 use Rattle.mn_damage.specs.Same.{unmarked, AreOne}
 use Rattle.mn_damage.proofs.Marks.{both, are_one}
 use Rattle.mn_timetable.specs.Keys.{keys_on, of_notices, of_messages, of_routes, of_frames}
@@ -25,27 +29,33 @@ use Rattle.mn_net_now.specs.Now.{NetNow, StandsFor, packed_in}
 use Rattle.mn_topo.specs.declared.steps.Damaged.{Damaged}
 use Rattle.mn_marks.specs.Marks.{IsStill, marked, marked_last, MarksLast}
 
-given_un : (t : Network) (node : ℕ) (c : Config) (es : List JournalEntry) → given_from t node c (map unmarked es) ≡ given_from t node c es
-given_un t node c [] = refl
-given_un t node c (e ∷ es) = ap (λ xs. given_in t node c e.step ++ xs) (given_un t node (config_after c e.step) es)
+given_un : (t : Network) (node : ℕ) (w : World) (rested : ℕ → ℕ) (labels : Labels) (es : List JournalEntry) →
+    labels_from t node w rested labels (map unmarked es) ≡ labels_from t node w rested labels es
+given_un t node w rested labels [] = refl
+given_un t node w rested labels (e ∷ es) =
+    given_un t node (after t w e.step) (rested_after t w e.tick e.step node rested) (labels_after t w e.tick e.step node rested labels) es
 
-labels_un : (t : Network) (c : Config) (l : Labels) (es : List JournalEntry) → labels_from t c l (map unmarked es) ≡ labels_from t c l es
-labels_un t c l [] = refl
-labels_un t c l (e ∷ es) = labels_un t (config_after c e.step) (labels_after t c l e.step) es
+rested_un : (t : Network) (node : ℕ) (w : World) (rested : ℕ → ℕ) (es : List JournalEntry) →
+    rested_from t node w rested (map unmarked es) ≡ rested_from t node w rested es
+rested_un t node w rested [] = refl
+rested_un t node w rested (e ∷ es) = rested_un t node (after t w e.step) (rested_after t w e.tick e.step node rested) es
 
 module _ (t : Network) (one other : List JournalEntry) (e : map unmarked one ≡ map unmarked other) where
   same : AreOne t one other
   same = are_one t one other e
 
   given_same : given t one ≡ given t other
-  unfolding given
-  given_same = fun_ext (λ node. ap (λ xs. given_first t node ++ xs)
-      (both (λ es. given_from t node (first_config t) es) one other (given_un t node (first_config t) one) (given_un t node (first_config t) other) e))
+  unfolding given node_labels
+  given_same = fun_ext (λ node. both (λ es. labels_from t node (start t) (λ fec. 0) (first_labels t node) es) one other
+      (given_un t node (start t) (λ fec. 0) (first_labels t node) one) (given_un t node (start t) (λ fec. 0) (first_labels t node) other) e)
 
   labels_same : labels_of t one ≡ labels_of t other
   unfolding labels_of
-  labels_same = both (λ es. labels_from t (first_config t) (first_labels t) es) one other (labels_un t (first_config t) (first_labels t) one)
-      (labels_un t (first_config t) (first_labels t) other) e
+  labels_same = ap (λ (g : Labelling). λ site attachment. label_at g (home_of t site) site attachment) given_same
+
+  rested_same : rested_of t one ≡ rested_of t other
+  rested_same = fun_ext (λ node. both (λ es. rested_from t node (start t) (λ fec. 0) es) one other
+      (rested_un t node (start t) (λ fec. 0) one) (rested_un t node (start t) (λ fec. 0) other) e)
 
   frames_same : (ps : List (List ℕ)) (l : ℕ) (d : Dir) → frames_sent t one ps l d ≡ frames_sent t other ps l d
   frames_same ps l d = ap (items_on (Frames l d)) (same.made ps)
@@ -108,8 +118,12 @@ still net journal e = record {
     stands : (ps : List (List ℕ)) → StandsFor net ps → StandsFor (record net { journal = journal }) ps
     stands ps h = record {
       works = h.works;
-      transport = subst (λ g. transport.StandsFor net.topology g (world_of net.topology journal) net.transport) (given_same net.topology net.journal journal e)
-          (subst (λ w. transport.StandsFor net.topology (given net.topology net.journal) w net.transport) one.world h.transport);
+      transport = subst (λ r. transport.StandsFor net.topology (given net.topology journal) r (world_of net.topology journal) net.transport)
+          (rested_same net.topology net.journal journal e)
+          (subst (λ g. transport.StandsFor net.topology g (rested_of net.topology net.journal) (world_of net.topology journal) net.transport)
+          (given_same net.topology net.journal journal e)
+          (subst (λ w. transport.StandsFor net.topology (given net.topology net.journal) (rested_of net.topology net.journal) w net.transport)
+          one.world h.transport));
       routes = subst (λ l. routing.StandsFor net.topology l (world_of net.topology journal) net.routes) (labels_same net.topology net.journal journal e)
           (subst (λ w. routing.StandsFor net.topology (labels_of net.topology net.journal) w net.routes) one.world h.routes);
       stands = packed net.topology net.journal journal e ps (packed_in net) h.stands;

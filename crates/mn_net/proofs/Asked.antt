@@ -20,7 +20,7 @@ use Rattle.mn_course.specs.Coming.{is_kind, kind_of, lost, delivery}
 use Rattle.mn_course.specs.Next.{IsNext}
 use Rattle.mn_net_model.specs.Stands as model
 use Rattle.mn_net_look.specs.Parts.{PartsStand, packed_of}
-use Rattle.mn_net_now.specs.Now.{NetNow, StandsFor, IsNet}
+use Rattle.mn_net_moves.specs.Now.{NetNow, StandsFor, IsNet}
 
 pub parts_stand : (net : NetNow) (ps : List (List ℕ)) → net.moving.channels ≡ 2 * length net.topology.links → StandsFor net ps →
     PartsStand net.topology net.journal ps net.transport net.routes net.moving net.tally

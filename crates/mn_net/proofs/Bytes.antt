@@ -34,11 +34,12 @@ use Rattle.mn_transit.specs.Stands.{AreFlown}
 use Rattle.mn_timetable.specs.Keys.{Numbering, Names, IsThere, is_number, of_notices, of_messages, of_routes, of_frames, channel_from}
 use Rattle.mn_timetable.proofs.OtherKeys.{edge-below, pair_one}
 use Rattle.mn_transport_model.specs.Sending.{spelled}
+use Rattle.mn_transport_model.specs.Stands.{own_of}
 use Rattle.mn_transport_model.proofs.Spelled.{sends-here}
 use Rattle.mn_net_model.proofs.News.{all_there}
 use Rattle.mn_net_look.specs.Coming.{dir_of}
 use Rattle.mn_net_look.proofs.OnChannels.{names_all, message_named, route_named}
-use Rattle.mn_net_now.specs.Now.{NetNow, StandsFor}
+use Rattle.mn_net_moves.specs.Now.{NetNow, StandsFor}
 use Rattle.mn_net.specs.declared.flight.Channel.TheVariants as its
 use Rattle.mn_net.specs.declared.flight.Channel.{Channel as Place}
 use Rattle.mn_net.specs.Told.{channel_of, bytes_on}
@@ -86,19 +87,24 @@ module _ (t : Network) (j : List JournalEntry) where
   abbrev w : World
   w = world_of t j
 
-  dropped : (l end id h : ℕ) (xs : List Message) → drop h (spelled (wiring_of t) l end id xs) ≡ spelled (wiring_of t) l end (id + h) (drop h xs)
-  dropped l end id zero xs = ap (λ n. spelled (wiring_of t) l end n xs) (omega arith)
+  -- what an end says, by the labels that FECs have now
+  abbrev spelled_now : ℕ → ℕ → ℕ → List Message → List (List ℕ)
+  spelled_now l end id xs = spelled (wiring_of t) (own_of (given t j)) l end id xs
+
+  dropped : (l end id h : ℕ) (xs : List Message) → drop h (spelled_now l end id xs) ≡ spelled_now l end (id + h) (drop h xs)
+  dropped l end id zero xs = ap (λ n. spelled_now l end n xs) (omega arith)
   dropped l end id (suc h) [] = refl
   dropped l end id (suc h) (x ∷ xs) =
-      dropped l end (id + 1) h xs ∙ ap (λ n. spelled (wiring_of t) l end n (drop h xs)) (omega arith)
+      dropped l end (id + 1) h xs ∙ ap (λ n. spelled_now l end n (drop h xs)) (omega arith)
 
   said_told : (l end k : ℕ) (xs : List Message) →
-      spelled (wiring_of t) l end (w.sessions.heard l (across (wiring_of t) l end) + k + 1) xs
+      spelled_now l end (w.sessions.heard l (across (wiring_of t) l end) + k + 1) xs
       ≡ told_from (λ n load. bytes_on t j n (Messages l end) load) k (map (λ message. Says message) xs)
   said_told l end k [] = refl
   said_told l end k (x ∷ xs) =
-      ap (λ rest. (pdu_in_network (wiring_of t) l end (w.sessions.heard l (across (wiring_of t) l end) + k + 1) x).bytes ∷ rest)
-      (ap (λ n. spelled (wiring_of t) l end n xs) (next (w.sessions.heard l (across (wiring_of t) l end)) k) ∙ said_told l end (k + 1) xs)
+      ap (λ rest. (pdu_in_network (wiring_of t) l end (own_of (given t j) end) (own_of (given t j) (across (wiring_of t) l end))
+      (w.sessions.heard l (across (wiring_of t) l end) + k + 1) x).bytes ∷ rest)
+      (ap (λ n. spelled_now l end n xs) (next (w.sessions.heard l (across (wiring_of t) l end)) k) ∙ said_told l end (k + 1) xs)
     where
       next : (h k : ℕ) → h + k + 1 + 1 ≡ h + (k + 1) + 1
       next h k = omega arith
@@ -165,9 +171,9 @@ module _ (net : NetNow) (lawful : IsLawful net.topology) (ps : List (List ℕ)) 
       record {
         told =
             h.transport.messages l d there
-            ∙ ap (λ n. drop ((world_of t j).sessions.heard l n) (spelled (wiring_of t) l from 1 said)) (sym (ends l d there).1)
+            ∙ ap (λ n. drop ((world_of t j).sessions.heard l n) (spelled (wiring_of t) (own_of (given t j)) l from 1 said)) (sym (ends l d there).1)
             ∙ dropped t j l from 1 heard said
-            ∙ ap (λ n. spelled (wiring_of t) l from n (drop heard said)) (one_on heard)
+            ∙ ap (λ n. spelled (wiring_of t) (own_of (given t j)) l from n (drop heard said)) (one_on heard)
             ∙ said_told t j l from 0 (drop heard said)
             ∙ ap (told_from (λ n load. bytes_on t j n (Messages l from) load) 0) (sym (flies.messages l from there (ends l d there).0));
         names = names_all t (of_messages t) (Messages l from) (channel l d) (message_named t lawful l d there) items (all_there t j ps lawful h.stands.lawful);

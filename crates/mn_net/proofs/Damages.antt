@@ -21,8 +21,8 @@ use Rattle.mn_ledger.specs.Refusal.{refusal}
 use Rattle.mn_damage.specs.Refusals.{damage_refusal, still_reads}
 use Rattle.mn_damage.proofs.Lives.{ends, in_turn}
 use Rattle.mn_net.specs.Damaged.{IsDamaged}
-use Rattle.mn_net_now.specs.Now.{NetNow, StandsFor, IsNet}
-use Rattle.mn_net_now.specs.Done.{IsDone}
+use Rattle.mn_net_moves.specs.Now.{NetNow, StandsFor, IsNet}
+use Rattle.mn_net_moves.specs.Done.{IsDone}
 
 -- what is taken off the end and put back marked is the last entry marked
 pub put_back : (old rest later : List JournalEntry) (last : JournalEntry) (m : Damaged) → old ≡ rest ++ last ∷ [] → later ≡ rest ++ marked last m ∷ [] →

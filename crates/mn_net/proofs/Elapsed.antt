@@ -9,7 +9,7 @@ use Rattle.mn_transit.specs.Stands as transit
 use Rattle.mn_transit.specs.Aging.{DueAsSent}
 use Rattle.mn_timetable.specs.Keys.{keys_in, keys_in_time}
 use Rattle.mn_timetable.specs.Steps.{pushed}
-use Rattle.mn_net_now.specs.Now.{NetNow}
+use Rattle.mn_net_moves.specs.Now.{NetNow}
 use Rattle.mn_net_moves.proofs.Moves.{Goes}
 
 module _ (old : NetNow) (begun moving : Moving) (ticks : ℕ) where

@@ -1,7 +1,7 @@
 -- What edges hold in a network that works.
 use Rattle.std.proofs.Common.{ℕ, zero, suc, ◌≡◌, ◌+◌, ◌<◌, Bool, true, false, List, [], ◌∷◌, length, map, refl, arith, sym, ap, ◌∙◌, subst, Option, Some, None, inl}
 use Rattle.std.specs.Prelude.{◌==◌, ◌||◌, not, filter, if◌then◌else◌, slice_get, slice_index_or, option_map}
-use Rattle.std.specs.List.{Contains, list_any}
+use Rattle.std.specs.List.{list_any}
 use Rattle.std.proofs.lemmas.List.{length-map}
 use Rattle.std.proofs.lemmas.Option.{same_Some}
 use Rattle.mn_wiring.specs.Wiring.{nodes_of}
@@ -23,9 +23,9 @@ use Rattle.mn_ledger.specs.Held as ledger_held
 use Rattle.mn_ledger.proofs.Held.{one_held}
 use Rattle.mn_laws.proofs.There.{edge_there}
 use Rattle.mn_laws.proofs.Holding.{length_range}
-use Rattle.mn_frames.specs.Given.{given, label_at, attachment_of}
+use Rattle.mn_frames.specs.Given.{given, label_at}
 use Rattle.mn_frames.specs.Numbers.{labels_of}
-use Rattle.mn_frames.proofs.Anew.{by_table, gives_to_no_other}
+use Rattle.mn_frames.proofs.Anew.{gives_to_no_other}
 use Rattle.mn_frames.proofs.Named.{all_have_labels}
 use Rattle.mn_vrf.specs.Vrf.{VrfState, heads, IsHeldAt}
 use Rattle.mn_vrf.specs.declared.source.Source.{Source}
@@ -45,7 +45,7 @@ use Rattle.mn_routing_model.proofs.Lawful.{rests, stands}
 use Rattle.mn_routing_model.proofs.Tables.{map_numbers_at}
 use Rattle.mn_net_look.specs.Refusal.{asked}
 use Rattle.mn_net_look.proofs.Vrfs.{vrf_is}
-use Rattle.mn_net_now.specs.Now.{NetNow, IsNet}
+use Rattle.mn_net_moves.specs.Now.{NetNow, IsNet}
 use Rattle.mn_net.specs.Tables.{prefixes_of, best_at, held_at}
 use Rattle.mn_net.proofs.Prefixes.{place_told}
 
@@ -151,13 +151,12 @@ module _ (net : NetNow) (lawful : IsLawful net.topology) (is : IsNet net) (v : �
   routes = held t c p (edge_of t v) v
 
   label_is : (route : HeldRoute) → In routes route → l route.site route.attachment ≡ label_at (given t net.journal) route.edge route.site route.attachment
+  unfolding labels_of
   label_is route i =
       let journal = is.stands.stands.lawful in
       let there = (all_have_labels t net.journal is.inputs lawful journal).held v route h (contained_in routes route i) in
-      let at = gives_to_no_other t net.journal is.inputs route.edge route.site route.attachment journal there in
-      sym (ap (λ e. label_at (given t net.journal) e route.site route.attachment) (sym at.home)
-      ∙ by_table t net.journal is.inputs route.site route.attachment lawful journal
-      (subst (λ e. Contains (given t net.journal e) (attachment_of route.site route.attachment)) (sym at.home) there))
+      ap (λ e. label_at (given t net.journal) e route.site route.attachment)
+      (gives_to_no_other t net.journal is.inputs route.edge route.site route.attachment journal there).home
 
   given_as : (route : HeldRoute) → In routes route → as_held l route ≡ entry.as_held (given t net.journal) route
   given_as route i = ap (λ (s : Source). let pair : AddressBlock × Source = (route.prefix, s) in pair) (by route.source)

@@ -1,5 +1,5 @@
 -- What a step delivered is the newest copy, and there is one packet that is that.
-use Rattle.std.proofs.Common.{ℕ, zero, suc, ◌≡◌, ◌==◌, ◌+◌, ◌<◌, ◌≤◌, cond, true, false, List, [], ◌∷◌, length, slice_index_or, Option, Some, None, inl, inr, refl, arith}
+use Rattle.std.proofs.Common.{ℕ, zero, suc, ◌≡◌, ◌+◌, ◌<◌, ◌≤◌, cond, true, List, [], ◌∷◌, length, slice_index_or, Option, Some, None, inl, inr, refl, arith}
 use Rattle.std.proofs.Common.{sym, ◌∙◌, ap, subst}
 use Rattle.std.specs.Prelude.{slice_get}
 use Rattle.std.proofs.lemmas.Bool.Decides.{eqb_tells}
@@ -14,7 +14,7 @@ use Rattle.mn_ledger.specs.World.{World}
 use Rattle.mn_ledger.specs.Packets.{Packets}
 use Rattle.mn_ledger.specs.Ledger.{after, start, no_packets, injects, next_of, left_by, packets_from, packets_of, packets_by}
 use Rattle.mn_ledger.specs.Time.{timed}
-use Rattle.mn_ledger.specs.Verdicts.{one_if, verdict_on, AreInOnePlace}
+use Rattle.mn_ledger.specs.Verdicts.{one_if, AreInOnePlace}
 use Rattle.mn_ledger.proofs.OnePlace.{stepped, timed_places}
 use Rattle.mn_laws.specs.Accounts.{is_copy}
 use Rattle.mn_laws.proofs.Copies.{Goes, goes, nowhere, numbered}

@@ -24,6 +24,8 @@ use Rattle.mn_ledger.specs.Items.{delay_on, numbered, left_in_flight, in_time_by
 use Rattle.mn_ledger.specs.Time.{clock_after}
 use Rattle.mn_ledger.specs.InFlight.{IsInFlight}
 use Rattle.mn_ledger.proofs.Flows.{in_flight}
+use Rattle.mn_frames.specs.Given.{given}
+use Rattle.mn_transport_model.specs.Stands.{own_of}
 use Rattle.mn_laws.specs.Flight.{AreAscending, IsOfChannel}
 use Rattle.mn_laws.proofs.Channels.{channels_are}
 use Rattle.mn_laws.proofs.Ordered.{numbers_ascend}
@@ -187,7 +189,7 @@ module _ (t : Network) (lawful : IsLawful t) (es : List JournalEntry) (ps : List
             let heard : ℕ = (world_of t now).sessions.heard l (across (wiring_of t) l end) in
             let many : length (loads_on (Messages l end) items) ≡ length said - heard =
             ap length (flies.messages l end of.0 of.1) ∙ length-map (drop heard said) (λ message. Says message) ∙ length-drop heard said in
-            ap (λ id. (pdu_in_network (wiring_of t) l end id message).bytes)
+            ap (λ id. (pdu_in_network (wiring_of t) l end (own_of (given t now) end) (own_of (given t now) (across (wiring_of t) l end)) id message).bytes)
             (as_said (length (loads_on (Messages l end) items)) heard (length said) n (count_made (Messages l end) rest) many (all own)
             ∙ ap (λ c. length said - length (cond c (x ∷ those_on (Messages l end) rest) (those_on (Messages l end) rest)) + 1) (sym own))
         by (Messages l end) Notice n of all = absurd of

@@ -6,7 +6,7 @@ use Rattle.mn_topo.specs.declared.steps.Damaged.TheVariants.{Undamaged}
 use Rattle.mn_ledger.specs.Bgp.{is_routing}
 use Rattle.mn_ledger.specs.Parts.{is_moving}
 use Rattle.mn_ledger.specs.Transport.{is_transport}
-use Rattle.mn_net_tally.specs.Tallies.{Tally, HasStatic, after_static}
+use Rattle.mn_net_look.specs.Tallies.{Tally, HasStatic, after_static}
 use Rattle.mn_transport_model.specs.Steps.{touches}
 use Rattle.mn_net.specs.Turns.{link_step, route_step}
 use Rattle.mn_net.specs.declared.turns.LinkTurn.{LinkTurn}

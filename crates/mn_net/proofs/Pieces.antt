@@ -23,7 +23,7 @@ use Rattle.mn_transport_model.specs.declared.notice.Notice.{Notice as NoticeOf}
 use Rattle.mn_timetable.specs.Keys.{Numbering, keys_in, keys_on, with_key, of_notices, of_messages, of_routes, of_frames}
 use Rattle.mn_net_look.specs.Coming.{dir_of, pending_seen}
 use Rattle.mn_net_look.specs.Parts.{OnChannels, packed_of}
-use Rattle.mn_net_now.specs.Now.{NetNow, StandsFor}
+use Rattle.mn_net_moves.specs.Now.{NetNow, StandsFor}
 use Rattle.mn_net.specs.declared.flight.Channel.{Channel as Place}
 use Rattle.mn_net.specs.Told.{Told, channel_of, bytes_on, item_told, told_at}
 use Rattle.mn_net.specs.Tables.{count_of}

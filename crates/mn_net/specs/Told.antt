@@ -16,6 +16,7 @@ use Rattle.mn_ledger.specs.Items as on
 use Rattle.mn_frames.specs.Given.{given}
 use Rattle.mn_frames.specs.Numbers.{labels_of}
 use Rattle.mn_frames.specs.Frames.{stack_of}
+use Rattle.mn_transport_model.specs.Stands.{own_of}
 use Rattle.mn_bgp_spelling.specs.Spelling.{bytes_in}
 use Rattle.mn_course.specs.declared.coming.Kind.{Kind}
 use Rattle.mn_course.specs.Coming.{kind_of, place_of}
@@ -35,12 +36,13 @@ channel_of topology (on.Messages l end) = Ldp (record { 0 = l }) (away_from topo
 channel_of topology (on.Routes edge peer) = Bgp (record { 0 = edge }) (record { 0 = peer })
 channel_of topology (on.Frames l dir) = Frame (record { 0 = l }) dir
 
--- A message of LDP in a PDU of its own, whose id is its place, from 1, among those that its end has said in the session's life:
--- the other end has heard so many, and so many are in flight before it (RFC 5036, section 3.5). A message of BGP (RFC 4271,
--- section 4.1). A frame is its stack and then the packet (RFC 3032, section 2.1). A notice has no bytes.
+-- A message of LDP in a PDU of its own, with the label that its FEC has now, whose id is its place, from 1, among those that its
+-- end has said in the session's life: the other end has heard so many, and so many are in flight before it (RFC 5036, section
+-- 3.5). A message of BGP (RFC 4271, section 4.1). A frame is its stack and then the packet (RFC 3032, section 2.1). A notice has no
+-- bytes.
 abbrev pub bytes_on : Network → List JournalEntry → ℕ → on.Channel → Load → List ℕ
 bytes_on topology journal before (on.Messages l end) (Says message) =
-    (pdu_in_network (wiring_of topology) l end
+    (pdu_in_network (wiring_of topology) l end (own_of (given topology journal) end) (own_of (given topology journal) (across (wiring_of topology) l end))
     ((world_of topology journal).sessions.heard l (across (wiring_of topology) l end) + before + 1) message).bytes
 bytes_on topology journal before (on.Routes edge peer) (Tells telling) = bytes_in topology (labels_of topology journal) edge telling
 bytes_on topology journal before (on.Frames l dir) (Carries token) =
@@ -66,7 +68,8 @@ told_at topology journal inputs number =
 -- of LDP is the last but so many that its end has said.
 abbrev pub bytes_made : Network → List JournalEntry → ℕ → on.Channel → Load → List ℕ
 bytes_made topology journal left (on.Messages l end) (Says message) =
-    (pdu_in_network (wiring_of topology) l end (length ((world_of topology journal).sessions.said l end) - left + 1) message).bytes
+    (pdu_in_network (wiring_of topology) l end (own_of (given topology journal) end) (own_of (given topology journal) (across (wiring_of topology) l end))
+    (length ((world_of topology journal).sessions.said l end) - left + 1) message).bytes
 bytes_made topology journal left on load = bytes_on topology journal 0 on load
 
 abbrev pub count_made : on.Channel → List (on.Channel × Load) → ℕ

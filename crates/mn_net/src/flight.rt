@@ -4,7 +4,7 @@ ghost use Rattle.mn_stack.specs.Labelled.{frame_bytes};
 ghost use Rattle.mn_ledger.specs.Items.{flight_of};
 ghost use Rattle.mn_course.specs.declared.coming.Kind.TheVariants as kind;
 ghost use Rattle.mn_net_look.specs.Coming.{dir_of};
-ghost use Rattle.mn_net_now.specs.Now.{StandsFor};
+ghost use Rattle.mn_net_moves.specs.Now.{StandsFor};
 ghost use Rattle.mn_net.specs.declared.flight.Channel.TheVariants as channel;
 ghost use Rattle.mn_net.specs.Told.{told_at};
 ghost use Rattle.mn_net.specs.Tables.{count_of};

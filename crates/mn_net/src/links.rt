@@ -3,16 +3,16 @@ ghost use Rattle.std.specs.Prelude.{◌≡◌, ◌<◌, ◌≤◌, ◌-◌, ◌^
 ghost use Rattle.std.specs.List.{All};
 ghost use Rattle.mn_topo.specs.declared.steps.Step.TheVariants as step;
 ghost use Rattle.mn_transport_model.specs.Steps.{MayDo, Did};
-ghost use Rattle.mn_net_now.specs.Done.{MayBeDone, IsDone, HasFailed};
+ghost use Rattle.mn_net_moves.specs.Done.{MayBeDone, IsDone, HasFailed};
 ghost use Rattle.mn_net.specs.Turns.{link_step};
 
 use crate::net::Net;
 use crate::turns::LinkTurn;
 use mn_base::LinkNo;
 use mn_flight::Clock;
+use mn_net_look::Transport;
 use mn_routing_model::routes_stay_as_they_were;
 use mn_topo::{Damaged, JournalEntry, Step, Topology};
-use mn_transport::Transport;
 use std::alloc::AllocError;
 
 /// The transport does its part of a step of links or LDP. It answers how many items that made.

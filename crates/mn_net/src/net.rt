@@ -6,18 +6,15 @@ ghost use Rattle.mn_topo.specs.declared.steps.Step.TheVariants as step;
 ghost use Rattle.mn_ledger.specs.Refusal.{refusal};
 ghost use Rattle.mn_ledger.specs.OneMore.{with_packet};
 ghost use Rattle.mn_ledger.specs.declared.refused.Refused.TheVariants as why;
-ghost use Rattle.mn_net_now.specs.Now.{StandsFor, HasRoom, but_spare};
-ghost use Rattle.mn_net_now.specs.Labels.{LabelsMean};
-ghost use Rattle.mn_net_now.specs.Done.{Answers, Refuses, IsLonger, HasFailed, Leaves, MayBeDone, IsDone, is_of_frames, TakesOne, TakesRoom};
+ghost use Rattle.mn_net_moves.specs.Now.{StandsFor, HasRoom, but_spare};
+ghost use Rattle.mn_net_moves.specs.Labels.{LabelsMean};
+ghost use Rattle.mn_net_moves.specs.Done.{Answers, Refuses, IsLonger, HasFailed, Leaves, MayBeDone, IsDone, is_of_frames, TakesOne, TakesRoom};
 
 use crate::turns::{LinkTurn, RouteTurn};
 use mn_ledger::Refused;
-use mn_net_look::refusal;
-use mn_net_tally::Tally;
-use mn_routing::Routes;
+use mn_net_look::{Routes, Tally, Transport, refusal};
 use mn_topo::{JournalEntry, Step, Topology};
 use mn_transit::Transit;
-use mn_transport::Transport;
 use std::alloc::{AllocError, Global};
 use std::marker::Model;
 
@@ -45,7 +42,7 @@ pub struct Net {
 
 impl Model for Net {
     ghost use Rattle.std.specs.Prelude.{◌-◌, vec_len, vec_capacity};
-    ghost use Rattle.mn_net_now.specs.Now.{NetNow, WorksAsNet};
+    ghost use Rattle.mn_net_moves.specs.Now.{NetNow, WorksAsNet};
 
     ghost Value = { NetNow };
 

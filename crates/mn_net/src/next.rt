@@ -8,7 +8,7 @@ ghost use Rattle.mn_laws.specs.Flight.{IsOpen};
 ghost use Rattle.mn_course.specs.Coming.{coming as ledgers, delivery};
 ghost use Rattle.mn_course.specs.Next.{first_due};
 ghost use Rattle.mn_course.specs.declared.coming.Kind;
-ghost use Rattle.mn_net_now.specs.Now.{StandsFor};
+ghost use Rattle.mn_net_moves.specs.Now.{StandsFor};
 
 use crate::net::Net;
 use mn_course::{Coming, Kind};

@@ -8,16 +8,18 @@ ghost use Rattle.mn_ledger.specs.Ledger.{world_of, packets_of};
 ghost use Rattle.mn_ledger.specs.Lawful.{GoesForward};
 ghost use Rattle.mn_ledger.specs.Transport.{view_of};
 ghost use Rattle.mn_frames.specs.Given.{given};
+ghost use Rattle.mn_frames.specs.Resting.{rested_of};
+ghost use Rattle.mn_labels.specs.Labels.{IsTold};
 ghost use Rattle.mn_transport_model.specs.Stands.{IsNode};
-ghost use Rattle.mn_net_now.specs.Now.{StandsFor};
-ghost use Rattle.mn_net_moves.specs.Told.{hop_to, state_at};
+ghost use Rattle.mn_net_moves.specs.Now.{StandsFor};
+ghost use Rattle.mn_net_moves.specs.Told.{hop_to, state_at, ChangedOnceFree};
 ghost use Rattle.mn_ledger.specs.OneMore.{tick_from};
 ghost use Rattle.mn_ledger.specs.Settled.{IsSettled};
 ghost use Rattle.mn_net.specs.Settled.{IsByLinks};
 
 use crate::net::Net;
 use mn_base::{LinkNo, NodeNo};
-use mn_labels::Bind;
+use mn_labels::Given;
 use mn_linkdb::{Tree, View};
 use mn_lsr::Lsr;
 use mn_states::LdpState;
@@ -56,7 +58,7 @@ impl Net {
     pub fn transport(&self, node: NodeNo) -> &Lsr
         requires works { self.now.failed ≡ false }
         requires node { node.0 < length self.now.topology.loopbacks }
-        ensures told { IsNode self.now.topology (given self.now.topology self.now.journal) (world_of self.now.topology self.now.journal) node.0 result.now }
+        ensures told { IsNode self.now.topology (given self.now.topology self.now.journal) (rested_of self.now.topology self.now.journal) (world_of self.now.topology self.now.journal) node.0 result.now }
     {
         self.transport.node(node)
     }
@@ -113,13 +115,18 @@ impl Net {
         next_hop(self.transport.outer(&self.topology, node, edge))
     }
 
-    /// The labels that a node gave, from 16 upward.
-    pub fn labels(&self, node: NodeNo) -> &[Bind]
+    /// The labels that a node gave, in the order of giving. An attachment keeps its label for good, a FEC until it gives it up.
+    pub fn labels(&self, node: NodeNo) -> &[Given]
         requires works { self.now.failed ≡ false }
         requires node { node.0 < length self.now.topology.loopbacks }
-        ensures told { result.now ≡ given self.now.topology self.now.journal node.0 }
+        ensures told { result.now ≡ (given self.now.topology self.now.journal node.0).given }
+        // No label means two things, neither two FECs nor a FEC and an attachment.
+        ensures one { IsTold (given self.now.topology self.now.journal node.0) }
+        // And what a label means has changed in the last step only where it was free before it.
+        ensures free { ChangedOnceFree self.now.topology self.now.journal node.0 }
     {
-        self.transport.node(node).labels().table()
+        self.topology.laws();
+        self.transport.node(node).labels().given()
     }
 
     /// The state of the end of a link's LDP session that sends in a direction, and none where no session lives.

@@ -2,14 +2,13 @@
 ghost use Rattle.std.specs.Prelude.{◌≡◌, ◌<◌, ◌≤◌, ◌^◌, [], true, false, IfOk, OnOk, OnErr};
 ghost use Rattle.std.specs.List.{All};
 ghost use Rattle.mn_routing_model.specs.Steps.{MayDo, Did};
-ghost use Rattle.mn_net_now.specs.Done.{MayBeDone, IsDone, HasFailed};
+ghost use Rattle.mn_net_moves.specs.Done.{MayBeDone, IsDone, HasFailed};
 ghost use Rattle.mn_net.specs.Turns.{route_step};
 
 use crate::net::Net;
 use crate::turns::RouteTurn;
 use mn_flight::Clock;
-use mn_net_tally::count_static;
-use mn_routing::Routes;
+use mn_net_look::{Routes, count_static};
 use mn_topo::{Damaged, JournalEntry, Topology};
 use mn_transport_model::a_transport_goes_on_as_it_was;
 use std::alloc::AllocError;

@@ -1,7 +1,7 @@
 //! The steps that attach and detach sites.
 ghost use Rattle.std.specs.Prelude.{[], OnOk, OnErr};
 ghost use Rattle.mn_topo.specs.declared.steps.Step.TheVariants as step;
-ghost use Rattle.mn_net_now.specs.Done.{MayBeDone, IsDone, HasFailed};
+ghost use Rattle.mn_net_moves.specs.Done.{MayBeDone, IsDone, HasFailed};
 
 use crate::net::Net;
 use mn_base::SiteNo;

@@ -30,10 +30,10 @@ use Rattle.mn_course.proofs.Nexts.{what_is_next}
 use Rattle.mn_routing_model.specs.Routed.{Routed}
 use Rattle.mn_transit.specs.Moving.{Moving}
 use Rattle.mn_transport_model.specs.Carried.{Carried}
-use Rattle.mn_net_tally.specs.Rising.{AreRising}
-use Rattle.mn_net_tally.specs.Tallies.{Tally}
-use Rattle.mn_net_tally.proofs.Counting.{tells}
-use Rattle.mn_net_tally.proofs.Rising.{lost_rise}
+use Rattle.mn_net_refusal.specs.Rising.{AreRising}
+use Rattle.mn_net_refusal.specs.Tallies.{Tally}
+use Rattle.mn_net_refusal.proofs.Counting.{tells}
+use Rattle.mn_net_refusal.proofs.Rising.{lost_rise}
 use Rattle.mn_course.specs.Coming.{is_due_before, earlier, coming}
 use Rattle.mn_timetable.specs.Keys.{Key, Numbering, key_of, keys_in, keys_on, with_key, of_notices, of_messages, of_routes, of_frames, channel_from}
 use Rattle.mn_timetable.proofs.OtherKeys.{edge-below}

@@ -15,6 +15,7 @@ use Rattle.mn_ledger.specs.Refusal.{refusal}
 use Rattle.mn_ledger.specs.Items.{flight_of}
 use Rattle.mn_frames.specs.Given.{given}
 use Rattle.mn_frames.specs.Numbers.{labels_of}
+use Rattle.mn_frames.proofs.Ranges.{given_long}
 use Rattle.mn_lsr.specs.Standing.{Standing}
 use Rattle.mn_pe.specs.Edge.{Edge}
 use Rattle.mn_pe.specs.Pe.{PeNow}
@@ -24,11 +25,11 @@ use Rattle.mn_routing_model.specs.Changes.{routes_of}
 use Rattle.mn_routing_model.proofs.Tables.{map_numbers_at}
 use Rattle.mn_transit.specs.Moving.{Moving}
 use Rattle.mn_transport_model.specs.Carried.{Carried}
-use Rattle.mn_net_tally.specs.Tallies.{Tally}
+use Rattle.mn_net_refusal.specs.Tallies.{Tally}
 use Rattle.mn_net_refusal.specs.Refusal.{refusal_seen}
-use Rattle.mn_net_refusal.specs.Seen.{Shows}
+use Rattle.mn_net_refusal.specs.Seen.{Labels, Shows, labels_asked}
 use Rattle.mn_net_refusal.proofs.Rows.{refuses_alike}
-use Rattle.mn_net_look.specs.Parts.{shown, seen_in, PartsStand, HaveSizes}
+use Rattle.mn_net_look.specs.Parts.{shown, asked_in, seen_in, PartsStand, HaveSizes}
 use Rattle.mn_net_look.proofs.Asked.{count_at, get_at}
 
 worked_edges : (es : List (Option Edge)) → map (option_map (λ (pe : PeNow). pe.edge)) (map (option_map working) es) ≡ es
@@ -49,10 +50,10 @@ module _ (t : Network) (es : List JournalEntry) (ps : List (List ℕ)) (carried 
       r) h.routes.sessions
 
   given_shown : (node : ℕ) → node < length t.loopbacks →
-      slice_index (map (λ (s : Standing). length s.given.given) carried.nodes) node ≡ length (given t es node)
+      slice_index (asked_in carried) node ≡ labels_asked (given t es node)
   given_shown node below =
       let at = get_at carried.nodes node (subst (λ n. node < n) (sym h.transport.each) below) in
-      count_at (λ (s : Standing). length s.given.given) carried.nodes node at.0 at.1 ∙ ap length (h.transport.nodes node at.0 at.1).labels
+      count_at (λ (s : Standing). labels_asked s.labels) carried.nodes node at.0 at.1 ∙ ap labels_asked (h.transport.nodes node at.0 at.1).labels
 
   pub shows : (steps : ℕ) → steps ≡ length es → Shows t es ps (seen_in carried routed moving tally (flight_of t es ps).made steps)
   shows steps e = record {
@@ -72,6 +73,7 @@ module _ (t : Network) (es : List JournalEntry) (ps : List (List ℕ)) (carried 
     changes = ap length h.transport.changes ∙ length-map-range_with_len w.views.changes 0 (length t.links);
     switches = ap length h.transport.switches ∙ length-map-range_with_len w.config.ldp_on 0 (length t.links);
     nodes = h.transport.each;
+    fecs = λ node standing at. ap (λ (labels : Labels). length labels.fecs) (h.transport.nodes node standing at).labels ∙ given_long t es node;
     edges = ap length h.routes.edges ∙ length-map (routes_in t (labels_of t es) w.config w.peerings).edges (option_map working)
         ∙ length-map-range_with_len (edge_or_none t (labels_of t es) w.config w.peerings) 0 (length t.loopbacks);
     sessions = ap length h.routes.sessions

@@ -1,5 +1,5 @@
 -- The parts of a network, and when they stand for the ledger.
-use Rattle.std.specs.Prelude.{◌≡◌, ◌<◌, ◌*◌, ℕ, nat_le, List, [], ◌∷◌, length, map, slice_index_or, Option, option_map}
+use Rattle.std.specs.Prelude.{◌≡◌, ◌<◌, ◌*◌, ℕ, nat_le, List, [], ◌∷◌, length, map, slice_get, slice_index_or, Option, Some, option_map}
 use Rattle.std.specs.List.{All}
 use Rattle.mn_base.specs.Limits.{most_steps}
 use Rattle.mn_flight.specs.declared.Item.{Item}
@@ -20,8 +20,8 @@ use Rattle.mn_ledger.specs.declared.refused.Refused.{Refused}
 use Rattle.mn_ledger.specs.declared.refused.Refused.TheVariants.{TargetsFull, LabelsSpent, NetFull, TooManySteps}
 use Rattle.mn_ledger.specs.Refusal.{first_cause, where_holds}
 use Rattle.mn_net_refusal.specs.Refusal.{has_all_targets, has_given_all, has_too_much}
-use Rattle.mn_net_refusal.specs.Seen.{Seen}
-use Rattle.mn_net_tally.specs.Tallies.{Tally, Tallies}
+use Rattle.mn_net_refusal.specs.Seen.{Seen, labels_asked}
+use Rattle.mn_net_refusal.specs.Tallies.{Tally, Tallies}
 
 -- what is in flight, of so many items made
 abbrev pub packed_of : Carried → Routed → Moving → ℕ → Packed
@@ -32,12 +32,16 @@ packed_of carried routed moving made =
 abbrev pub shown : Routed → RoutesNow
 shown routed = record { edges = map (option_map (λ (pe : PeNow). pe.edge)) routed.edges; sessions = routed.sessions }
 
+-- by node, how many labels are asked for
+abbrev pub asked_in : Carried → List ℕ
+asked_in carried = map (λ (standing : Standing). labels_asked standing.labels) carried.nodes
+
 -- what the parts show, with so many items made and steps done
 abbrev pub seen_in : Carried → Routed → Moving → Tally → ℕ → ℕ → Seen
 seen_in carried routed moving tally made steps = record {
   changes = carried.changes;
   switches = carried.switches;
-  given = map (λ (standing : Standing). length standing.given.given) carried.nodes;
+  given = asked_in carried;
   routes = shown routed;
   statics = tally.statics;
   packed = packed_of carried routed moving made;
@@ -53,11 +57,17 @@ pub record PartsStand (topology : Network) (journal : List JournalEntry) (inputs
   pub channels : moving.channels ≡ 2 * length topology.links
   pub counted : Tallies topology journal inputs tally
 
+-- each node has a place for the label of each FEC
+abbrev pub HaveFecs : Network → Carried → Type 0
+HaveFecs topology carried = (node : ℕ) (standing : Standing) → slice_get carried.nodes node ≡ Some standing →
+    length standing.labels.fecs ≡ length topology.loopbacks
+
 -- each part has one of each of the topology's
 pub record HaveSizes (topology : Network) (carried : Carried) (routed : Routed) : Type 0 where
   pub changes : length carried.changes ≡ length topology.links
   pub switches : length carried.switches ≡ length topology.links
   pub nodes : length carried.nodes ≡ length topology.loopbacks
+  pub fecs : HaveFecs topology carried
   pub edges : length routed.edges ≡ length topology.loopbacks
   pub sessions : length routed.sessions ≡ length topology.loopbacks
   pub peers : (edge : ℕ) → edge < length topology.loopbacks → length (slice_index_or routed.sessions edge []) ≡ length topology.loopbacks

@@ -1,24 +1,21 @@
 //! The causes for which a step is refused, one by one.
-ghost use Rattle.std.specs.Prelude.{◌≡◌, ◌<◌, ◌≤◌, ◌+◌, ◌*◌, ℕ, true, length, map, nat_le, unwrap_or, Some};
+ghost use Rattle.std.specs.Prelude.{◌≡◌, ◌<◌, ◌≤◌, ◌+◌, ◌*◌, ℕ, true, length, nat_le, unwrap_or, Some};
 ghost use Rattle.mn_base.specs.Limits.{most_targets};
 ghost use Rattle.mn_topo.specs.Steps.{fits};
 ghost use Rattle.mn_transit.specs.Moving.{Moving};
 ghost use Rattle.mn_ledger.specs.Refusal.{agree, takes_out};
-ghost use Rattle.mn_lsr.specs.Standing.{Standing};
 ghost use Rattle.mn_routing_model.specs.Routed.{Routed};
 ghost use Rattle.mn_transport_model.specs.Carried.{Carried};
-ghost use Rattle.mn_net_tally.specs.Tallies.{Tally as Counts};
-ghost use Rattle.mn_net_look.specs.Parts.{HaveSizes, shown, packed_of, seen_in};
+ghost use Rattle.mn_net_refusal.specs.Tallies.{Tally as Counts};
+ghost use Rattle.mn_net_look.specs.Parts.{HaveSizes, HaveFecs, shown, asked_in, packed_of, seen_in};
 ghost use Rattle.mn_vrf.specs.Vrf.{VrfState};
 ghost use Rattle.mn_net_refusal.specs.Refusal.{of_vrf, is_so, has_nothing, of_static, has_all_targets, has_given_all, has_no_room, has_too_much};
 
 use crate::sites::{exports, imports, is_attached, site_with, vrf_at};
-use mn_base::{
-    LinkNo, MOST_FLYING_BYTES, MOST_IN_FLIGHT, MOST_LABELS, MOST_STATIC_ROUTES, MOST_TARGETS, VrfNo,
-};
+use mn_base::{LinkNo, MOST_FLYING_BYTES, MOST_IN_FLIGHT, MOST_STATIC_ROUTES, MOST_TARGETS, VrfNo};
 use mn_flight::Flight;
 use mn_ledger::Refused;
-use mn_net_tally::Tally;
+use mn_net_refusal::Tally;
 use mn_routing::Routes;
 use mn_topo::{Step, Topology};
 use mn_transit::Transit;
@@ -188,16 +185,17 @@ pub(crate) fn has_all_targets(topology: &Topology, routes: &Routes, step: &Step)
     }
 }
 
-/// The site's node has given all its labels.
+/// No label is left at the site's node.
 pub(crate) fn has_given_all(topology: &Topology, transport: &Transport, step: &Step) -> bool
     requires nodes { length transport.now.nodes ≡ length topology.now.loopbacks }
+    requires fecs { HaveFecs topology.now transport.now }
     requires fits { fits topology.now step.now ≡ true }
-    ensures { result ≡ has_given_all topology.now (map (λ (standing : Standing). length standing.given.given) transport.now.nodes) step.now }
+    ensures { result ≡ has_given_all topology.now (asked_in transport.now) step.now }
 {
     match *step {
         Step::Attach(site) => {
             let node = topology.home_of(site);
-            transport.node(node).labels().table().len() >= MOST_LABELS
+            transport.node(node).labels().next().is_none()
         }
         _ => false,
     }

@@ -4,13 +4,13 @@ ghost use Rattle.mn_topo.specs.Steps.{fits};
 ghost use Rattle.mn_topo.specs.declared.steps.JournalEntry.{JournalEntry};
 ghost use Rattle.mn_ledger.specs.Refusal.{refusal as ledgers};
 ghost use Rattle.mn_net_look.specs.Parts.{PartsStand, HaveSizes, seen_in, limit_seen};
-ghost use Rattle.mn_net_tally.specs.Tallies.{Tally as Counts};
+ghost use Rattle.mn_net_refusal.specs.Tallies.{Tally as Counts};
 ghost use Rattle.mn_net_refusal.specs.Refusal.{refusal_seen};
 
 use crate::causes::{has_all_targets, has_given_all, has_nothing, has_too_much, is_so, of_static};
 use mn_base::MOST_STEPS;
 use mn_ledger::Refused;
-use mn_net_tally::Tally;
+use mn_net_refusal::Tally;
 use mn_routing::Routes;
 use mn_topo::{Step, Topology};
 use mn_transit::Transit;

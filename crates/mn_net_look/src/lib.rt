@@ -24,4 +24,7 @@ mod next;
 mod sites;
 
 pub use first::refusal;
+pub use mn_net_refusal::{Tally, count_frame, count_static};
+pub use mn_routing::Routes;
+pub use mn_transport::Transport;
 pub use next::{coming, pending};

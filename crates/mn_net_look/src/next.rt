@@ -5,15 +5,15 @@ ghost use Rattle.mn_topo.specs.declared.steps.JournalEntry.{JournalEntry};
 ghost use Rattle.mn_course.specs.Coming.{coming as ledgers, is_due_before, earlier};
 ghost use Rattle.mn_course.specs.Next.{IsNext};
 ghost use Rattle.mn_timetable.specs.Keys.{key_of, keys_in};
-ghost use Rattle.mn_net_tally.specs.Rising.{AreRising};
-ghost use Rattle.mn_net_tally.specs.Tallies.{is_one};
+ghost use Rattle.mn_net_refusal.specs.Rising.{AreRising};
+ghost use Rattle.mn_net_refusal.specs.Tallies.{is_one};
 ghost use Rattle.mn_net_look.specs.Parts.{PartsStand, OnChannels, packed_of};
 ghost use Rattle.mn_net_refusal.specs.Coming.{first_key, learns_on, hears_on, tells_on, carries_on, as_coming, news_coming, coming_seen, pending_seen};
 
 use mn_base::{LinkNo, ListOf, NodeNo};
 use mn_course::{Coming, Kind};
 use mn_flight::{Flight, Item};
-use mn_net_tally::Tally;
+use mn_net_refusal::Tally;
 use mn_routing::Routes;
 use mn_topo::{Step, Topology};
 use mn_transit::Transit;

@@ -2,27 +2,26 @@
 use Rattle.std.proofs.Common.{ℕ, ◌≡◌, ◌+◌, ◌<◌, Bool, true, false, List, [], ◌∷◌, ◌++◌, length, refl, arith, sym, ap, ◌∙◌, subst, Option, None}
 use Rattle.std.specs.Prelude.{◌&&◌}
 use Rattle.mn_topo.specs.Network.{Network}
+use Rattle.mn_topo.specs.Lawful.{IsLawful}
 use Rattle.mn_topo.specs.VrfTable.{is_edge}
 use Rattle.mn_topo.specs.Steps.{fits}
 use Rattle.mn_topo.specs.declared.steps.Step.{Step}
 use Rattle.mn_topo.specs.declared.steps.Step.TheVariants.{BgpUp, BgpDown, HearBgp, Tick}
 use Rattle.mn_topo.specs.declared.steps.JournalEntry.{JournalEntry}
-use Rattle.mn_topo.specs.declared.steps.Damaged.TheVariants.{Undamaged}
 use Rattle.mn_ledger.specs.Packets.{Packets}
 use Rattle.mn_ledger.specs.Verdicts.{injections, one_if}
 use Rattle.mn_ledger.specs.Ledger.{world_of, packets_of, start, no_packets, injects}
 use Rattle.mn_ledger.specs.Refusal.{refusal_at}
-use Rattle.mn_ledger.specs.Lawful.{IsLawfulJournal}
+use Rattle.mn_ledger.specs.Lawful.{IsLawfulJournal, GoesForward}
 use Rattle.mn_ledger.specs.Items.{Channel, Load, Item, Flight, numbered, left_in_flight, in_time, flight_of}
 use Rattle.mn_ledger.specs.Time.{clock_after, timed_by}
-use Rattle.mn_transit.specs.Given.{Labelling, given, given_in}
-use Rattle.mn_transit.proofs.Labels.{gives_more, has_fecs}
+use Rattle.mn_transit.specs.Given.{Labelling, given}
 use Rattle.mn_transit.specs.Moving.{Moving}
 use Rattle.mn_transit.specs.Stands as transit
-use Rattle.mn_transit.proofs.Labelled.{stands_later}
+use Rattle.mn_transit.proofs.Labelled.{stands_after}
 use Rattle.mn_timetable.specs.Keys.{Key, keys_in, keys_on, of_notices, of_messages, of_routes, notices_leave, messages_leave, routes_leave}
 use Rattle.mn_timetable.specs.Steps.{pushed, later_world}
-use Rattle.mn_ledger.specs.OneMore.{added, with_packet}
+use Rattle.mn_ledger.specs.OneMore.{added, with_packet, tick_from}
 use Rattle.mn_net_model.specs.Stands.{Packed, StandsFor}
 use Rattle.mn_net_model.specs.Stepped.{MayStep, IsStepped, entry_of, takes_time, packets_now, later_packets, made_now}
 use Rattle.mn_net_model.proofs.News.{all_there}
@@ -93,12 +92,11 @@ pub lawful_more : (t : Network) (es : List JournalEntry) (tick : ℕ) (s : Step)
 lawful_more t es tick s b ps h lawful may = lawful_from-push t es (entry_of tick s) b 0 (start t) no_packets 0 ps h lawful may.fitting may.forward
     (subst (λ m. refusal_at t (world_of t es) (packets_of t es ps) m s b ≡ None) (omega arith) may.unrefused)
 
--- nodes give more labels
-pub labelled_more : (t : Network) (es : List JournalEntry) (tick : ℕ) (s : Step) (m : Moving) (k : Packets) → transit.StandsFor t (given t es) m k →
-    transit.StandsFor t (given t (pushed es tick s)) m k
-labelled_more t es tick s m k h =
-    stands_later t (given t es) (given t (pushed es tick s)) m k (has_fecs t es)
-    (λ node. (given_in t node (world_of t es).config s, gives_more t es (record { tick = tick; step = s; damaged = Undamaged }) node)) h
+-- no step takes a label from a packet on its way
+pub labelled_then : (t : Network) (es : List JournalEntry) (tick : ℕ) (s : Step) (m : Moving) (ps : List (List ℕ)) → IsLawful t → IsLawfulJournal t es ps →
+    GoesForward t (tick_from 0 es) (packets_of t es ps) tick → transit.StandsFor t (given t es) m (packets_of t es ps) →
+    transit.StandsFor t (given t (pushed es tick s)) m (packets_of t es ps)
+labelled_then t es tick s m ps lawful journal forward h = stands_after t es ps (entry_of tick s) m lawful journal forward h
 
 -- a step that takes no time moves the clock alone before it does anything else
 stands_now : (t : Network) (g : Labelling) (m : Moving) (clock : ℕ) (s : Step) (k : Packets) → takes_time s ≡ false → transit.StandsFor t g m k →
@@ -112,13 +110,11 @@ stands_now t g m clock _ k h stands = record {
   frames = stands.frames;
 }
 
-pub stands_timed : (t : Network) (es : List JournalEntry) (tick : ℕ) (s : Step) (m : Moving) (ps : List (List ℕ)) → takes_time s ≡ false →
-    transit.StandsFor t (given t es) m (packets_of t es ps) → transit.StandsFor t (given t es) m (packets_now t es ps tick s)
-stands_timed t es tick s m ps quiet h = stands_now t (given t es) m (clock_after (entry_of tick s)) s (packets_of t es ps) quiet h
-
-pub labelled_now : (t : Network) (es : List JournalEntry) (tick : ℕ) (s : Step) (m : Moving) (ps : List (List ℕ)) → takes_time s ≡ false →
-    transit.StandsFor t (given t es) m (packets_of t es ps) → transit.StandsFor t (given t (pushed es tick s)) m (packets_now t es ps tick s)
-labelled_now t es tick s m ps quiet h = labelled_more t es tick s m (packets_now t es ps tick s) (stands_timed t es tick s m ps quiet h)
+pub labelled_now : (t : Network) (es : List JournalEntry) (tick : ℕ) (s : Step) (m : Moving) (ps : List (List ℕ)) → IsLawful t → IsLawfulJournal t es ps →
+    GoesForward t (tick_from 0 es) (packets_of t es ps) tick → takes_time s ≡ false → transit.StandsFor t (given t es) m (packets_of t es ps) →
+    transit.StandsFor t (given t (pushed es tick s)) m (packets_now t es ps tick s)
+labelled_now t es tick s m ps lawful journal forward quiet h =
+    stands_now t (given t (pushed es tick s)) m (clock_after (entry_of tick s)) s (packets_of t es ps) quiet (labelled_then t es tick s m ps lawful journal forward h)
 
 -- 3. Each clause
 

@@ -34,7 +34,7 @@ use Rattle.mn_net_model.specs.Stepped.{MayStep, takes_time, packets_now, later_p
 use Rattle.mn_timetable.proofs.Made.{one_frame}
 use Rattle.mn_timetable.proofs.Keys.{keys_dropped}
 use Rattle.mn_net_model.proofs.Numbers.{flight_ascends}
-use Rattle.mn_net_model.proofs.Going.{goes_on, labelled_more, stands_timed}
+use Rattle.mn_net_model.proofs.Going.{goes_on, labelled_now, labelled_then}
 use Rattle.mn_net_model.proofs.InTime.{frames_still, expire_begun}
 use Rattle.mn_net_model.proofs.Due.{due_as_sent}
 use Rattle.mn_net_model.proofs.Moved.{frames_counted, made_counted, frames_quiet, taken_keys}
@@ -204,8 +204,8 @@ unmoved t es tick s b ps old new h may quiet_step said begun =
     let k : Packets = packets_now t es ps tick s in
     quiet t es tick s b ps old new h may (no_frames s quiet_step) said
     (subst (λ q. transit.StandsFor t (given t (pushed es tick s)) new.moving q) (sym (none_moved t (later_world t es s) k s b quiet_step))
-    (labelled_more t es tick s new.moving (before_step k)
-    (stands_begun t (given t es) old.moving new.moving k begun (stands_timed t es tick s old.moving ps (no_time s quiet_step) h.packets))))
+    (stands_begun t (given t (pushed es tick s)) old.moving new.moving k begun
+    (labelled_now t es tick s old.moving ps may.topology_lawful h.lawful may.forward (no_time s quiet_step) h.packets)))
     (ap (λ (m : Moving). keys_in m.flying) begun ∙ none_leave s quiet_step (keys_in old.moving.flying)
     ∙ ap (frames_leave s) (sym (frames_still t (tick + ticks_in s) s (keys_in old.moving.flying) (no_time s quiet_step))))
 
@@ -227,14 +227,15 @@ ticked t es tick ticks b ps old begun moving h may begins expired left =
     let k : Packets = packets_of t es ps in
     let due : DueAsSent t begun.flying (before_step k) =
     subst (λ (m : Moving). DueAsSent t m.flying (before_step k)) (sym begins) (due_as_sent t es ps old may.topology_lawful h) in
-    let stands = expired (given t es) (before_step k) (stands_begun t (given t es) old.moving begun k begins h.packets) due in
+    let stands = expired (given t (pushed es tick s)) (before_step k)
+    (stands_begun t (given t (pushed es tick s)) old.moving begun k begins
+    (labelled_then t es tick s old.moving ps may.topology_lawful h.lawful may.forward h.packets)) due in
     quiet t es tick s b ps old (moved_on old moving 0) h may (λ w v. refl) (record {
       notices = still old.notices;
       messages = still old.messages;
       routes = still old.routes;
       made = refl;
     })
-    (labelled_more t es tick s moving (later_packets t es ps tick s b)
-    (subst (λ q. transit.StandsFor t (given t es) moving q)
-    (expire_begun t (tick + ticks) k ∙ sym (time_moved t (later_world t es s) (packets_now t es ps tick s) ticks b)) stands))
+    (subst (λ q. transit.StandsFor t (given t (pushed es tick s)) moving q)
+    (expire_begun t (tick + ticks) k ∙ sym (time_moved t (later_world t es s) (packets_now t es ps tick s) ticks b)) stands)
     (left ∙ ap (λ (m : Moving). keys_in_time t (tick + ticks) (keys_in m.flying)) begins)

@@ -1,42 +1,39 @@
 -- In a network that stands for the ledger labels mean what the ledger's world says.
-use Rattle.std.proofs.Common.{ℕ, ◌≡◌, ◌<◌, Bool, true, false, List, length, map, sym, ap, ◌∙◌, Option, Some, None}
-use Rattle.std.specs.Prelude.{◌&&◌, if◌then◌else◌, slice_get, slice_index_or}
-use Rattle.mn_wiring.specs.Wiring.{across, is_end, nodes_of}
-use Rattle.mn_topo.specs.Network.{Network, wiring_of}
-use Rattle.mn_topo.specs.declared.steps.JournalEntry.{JournalEntry}
-use Rattle.mn_ledger.specs.World.{World, Message}
+use Rattle.std.proofs.Common.{ℕ, zero, suc, ◌≡◌, ◌+◌, ◌<◌, List, [], ◌∷◌, length, arith, sym, ap, ◌∙◌, Option, Some, None}
+use Rattle.std.specs.Prelude.{option_map, slice_get, slice_index_or}
+use Rattle.std.proofs.lemmas.Option.{same_Some}
+use Rattle.mn_wiring.specs.Wiring.{Wiring, across}
+use Rattle.mn_topo.specs.Network.{wiring_of}
 use Rattle.mn_ledger.specs.Ledger.{world_of}
-use Rattle.mn_ledger.specs.Transport.{lives, ldp_state_of, heard_by}
-use Rattle.mn_node.specs.Ldp.{is_mapped}
-use Rattle.mn_node.specs.Node.{Session, Node, session_at, label_of}
-use Rattle.mn_slice.specs.Slice.{node_at, session_of, label_heard}
-use Rattle.mn_frames.specs.Given.{given, label_for}
-use Rattle.mn_frames.proofs.Numbers.{by_number}
+use Rattle.mn_node.specs.Node.{Session, Node, session_at}
+use Rattle.mn_slice.specs.Slice.{node_at}
+use Rattle.mn_reuse.specs.Relabelled.{Labelling, node_with, session_with, relabelled_from}
+use Rattle.mn_frames.specs.Given.{given}
 use Rattle.mn_lsr.specs.Standing.{Standing, session_label}
-use Rattle.mn_routing_model.proofs.Tables.{map_numbers_at}
+use Rattle.mn_transport_model.specs.Stands.{own_of}
+use Rattle.mn_transport_model.proofs.Goings.{session-with}
 use Rattle.mn_net_now.specs.Now.{NetNow, StandsFor}
 use Rattle.mn_net_now.specs.Labels.{NodeMeans, LabelsMean}
 
-of_some : (b : Bool) (x label : ℕ) → (if b then Some x else None) ≡ Some label → label ≡ x
-of_some true x label e = cc
-of_some false x label e = absurd (let none : None ≡ Some label → ⊥ = (λ q. cc) in none e)
+none_is : (label : ℕ) → None ≡ Some label → ⊥
+none_is label e = cc
 
-in_session : (b : Bool) (s : Session) (fec label : ℕ) (x : Option ℕ) → slice_index_or s.labels fec None ≡ x →
-    session_label (if b then Some s else None) fec ≡ Some label → x ≡ Some label
-in_session true s fec label x e h = sym e ∙ h
-in_session false s fec label x e h = absurd (let none : None ≡ Some label → ⊥ = (λ q. cc) in none h)
+relabelled : (labels : ℕ → ℕ) (xs : List (Option ℕ)) (k i label : ℕ) → slice_index_or (relabelled_from labels k xs) i None ≡ Some label → label ≡ labels (k + i)
+relabelled labels [] k i label e = absurd (none_is label e)
+relabelled labels (None ∷ xs) k zero label e = absurd (none_is label e)
+relabelled labels (Some x ∷ xs) k zero label e = sym (same_Some (labels k) label e) ∙ ap labels (let plain : k ≡ k + 0 = omega arith in plain)
+relabelled labels (None ∷ xs) k (suc i) label e = relabelled labels xs (k + 1) i label e ∙ ap labels (let along : k + 1 + i ≡ k + suc i = omega arith in along)
+relabelled labels (Some x ∷ xs) k (suc i) label e = relabelled labels xs (k + 1) i label e ∙ ap labels (let along : k + 1 + i ≡ k + suc i = omega arith in along)
 
-kept_so : (t : Network) (es : List JournalEntry) (w : World) (node l fec label : ℕ) → l < length t.links → fec < length t.loopbacks →
-    session_label (session_at (node_at t w node) l) fec ≡ Some label → label ≡ label_for (given t es) (across (wiring_of t) l node) fec
-kept_so t es w node l fec label there below e =
-    let far : ℕ = across (wiring_of t) l node in
-    let heard : List Message = heard_by (wiring_of t) w.sessions l node in
-    of_some (is_mapped false fec heard) (label_of far fec) label
-    (in_session (lives w.config l && is_end (wiring_of t) l node)
-    (record { state = ldp_state_of t w.sessions l node; said = length (w.sessions.said l node); labels = map (label_heard far heard) (nodes_of (wiring_of t)) })
-    fec label (label_heard far heard fec) (map_numbers_at (label_heard far heard) (length t.loopbacks) fec None below)
-    (ap (λ s. session_label s fec) (sym (map_numbers_at (session_of t w.config w.sessions node) (length t.links) l None there)) ∙ e))
-    ∙ sym (by_number t es far fec below)
+in_session : (labels : ℕ → ℕ) (o : Option Session) (fec label : ℕ) → session_label (option_map (session_with labels) o) fec ≡ Some label → label ≡ labels fec
+in_session labels None fec label e = absurd (none_is label e)
+in_session labels (Some session) fec label e = relabelled labels session.labels 0 fec label e ∙ ap labels (let plain : 0 + fec ≡ fec = omega arith in plain)
+
+-- a label that a node keeps for a FEC is that which the FEC has now at the neighbour
+kept_so : (wiring : Wiring) (own : Labelling) (node : Node) (l fec label : ℕ) → session_label (session_at (node_with wiring own node) l) fec ≡ Some label →
+    label ≡ own (across wiring l node.me) fec
+kept_so wiring own node l fec label e =
+    in_session (own (across wiring l node.me)) (session_at node l) fec label (ap (λ o. session_label o fec) (sym (session-with wiring own node l)) ∙ e)
 
 pub node_means : (net : NetNow) (inputs : List (List ℕ)) → StandsFor net inputs → (node : ℕ) (standing : Standing) → node < length net.topology.loopbacks →
     slice_get net.transport.nodes node ≡ Some standing → NodeMeans net node standing
@@ -44,7 +41,8 @@ node_means net inputs h node standing below there =
     let is = h.transport.nodes node standing there in
     record {
       labels = is.labels;
-      kept = λ l fec label on under e. kept_so net.topology net.journal (world_of net.topology net.journal) node l fec label on under
+      kept = λ l fec label on under e. kept_so (wiring_of net.topology) (own_of (given net.topology net.journal))
+          (node_at net.topology (world_of net.topology net.journal) node) l fec label
           (ap (λ (n : Node). session_label (session_at n l) fec) (sym is.node_is) ∙ e);
       entries = is.table;
     }

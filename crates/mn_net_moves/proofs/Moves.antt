@@ -29,7 +29,8 @@ use Rattle.mn_ledger.specs.OneMore.{added, with_packet, tick_from}
 use Rattle.mn_ledger.proofs.More.{world_from-push, unread}
 use Rattle.mn_ledger.proofs.Refusals.{IsFree, free}
 use Rattle.mn_frames.specs.Given.{Labelling, given}
-use Rattle.mn_frames.specs.Tables.{TableStands}
+use Rattle.mn_frames.specs.Tables.{AreMapped, TableStands}
+use Rattle.mn_frames.proofs.Mapped.{all_are_mapped}
 use Rattle.mn_lsr.specs.Standing.{Standing, FitsOuter}
 use Rattle.mn_stack.specs.Labelled.{Labelled}
 use Rattle.mn_transit.specs.Moving.{Moving, CountsOn, bytes_in}
@@ -66,9 +67,9 @@ use Rattle.mn_transport_model.specs.Carried.{Carried}
 use Rattle.mn_transport_model.specs.Steps.{touches}
 use Rattle.mn_routing_model.specs.Routed.{IsRoutes}
 use Rattle.mn_routing_model.specs.Steps.{StayAsTheyWere}
-use Rattle.mn_net_tally.specs.Tallies.{Tally, Tallies, frame_of, after_frame}
-use Rattle.mn_net_tally.proofs.Counting.{counts_as_it_did, counts_frames}
-use Rattle.mn_net_tally.proofs.Few.{few_sent}
+use Rattle.mn_net_now.specs.Tallies.{Tally, Tallies, frame_of, after_frame}
+use Rattle.mn_net_now.proofs.Counting.{counts_as_it_did, counts_frames}
+use Rattle.mn_net_now.proofs.Few.{few_sent}
 use Rattle.mn_net_now.specs.Now.{NetNow, packed_in, StandsFor, IsNet}
 use Rattle.mn_net_now.specs.Done.{IsDone, MayBeDone}
 use Rattle.mn_net_moves.specs.Bound.{IsBoundBelow}
@@ -208,12 +209,23 @@ table_then t es tick s old node standing h there =
     subst (λ w. TableStands t (given t (pushed es tick s)) w node standing.uses) (world_from-push t es (start t) (record { tick = tick; step = s; damaged = Undamaged }))
     (h.nodes node standing there).table
 
+-- and each next hop that isn't the edge has a label for it there
+mapped_then : (net : NetNow) (s : Step) (b : List ℕ) (ps : List (List ℕ)) → IsLawful net.topology → StandsFor net ps →
+    MayStep net.topology net.journal net.tick s b ps →
+    AreMapped net.topology (given net.topology (pushed net.journal net.tick s)) (later_world net.topology net.journal s)
+mapped_then net s b ps lawful h step =
+    subst (AreMapped net.topology (given net.topology (pushed net.journal net.tick s)))
+    (world_from-push net.topology net.journal (start net.topology) (record { tick = net.tick; step = s; damaged = Undamaged }))
+    (all_are_mapped net.topology (pushed net.journal net.tick s) (with_packet s b ps) lawful
+    (lawful_more net.topology net.journal net.tick s b ps h.stands.each h.stands.lawful step))
+
 pub carry_done : (old : NetNow) (moving : Moving) (tally : Tally) (l : LinkNo) (d : Dir) (place : ℕ) (made : Bool) (made_now node : ℕ) (standing : Standing)
     (uses : List (ℕ × Use)) →
     StaysAsItWas → StayAsTheyWere → IsLawful old.topology → IsNet old → MayBeDone old (Carry l d place) [] →
     node ≡ receiver (wiring_of old.topology) l.0 d → slice_get old.transport.nodes node ≡ Some standing → uses ≡ standing.uses →
     ((g : Labelling) (world : World) (packets : Packets) (bytes : List ℕ) →
-    TableStands old.topology g world (receiver (wiring_of old.topology) l.0 d) uses → transit.StandsFor old.topology g old.moving packets →
+    AreMapped old.topology g world → TableStands old.topology g world (receiver (wiring_of old.topology) l.0 d) uses →
+    transit.StandsFor old.topology g old.moving packets →
     transit.StandsFor old.topology g moving (packets_after old.topology world packets (Carry l d place) bytes)) →
     Makes old.topology old.tick old.made (without (slice_get (on_channel (channel l.0 d) old.moving.flying) place) old.moving.flying) moving.flying made →
     CountsOn old.moving moving 0 1 0 → made_now ≡ old.made + one_if made →
@@ -237,10 +249,11 @@ carry_done old moving tally l d place made made_now node standing uses stays sta
     let on = carried t es old.tick l d place [] ps (packed_in old) moving made h.stands step
     (frame_there old is l d place may)
     (moved_as (given t (pushed es old.tick s)) (later_world t es s) (packets_now t es ps old.tick s) []
+    (mapped_then old s [] ps lawful h step)
     (subst (λ n. TableStands t (given t (pushed es old.tick s)) (later_world t es s) n uses) at
     (subst (λ u. TableStands t (given t (pushed es old.tick s)) (later_world t es s) node u) (sym table)
     (table_then t es old.tick s old node standing still there)))
-    (labelled_now t es old.tick s old.moving ps refl h.stands.packets))
+    (labelled_now t es old.tick s old.moving ps lawful h.stands.lawful step.forward refl h.stands.packets))
     makes in
     record {
       works = h.works;
@@ -270,15 +283,15 @@ lose_done old moving l d place stays stay lawful is may moved_as left counts =
     let t : Network = old.topology in
     let es : List JournalEntry = old.journal in
     goes old (record old { journal = pushed old.journal old.tick s; moving = moving }) s [] 0 0 0 is may refl refl (same_tick s old.tick refl) (omega arith) counts (omega arith)
-    (omega arith) (no_more _ is.bytes) (λ ps h. record {
+    (omega arith) (no_more _ is.bytes) (λ ps h. let step = may_step old s [] lawful is may ps h in record {
       works = h.works;
       transport = stays t es old.tick s old.transport lawful refl h.transport;
       routes = stay t es old.tick s old.routes lawful refl h.routes;
       tally = counts_as_it_did t es old.tick s [] ps old.tally lawful h.stands.lawful h.stands.each refl refl h.tally;
       stands = subst (λ m. model.StandsFor t (pushed es old.tick s) (record (packed_in old) { moving = moving; made = m }) ps) (nothing old.made)
-          (lost t es old.tick l d place [] ps (packed_in old) moving h.stands (may_step old s [] lawful is may ps h) (lost_there old is l d place may)
+          (lost t es old.tick l d place [] ps (packed_in old) moving h.stands step (lost_there old is l d place may)
           (moved_as (given t (pushed es old.tick s)) (later_world t es s) (packets_now t es ps old.tick s) []
-          (labelled_now t es old.tick s old.moving ps refl h.stands.packets)) left);
+          (labelled_now t es old.tick s old.moving ps lawful h.stands.lawful step.forward refl h.stands.packets)) left);
     })
 
 -- 5. A packet enters
@@ -349,7 +362,8 @@ pub inject_done : (old : NetNow) (moving : Moving) (tally : Tally) (site : SiteN
     IsItsFate old.topology (given old.topology journal) (world_of old.topology journal) site.0 b entered →
     IsWayOut old.topology (given old.topology journal) (world_of old.topology journal) node.0 entered outer) →
     ((g : Labelling) (world : World) (packets : Packets) (s : SiteNo) (n : ℕ) (bytes : List ℕ) →
-    node.0 ≡ home_of old.topology s.0 → IsItsFate old.topology g world s.0 bytes entered → IsWayOut old.topology g world node.0 entered outer →
+    node.0 ≡ home_of old.topology s.0 → AreMapped old.topology g world → IsItsFate old.topology g world s.0 bytes entered →
+    IsWayOut old.topology g world node.0 entered outer →
     transit.StandsFor old.topology g old.moving packets →
     transit.StandsFor old.topology g moving (packets_after old.topology world packets (Inject s n) bytes)) →
     Makes old.topology old.tick old.made old.moving.flying moving.flying made →
@@ -372,9 +386,10 @@ inject_done old moving tally site number b node entered outer made made_now stay
     let is_fate = fate (pushed es old.tick s) (ps ++ b ∷ []) (lawful_more t es old.tick s b ps h.stands.each h.stands.lawful step) routes in
     let on = injected t es old.tick site number b ps (packed_in old) moving made h.stands step
     (moved_as (given t (pushed es old.tick s)) (later_world t es s) (packets_now t es ps old.tick s) site number b home
+    (mapped_then old s b ps lawful h step)
     (subst (λ w. IsItsFate t (given t (pushed es old.tick s)) w site.0 b entered) same is_fate)
     (subst (λ w. IsWayOut t (given t (pushed es old.tick s)) w node.0 entered outer) same (way (pushed es old.tick s) still is_fate))
-    (labelled_now t es old.tick s old.moving ps refl h.stands.packets))
+    (labelled_now t es old.tick s old.moving ps lawful h.stands.lawful step.forward refl h.stands.packets))
     makes in
     record {
       works = h.works;

@@ -1,15 +1,9 @@
 -- A site is attached or detached, from what the transport and the routes say of it.
-use Rattle.std.proofs.Common.{ℕ, ◌≡◌, ◌+◌, List, [], length, refl, ◌∙◌, ap, None}
+use Rattle.std.proofs.Common.{ℕ, ◌≡◌, ◌+◌, List, [], refl, None}
 use Rattle.mn_base.specs.declared.numbers.SiteNo.{SiteNo}
-use Rattle.mn_base.proofs.Bools.{less_tells}
 use Rattle.mn_topo.specs.Lawful.{IsLawful}
 use Rattle.mn_topo.specs.declared.steps.Step.TheVariants.{Attach, Detach}
 use Rattle.mn_topo.specs.declared.steps.JournalEntry.{JournalEntry}
-use Rattle.mn_ledger.specs.Ledger.{world_of}
-use Rattle.mn_ledger.specs.Places.{home_of}
-use Rattle.mn_laws.proofs.There.{home_there}
-use Rattle.mn_frames.specs.Given.{given}
-use Rattle.mn_frames.proofs.Spent.{as_many_given}
 use Rattle.mn_transit.specs.Moving.{Moving}
 use Rattle.mn_timetable.specs.Steps.{pushed}
 use Rattle.mn_transport_model.specs.Carried.{Carried}
@@ -18,18 +12,11 @@ use Rattle.mn_transport_model.specs.Steps as transport
 use Rattle.mn_routing_model.specs.Routed.{Routed}
 use Rattle.mn_routing_model.specs.Steps as routing
 use Rattle.mn_routing_model.specs.Steps.{DidAttach, MayGive, next_label}
-use Rattle.mn_net_tally.proofs.Counting.{counts_as_it_did}
+use Rattle.mn_net_now.proofs.Counting.{counts_as_it_did}
 use Rattle.mn_net_now.specs.Now.{NetNow, IsNet}
 use Rattle.mn_net_now.specs.Done.{MayBeDone}
 use Rattle.mn_net_moves.proofs.Moves.{Goes}
 use Rattle.mn_net_moves.proofs.Turns.{DidAt, did_at, link_turn, route_turn, route_done}
-
--- the label is the next one of the site's edge
-pub next_is : (net : NetNow) (site : SiteNo) (label : ℕ) → IsLawful net.topology → IsNet net → MayBeDone net (Attach site) [] →
-    label ≡ 16 + length (given net.topology net.journal (home_of net.topology site.0)) → label ≡ next_label net.topology net.journal site.0
-next_is net site label lawful is may e =
-    e ∙ ap (λ n. 16 + n) (as_many_given net.topology net.journal is.inputs (home_of net.topology site.0)
-    (home_there net.topology site.0 lawful (less_tells site.0 (length net.topology.sites) may.fitting)) is.stands.stands.lawful)
 
 pub may_give : (net : NetNow) (site : SiteNo) (label : ℕ) →
     (is : IsNet net) → MayBeDone net (Attach site) [] → label ≡ next_label net.topology net.journal site.0 → MayGive net.topology site label net.routes
@@ -38,7 +25,7 @@ may_give net site label is may gives = record { journal = net.journal; stands = 
 pub attach_done : (old : NetNow) (site : SiteNo) (label : ℕ) (carried : Carried) (routed : Routed) (moving : Moving) (made made_now : ℕ) →
     IsLawful old.topology → (is : IsNet old) → MayBeDone old (Attach site) [] → label ≡ next_label old.topology old.journal site.0 →
     ((journal : List JournalEntry) (tick : ℕ) → IsTransport old.topology journal old.transport →
-    transport.IsTurn old.topology (world_of old.topology journal) (Attach site) →
+    transport.HasTurn old.topology journal (Attach site) →
     IsTransport old.topology (pushed journal tick (Attach site)) carried) →
     carried.notices ≡ old.transport.notices → carried.messages ≡ old.transport.messages →
     DidAttach old.topology old.tick old.made site label old.routes routed made →
@@ -59,7 +46,7 @@ attach_done old site label carried routed moving made made_now lawful is may giv
 pub detach_done : (old : NetNow) (site : SiteNo) (carried : Carried) (routed : Routed) (moving : Moving) (made made_now : ℕ) →
     IsLawful old.topology → (is : IsNet old) → MayBeDone old (Detach site) [] →
     ((journal : List JournalEntry) (tick : ℕ) → IsTransport old.topology journal old.transport →
-    transport.IsTurn old.topology (world_of old.topology journal) (Detach site) →
+    transport.HasTurn old.topology journal (Detach site) →
     IsTransport old.topology (pushed journal tick (Detach site)) carried) →
     carried.notices ≡ old.transport.notices → carried.messages ≡ old.transport.messages →
     routing.Did old.topology old.tick old.made (Detach site) old.routes routed made →

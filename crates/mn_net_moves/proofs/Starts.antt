@@ -10,7 +10,7 @@ use Rattle.mn_timetable.specs.Keys.{keys_in}
 use Rattle.mn_transport_model.specs.Carried.{Carried}
 use Rattle.mn_transport_model.specs.Stands.{IsTransport}
 use Rattle.mn_routing_model.specs.Routed.{Routed, IsRoutes}
-use Rattle.mn_net_tally.specs.Tallies.{Tally, Tallies}
+use Rattle.mn_net_now.specs.Tallies.{Tally, Tallies}
 use Rattle.mn_net_now.specs.Now.{NetNow, StandsFor, IsNet}
 
 -- the packets' part has nothing yet

@@ -2,7 +2,7 @@
 use Rattle.std.proofs.Common.{ℕ, ◌≡◌, ◌<◌, Bool, true, false, List, [], ◌∷◌, length, map, refl, sym, ap, ◌∙◌, subst, Option, Some, None}
 use Rattle.std.specs.Prelude.{◌&&◌, ◌||◌, ◌==◌, ◌%◌, if◌then◌else◌, slice_index, option_map}
 use Rattle.mn_base.proofs.Bools.{no, same_test}
-use Rattle.mn_wiring.specs.Wiring.{links_of, link, sender, is_end}
+use Rattle.mn_wiring.specs.Wiring.{links_of, link, sender, is_end, across}
 use Rattle.mn_wiring.specs.declared.links.Dir.{Dir}
 use Rattle.mn_wiring.specs.declared.links.Dir.TheVariants.{Forth, Back}
 use Rattle.mn_base.specs.declared.numbers.NodeNo.{NodeNo}
@@ -10,6 +10,9 @@ use Rattle.mn_linkdb.specs.Changes.{is_odd, is_link_up}
 use Rattle.mn_linkdb.specs.PathTable.{PathTable}
 use Rattle.mn_linkdb.specs.Trees.{IsTree}
 use Rattle.mn_topo.specs.Network.{Network, wiring_of}
+use Rattle.mn_topo.specs.Lawful.{IsLawful}
+use Rattle.mn_topo.specs.declared.steps.JournalEntry.{JournalEntry}
+use Rattle.mn_ledger.specs.Lawful.{IsLawfulJournal}
 use Rattle.mn_ledger.specs.World.{World}
 use Rattle.mn_ledger.specs.Ledger.{world_of}
 use Rattle.mn_ledger.specs.Transport.{view_of}
@@ -19,10 +22,13 @@ use Rattle.mn_frames.specs.Entries.{outer_over}
 use Rattle.mn_lsr.specs.Standing.{Standing, state_in}
 use Rattle.mn_node.specs.Node.{Session, Node, session_at, view_in}
 use Rattle.mn_slice.specs.Slice.{node_at, session_of}
-use Rattle.mn_transport_model.specs.Stands.{IsNode}
+use Rattle.mn_reuse.specs.Relabelled.{session_with}
+use Rattle.mn_reuse.proofs.Over.{changes_once_free}
+use Rattle.mn_transport_model.specs.Stands.{IsNode, own_of}
+use Rattle.mn_transport_model.proofs.Goings.{session-with}
 use Rattle.mn_routing_model.proofs.Tables.{map_numbers_at}
 use Rattle.mn_net_now.specs.Now.{NetNow, IsNet, WorksAsNet}
-use Rattle.mn_net_moves.specs.Told.{state_at}
+use Rattle.mn_net_moves.specs.Told.{state_at, ChangedOnceFree}
 
 -- 1. As a call's proof has it: the network by its fields
 
@@ -32,6 +38,10 @@ net_is view now same holds works = holds (ap (λ (n : NetNow). n.failed) same �
 pub node_in : (view now : NetNow) → view ≡ now → IsNet view → (node : ℕ) → node < length now.topology.loopbacks → node < length view.transport.nodes
 node_in view now same is node below =
     subst (λ n. node < n) (sym is.stands.transport.each) (subst (λ (n : NetNow). node < length n.topology.loopbacks) (sym same) below)
+
+pub changed_once_free : (net : NetNow) → IsNet net → IsLawful net.topology → (node : ℕ) → node < length net.topology.loopbacks → ChangedOnceFree net.topology net.journal node
+changed_once_free net is lawful node below entries entry same =
+    changes_once_free net.topology entries is.inputs entry node below lawful (subst (λ (journal : List JournalEntry). IsLawfulJournal net.topology journal is.inputs) same is.stands.stands.lawful)
 
 pub link_in : (view now : NetNow) → view ≡ now → IsNet view → (l : ℕ) → l < length now.topology.links → l < length view.transport.changes
 link_in view now same is l below =
@@ -63,10 +73,11 @@ odd_twice f (x ∷ xs) = ap (λ rest. (f x % 2 == 1) ∷ rest) (odd_twice f xs)
 pub view_told : (t : Network) (w : World) (node : ℕ) → view_in (node_at t w node) ≡ view_of (wiring_of t) w.views node
 view_told t w node = odd_twice (w.views.learned node) (links_of (wiring_of t))
 
-pub tree_told : (t : Network) (g : Labelling) (w : World) (node : ℕ) (standing : Standing) (tree : PathTable) → IsNode t g w node standing →
+pub tree_told : (t : Network) (g : Labelling) (rested : ℕ → ℕ → ℕ) (w : World) (node : ℕ) (standing : Standing) (tree : PathTable) →
+    IsNode t g rested w node standing →
     (standing.failed ≡ false → IsTree standing.wiring (view_in standing.node) standing.node.me tree) →
     IsTree (wiring_of t) (view_of (wiring_of t) w.views node) node tree
-tree_told t g w node standing tree h is =
+tree_told t g rested w node standing tree h is =
     subst (λ v. IsTree (wiring_of t) v node tree) (view_told t w node)
     (subst (λ (n : Node). IsTree (wiring_of t) (view_in n) n.me tree) h.node_is
     (subst (λ wiring. IsTree wiring (view_in standing.node) standing.node.me tree) h.wiring (is h.works)))
@@ -93,8 +104,18 @@ state_by true true session h = refl
 state_by true false session h = absurd (no h)
 state_by false end session h = refl
 
-pub state_told : (t : Network) (w : World) (l : ℕ) (d : Dir) → l < length t.links →
-    state_in (session_at (node_at t w (sender (wiring_of t) l d)) l) ≡ state_at t w l (sender (wiring_of t) l d)
-state_told t w l d there =
-    ap state_in (map_numbers_at (session_of t w.config w.sessions (sender (wiring_of t) l d)) (length t.links) l None there)
+-- by whatever labels
+state_with : (labels : ℕ → ℕ) (o : Option Session) → state_in (option_map (session_with labels) o) ≡ state_in o
+state_with labels None = refl
+state_with labels (Some session) = refl
+
+pub state_told : (t : Network) (g : Labelling) (rested : ℕ → ℕ → ℕ) (w : World) (l end : ℕ) (d : Dir) (standing : Standing) →
+    IsNode t g rested w end standing → end ≡ sender (wiring_of t) l d → l < length t.links →
+    state_in (session_at standing.node l) ≡ state_at t w l (sender (wiring_of t) l d)
+state_told t g rested w l end d standing h its there =
+    ap (λ (n : Node). state_in (session_at n l)) h.node_is
+    ∙ ap state_in (session-with (wiring_of t) (own_of g) (node_at t w end) l)
+    ∙ state_with (own_of g (across (wiring_of t) l end)) (session_at (node_at t w end) l)
+    ∙ ap (λ m. state_in (session_at (node_at t w m) l)) its
+    ∙ ap state_in (map_numbers_at (session_of t w.config w.sessions (sender (wiring_of t) l d)) (length t.links) l None there)
     ∙ state_by _ _ _ (ends_so t l d)

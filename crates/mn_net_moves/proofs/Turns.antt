@@ -44,9 +44,9 @@ use Rattle.mn_routing_model.specs.Routed.{Routed, IsRoutes}
 use Rattle.mn_routing_model.specs.Steps as routing
 use Rattle.mn_routing_model.specs.Steps.{StayAsTheyWere}
 use Rattle.mn_ledger.specs.OneMore.{with_packet}
-use Rattle.mn_net_tally.specs.Tallies.{Tally, Tallies, after_static, HasStatic}
-use Rattle.mn_net_tally.specs.Laws.{may_send, changes_statics}
-use Rattle.mn_net_tally.proofs.Counting.{counts_as_it_did, counts_statics}
+use Rattle.mn_net_now.specs.Tallies.{Tally, Tallies, after_static, HasStatic}
+use Rattle.mn_net_now.specs.Laws.{may_send, changes_statics}
+use Rattle.mn_net_now.proofs.Counting.{counts_as_it_did, counts_statics}
 use Rattle.mn_ledger.proofs.Saying.{bounded}
 use Rattle.mn_net_now.specs.Now.{NetNow, packed_in, StandsFor, IsNet}
 use Rattle.mn_net_now.specs.Done.{MayBeDone}
@@ -127,16 +127,20 @@ no_packets_empty t w k (Detach a) h = refl
 no_packets_empty t w k _ h = not_it h
 
 pub link_turn : (net : NetNow) (s : Step) → IsLawful net.topology →
-    (is : IsNet net) → MayBeDone net s [] → touches s ≡ true → transport.IsTurn net.topology (world_of net.topology net.journal) s
+    (is : IsNet net) → MayBeDone net s [] → touches s ≡ true → transport.HasTurn net.topology net.journal s
 link_turn net s lawful is may of =
     let found = is_free net s [] is may in
     record {
-      fitting = may.fitting;
-      changes = found.changes;
-      there = sym (no_packets_empty net.topology (world_of net.topology net.journal) (packets_of net.topology net.journal is.inputs) s of) ∙ found.there;
-      turn = in_turn net.topology net.journal is.inputs lawful is.stands.stands.lawful;
-      named = (names_what_exists net.topology net.journal is.inputs lawful is.stands.stands.lawful).ldp;
-      few = (bounded net.topology net.journal is.inputs lawful is.stands.stands.lawful).few_said;
+      inputs = is.inputs;
+      lawful = is.stands.stands.lawful;
+      turn = record {
+        fitting = may.fitting;
+        changes = found.changes;
+        there = sym (no_packets_empty net.topology (world_of net.topology net.journal) (packets_of net.topology net.journal is.inputs) s of) ∙ found.there;
+        turn = in_turn net.topology net.journal is.inputs lawful is.stands.stands.lawful;
+        named = (names_what_exists net.topology net.journal is.inputs lawful is.stands.stands.lawful).ldp;
+        few = (bounded net.topology net.journal is.inputs lawful is.stands.stands.lawful).few_said;
+      };
     }
 
 pub route_turn : (net : NetNow) (s : Step) → (is : IsNet net) → MayBeDone net s [] → routing.IsTurn net.topology net.journal s
@@ -449,15 +453,15 @@ down_done old l carried moving made made_now stay lawful is may did moved_as lef
       moving =
           moving;
     }) s [] 0 0 0 is may refl refl (same_tick s old.tick refl) (omega arith) counts (omega arith) (omega arith)
-    (no_more _ is.bytes) (λ ps h. record {
+    (no_more _ is.bytes) (λ ps h. let step = may_step old s [] lawful is may ps h in record {
       works = h.works;
       transport = did.goes old.journal h.transport (link_turn old s lawful is may refl);
       routes = stay old.topology old.journal old.tick s old.routes lawful refl h.routes;
       tally = counts_as_it_did old.topology old.journal old.tick s [] ps old.tally lawful h.stands.lawful h.stands.each refl refl h.tally;
-      stands = cut_down old.topology old.journal old.tick l [] ps (packed_in old) _ h.stands (may_step old s [] lawful is may ps h)
+      stands = cut_down old.topology old.journal old.tick l [] ps (packed_in old) _ h.stands step
           (links_said old s carried moving made lawful is may refl did)
           (moved_as (given old.topology (pushed old.journal old.tick s)) (later_world old.topology old.journal s) (packets_now old.topology old.journal ps old.tick s) []
-          (labelled_now old.topology old.journal old.tick s old.moving ps refl h.stands.packets)) left;
+          (labelled_now old.topology old.journal old.tick s old.moving ps lawful h.stands.lawful step.forward refl h.stands.packets)) left;
     }))
 
 -- 8. Time goes by, and frames that are too old end

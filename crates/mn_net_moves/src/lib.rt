@@ -18,7 +18,7 @@ ghost use Rattle.std.specs.Prelude.{ℕ, List};
 ghost use Rattle.mn_net_now.specs.Now.{NetNow, StandsFor};
 ghost use Rattle.mn_net_now.specs.Labels.{LabelsMean};
 
-/// In a network that stands for the ledger labels mean what the ledger's world says: those that a node gave, those that it
+/// In a network that stands for the ledger labels mean what the ledger's world says: those that a node's FECs have now, those that it
 /// keeps from its neighbours, those in flight, those of VPN routes, the entries of its table, and those of flying frames.
 pub fn labels_mean_one_thing()
     ensures { (net : NetNow) (inputs : List (List ℕ)) → StandsFor net inputs → LabelsMean net inputs }

@@ -7,3 +7,5 @@ pub mod OfFrames
 pub mod Rows
 pub mod Firsts
 pub mod Comes
+pub use Rattle.mn_net_tally.proofs.Counting
+pub use Rattle.mn_net_tally.proofs.Rising

@@ -1,6 +1,6 @@
 -- Each cause of the list is the ledger's, and so is the first that holds.
 use Rattle.std.proofs.Common.{ℕ, ◌≡◌, ◌+◌, ◌*◌, ◌<◌, Bool, true, false, cond, List, [], ◌∷◌, length, refl, sym, ap, ◌∙◌, subst, Option, Some, None}
-use Rattle.std.specs.Prelude.{◌&&◌, ◌||◌, not, nat_le, nat_lt, option_map, unwrap_or}
+use Rattle.std.specs.Prelude.{◌&&◌, ◌||◌, ◌-◌, not, nat_le, nat_lt, option_map, unwrap_or}
 use Rattle.std.specs.List.{All}
 use Rattle.mn_base.specs.Numbers.{has_rt_form}
 use Rattle.mn_base.proofs.Bools.{and_parts, less_tells}
@@ -25,6 +25,7 @@ use Rattle.mn_ledger.specs.Refusal as refusals
 use Rattle.mn_ledger.proofs.Choice.{keeps}
 use Rattle.mn_ledger.proofs.Statics.{HasStatics}
 use Rattle.mn_laws.proofs.There.{vrf_there, home_there}
+use Rattle.mn_frames.proofs.Ranges.{given_long}
 use Rattle.mn_frames.proofs.Spent.{as_many_given}
 use Rattle.mn_frames.specs.Given.{given}
 use Rattle.mn_frames.specs.Numbers.{labels_of}
@@ -36,7 +37,7 @@ use Rattle.mn_timetable.specs.Keys.{of_frames}
 use Rattle.mn_net_model.proofs.News.{is_counted}
 use Rattle.mn_net_model.proofs.Numbers.{flight_ascends}
 use Rattle.mn_net_refusal.specs.Alike.{RefusesAlike}
-use Rattle.mn_net_refusal.specs.Seen.{Seen, Shows}
+use Rattle.mn_net_refusal.specs.Seen.{Seen, Shows, attachments_in}
 use Rattle.mn_net_refusal.specs.Refusal.{of_vrf, site_with, is_site, is_so, has_nothing, of_static, has_all_targets, has_given_all, has_no_room}
 use Rattle.mn_net_refusal.specs.Refusal.{has_too_much, refusal_seen}
 use Rattle.mn_net_refusal.proofs.Already.{already}
@@ -93,7 +94,8 @@ module _ (t : Network) (lawful : IsLawful t) (es : List JournalEntry) (ps : List
   labels_are : (s : Step) → fits t s ≡ true → has_given_all t seen.given s ≡ is_spent t w.config s
   labels_are (Attach s) fit =
       let there = home_there t s.0 lawful (less_tells s.0 (length t.sites) fit) in
-      ap (nat_le 1048560) (h.given (home_of t s.0) there ∙ as_many_given t es ps (home_of t s.0) there h.packed.lawful)
+      ap (nat_le 1048560) (h.given (home_of t s.0) there
+      ∙ ap (λ n. attachments_in (given t es (home_of t s.0)).given + (n - 1)) (given_long t es (home_of t s.0)) ∙ as_many_given t es ps (home_of t s.0) h.packed.lawful)
   labels_are (LinkUp l) fit = refl
   labels_are _ fit = refl
 

@@ -103,7 +103,7 @@ has_all_targets topology routes (Import v target true) = nat_le most_targets (un
 has_all_targets topology routes (Export v target true) = nat_le most_targets (unwrap_or (of_vrf topology routes v.0 (λ vrf. Some (length vrf.exports))) 0)
 has_all_targets topology routes _ = false
 
--- the site's node has given all its labels
+-- no label is left at the site's node
 abbrev pub has_given_all : Network → List ℕ → Step → Bool
 has_given_all topology given (Attach s) = nat_le most_labels (slice_index given (home_of topology s.0))
 has_given_all topology given _ = false

@@ -11,6 +11,8 @@
 
 ghost use Rattle.mn_net_refusal.specs.Alike.{RefusesAlike, ComesAlike};
 
+pub use mn_net_tally::{Tally, count_frame, count_static};
+
 /// What a network refuses by what its parts show is what the ledger refuses, for the same cause.
 pub fn what_is_seen_refuses_alike()
     ensures { RefusesAlike }

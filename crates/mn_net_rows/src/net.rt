@@ -1,7 +1,7 @@
 //! `net do` does the steps and drains of the text, and tells which lines were refused; `net routes COUNT` adds so many. What
-//! the network tells: `net steps`, `net tick`, `net packet NUMBER`, `net delivered`, `net label NODE LABEL`.
+//! the network tells: `net steps`, `net tick`, `net packet NUMBER`, `net delivered`, `net given NODE NUMBER`.
 use crate::driven::{add_routes, do_script};
-use crate::told::{label, packet};
+use crate::told::{given, packet};
 use mn_net::Net;
 use mn_rows::{Answer, Call, in_hex, shown};
 use std::alloc::Global;
@@ -28,7 +28,7 @@ pub(crate) fn net_row(alloc: Global, net: &mut Net, record: &[u8], call: Call<'_
         b"tick" => shown(alloc, &net.tick()),
         b"packet" => packet(alloc, net, call.number_u32(2)),
         b"delivered" => delivered(alloc, net),
-        b"label" => label(alloc, net, call.node(2), call.number_u32(3)),
+        b"given" => given(alloc, net, call.node(2), call.number_u32(3)),
         _ => Ok(None),
     }
 }

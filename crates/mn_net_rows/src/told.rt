@@ -1,4 +1,4 @@
-//! What became of packets, and what labels mean.
+//! What became of packets, and which labels were given.
 use mn_base::NodeNo;
 use mn_net::Net;
 use mn_rows::{Answer, shown};
@@ -24,13 +24,13 @@ pub(crate) fn packet(alloc: Global, net: &Net, number: Option<u32>) -> Answer {
     Ok(Some(text))
 }
 
-/// What a node gave a label for; labels are given from 16 on.
-pub(crate) fn label(alloc: Global, net: &Net, node: Option<NodeNo>, label: Option<u32>) -> Answer {
-    let (Some(node), Some(label)) = (node, label) else {
+/// A node's giving of a label, numbered from 0, and what it gave it for.
+pub(crate) fn given(alloc: Global, net: &Net, node: Option<NodeNo>, number: Option<u32>) -> Answer {
+    let (Some(node), Some(number)) = (node, number) else {
         return Ok(None);
     };
-    if label < 16 || !net.works() || usize::from(node.0) >= net.topology().nodes().len() {
+    if !net.works() || usize::from(node.0) >= net.topology().nodes().len() {
         return Ok(None);
     }
-    shown(alloc, &net.labels(node).get(label as usize - 16))
+    shown(alloc, &net.labels(node).get(number as usize))
 }

@@ -18,10 +18,9 @@ mod routers;
 mod trees;
 
 use frames::frame_row;
-use labels::label_row;
+use labels::{OfFour, label_row};
 use links::{Links, link_row};
 use mended::{Mended, mended_row};
-use mn_labels::Labels;
 use mn_rows::{Answer, Call, World, done, run};
 use numbers::{Numbers, number_row};
 use routers::{Routers, router_row};
@@ -37,7 +36,7 @@ struct Node {
     links: Links,
     trees: Trees,
     mended: Mended,
-    labels: Labels,
+    labels: OfFour,
     routers: Routers,
 }
 
@@ -48,7 +47,7 @@ impl World for Node {
             links: Links::new(alloc)?,
             trees: Trees::new(),
             mended: Mended::new(),
-            labels: Labels::new(alloc),
+            labels: OfFour::new(alloc)?,
             routers: Routers::new(alloc)?,
         })
     }

@@ -7,7 +7,7 @@
 //! `lsr new NODE LINK ..` makes a router that opens these sessions; `lsr agree` has those that were made hear one another until
 //! all is said, and answers how many PDUs were refused; `lsr said NODE LINK` is all that it said there, `lsr state NODE LINK` its
 //! session. `lsr hear NODE LINK BYTES` and `lsr close NODE LINK` answer what is said then: on the link where it heard, and on
-//! link 0 as it closes. `lsr outer NODE TO`, `lsr mended NODE TO`, `lsr forward NODE STACK`, `lsr attach NODE SITE`,
+//! link 0 as it closes; they happen at the tick of the last `lsr tick NODE TICK`. `lsr outer NODE TO`, `lsr mended NODE TO`, `lsr forward NODE STACK`, `lsr attach NODE SITE`,
 //! `lsr detach NODE LABEL`.
 ghost use Rattle.std.specs.Prelude.{◌≡◌, ◌≢◌, ◌<◌, true, false, None, length, IfOk, OnOk, IsTrue};
 ghost use Rattle.mn_wiring.specs.Wiring.{is_end};
@@ -60,7 +60,7 @@ fn learn(lsr: &mut Lsr, db: &LinkDb, link: LinkNo) -> Result<(), AllocError>
     if !lsr.has_numbers() || lsr.view().learned(link) > db.changes(link) {
         return Err(AllocError);
     }
-    match lsr.learn(db, link) {
+    match lsr.learn(db, link, 0) {
         Ok(said) if said.is_empty() => Ok(()),
         _ => Err(AllocError),
     }
@@ -83,7 +83,7 @@ fn knowing(alloc: Global, me: NodeNo) -> Result<Lsr, AllocError>
     ensures me { IfOk result (λ lsr. lsr.node.me ≡ me.0) }
 {
     routers_in_a_row_are_wired();
-    let mut lsr = Lsr::new(alloc, me, &LOOPBACKS, &ENDS)?;
+    let mut lsr = Lsr::new(alloc, me, &LOOPBACKS, &ENDS, 2000)?;
     let db = both_up(alloc)?;
     learn(&mut lsr, &db, LinkNo(0))?;
     learn(&mut lsr, &db, LinkNo(1))?;
@@ -142,6 +142,7 @@ pub(crate) struct Router {
     lsr: Lsr,
     said: Vec<Said>,
     told: [usize; 2],
+    tick: u64,
 }
 
 impl Router {
@@ -157,6 +158,7 @@ impl Router {
             lsr,
             said,
             told: [0, 0],
+            tick: 0,
         })
     }
 
@@ -171,7 +173,7 @@ impl Router {
         if !self.has_session(link) || !self.lsr.has_numbers() {
             return Ok(None);
         }
-        match self.lsr.hear_ldp(link, bytes) {
+        match self.lsr.hear_ldp(link, bytes, self.tick) {
             Ok(said) => {
                 let answer = on_link(alloc, &said, link)?;
                 add(&mut self.said, said)?;
@@ -217,7 +219,7 @@ impl Router {
         if !self.has_session(link) || !self.lsr.has_numbers() {
             return Ok(None);
         }
-        let said = self.lsr.close(link)?;
+        let said = self.lsr.close(link, self.tick)?;
         let answer = on_link(alloc, &said, LinkNo(0))?;
         add(&mut self.said, said)?;
         Ok(answer)
@@ -232,7 +234,17 @@ impl Router {
         self.lsr.view().ends().len() == 2
             && self.lsr.view().learned(first) <= db.changes(first)
             && self.lsr.has_numbers()
-            && matches!(self.lsr.learn(db, first), Err(LsrBad::Empty))
+            && matches!(self.lsr.learn(db, first, self.tick), Err(LsrBad::Empty))
+    }
+
+    fn wait(&mut self, alloc: Global, call: Call<'_>) -> Answer {
+        match call.number_u32(3) {
+            Some(tick) => {
+                self.tick = u64::from(tick);
+                done(alloc)
+            }
+            None => Ok(None),
+        }
     }
 
     fn outer(&mut self, alloc: Global, call: Call<'_>) -> Answer {
@@ -310,6 +322,7 @@ impl Router {
             b"forward" => self.forward(alloc, call),
             b"attach" => self.attach(alloc, call),
             b"detach" => self.detach(alloc, call),
+            b"tick" => self.wait(alloc, call),
             _ => match call.link(3) {
                 Some(link) => self.of_link(alloc, call, link),
                 None => Ok(None),

@@ -12,7 +12,7 @@ use Rattle.mn_output.specs.Contents.{contents, adds, head_of, whole}
 abbrev pub at : List JournalEntry → JournalEntry → Moment
 at before entry = record { before = before; entry = entry }
 
-longer : (before entries : List JournalEntry) (last : JournalEntry) →
+pub longer : (before entries : List JournalEntry) (last : JournalEntry) →
     moments_from before (entries ++ last ∷ []) ≡ moments_from before entries ++ at (before ++ entries) last ∷ []
 longer before [] last = ap (λ b. at b last ∷ []) (sym (append-nil before))
 longer before (entry ∷ entries) last =

@@ -1,15 +1,17 @@
--- The whole of a .ldp file: all that an end said over a link, in all lives of the session.
-use Rattle.std.proofs.Common.{ℕ, zero, suc, ◌≡◌, ◌+◌, ◌-◌, ◌<◌, ◌≤◌, Bool, true, false, cond, List, [], ◌∷◌, ◌++◌, map, filter, length, drop, refl, arith}
+-- The whole of a .ldp file: all that an end said over a link, in all lives of the session, with the labels of the moment at which it was said.
+use Rattle.std.proofs.Common.{ℕ, zero, suc, ◌≡◌, ◌+◌, ◌-◌, ◌<◌, ◌≤◌, inl, inr, Bool, true, false, cond, List, [], ◌∷◌, ◌++◌, map, filter, length, drop, refl, arith}
 use Rattle.std.proofs.Common.{sym, ap, subst, ◌∙◌, append_assoc, append-nil}
 use Rattle.std.specs.Prelude.{◌==◌, ◌&&◌, ◌||◌}
 use Rattle.std.specs.List.{flat_map, range_with_len, zip}
-use Rattle.std.proofs.lemmas.List.{length-append, length-map, length-drop}
+use Rattle.std.proofs.lemmas.List.{length-append, length-map, length-drop, map-append}
+use Rattle.std.proofs.lemmas.List.Elements.{filter-append}
 use Rattle.std.proofs.lemmas.List.Concat.{flat_map-append}
 use Rattle.std.proofs.lemmas.List.FromFn.{length-range_with_len}
 use Rattle.mn_wiring.specs.Wiring.{Wiring, link, is_end, across, sender}
 use Rattle.mn_wiring.specs.declared.links.Dir.{Dir}
 use Rattle.mn_wiring.specs.declared.links.Dir.TheVariants.{Forth, Back}
 use Rattle.mn_base.proofs.Bools.{same_test}
+use Rattle.mn_base.proofs.Members.{In, in_flat_map, in_filter}
 use Rattle.mn_topo.specs.Lawful.{IsLawful}
 use Rattle.mn_topo.specs.Network.{Network, wiring_of}
 use Rattle.mn_topo.specs.declared.steps.JournalEntry.{JournalEntry}
@@ -18,20 +20,23 @@ use Rattle.mn_ledger.specs.Ledger.{after, next_of, world_of, packets_of}
 use Rattle.mn_ledger.specs.Lawful.{IsLawfulJournal}
 use Rattle.mn_ledger.specs.OneMore.{with_packet, made_then}
 use Rattle.mn_ledger.specs.Verdicts.{injections}
-use Rattle.mn_ledger.specs.Items.{Channel, Notices, Messages, Routes, Frames, Load, Notice, Says, Tells, Carries, Item, Flight, same_channel, loads_on}
+use Rattle.mn_ledger.specs.Items.{Channel, Notices, Messages, Routes, Frames, Load, Notice, Says, Tells, Carries, Item, Flight, same_channel, items_on, loads_on}
 use Rattle.mn_ledger.specs.Items.{left_in_flight, in_time, numbered, made_by, flight_of}
 use Rattle.mn_ledger.proofs.Channels.{loads_in, loads_append, on_numbered}
 use Rattle.mn_ledger.proofs.Flows.{in_flight}
 use Rattle.mn_ledger.proofs.More.{goes_on}
 use Rattle.mn_laws.specs.Ids.{ids_after, ids_of, SaysWithIds}
 use Rattle.mn_laws.proofs.Saids.{says_with_ids}
+use Rattle.mn_frames.specs.Given.{Labelling, given}
 use Rattle.mn_course.specs.Course.{input_before, inputs_of}
 use Rattle.mn_course.proofs.Going.{packet_at, inputs_more, a_packet_each}
 use Rattle.mn_output.specs.Files.{Said}
-use Rattle.mn_output.specs.Contents.{said_on, pdus, contents, whole}
-use Rattle.mn_output.specs.Lists.{message_in, all_said, pdu_bytes, said_bytes, said_file}
+use Rattle.mn_output.specs.Moments.{labels_when}
+use Rattle.mn_output.specs.Contents.{said_on, pdu_bytes, pdus, contents, whole}
+use Rattle.mn_output.specs.Lists.{Saying, saying_in, all_said, messages_in, said_pdu, said_bytes, said_file}
 use Rattle.mn_output.proofs.Adding.{adding}
 use Rattle.mn_output.proofs.Deliveries.{by_last, its_packet}
+use Rattle.mn_output.proofs.When.{made_by_entry, made_more, old_labels, new_labels}
 
 -- 1. Messages with their ids
 
@@ -43,9 +48,24 @@ zipped f (i ∷ a) b [] ys n = absurd (omega (arith, n))
 zipped f (i ∷ a) b (x ∷ xs) ys n =
     ap (λ r. f (i, x) ++ r) (zipped f a b xs ys (omega (arith, n))) ∙ sym (append_assoc (f (i, x)) (flat_map f (zip a xs)) (flat_map f (zip b ys)))
 
-in_row : (t : Network) (l end id : ℕ) (ms : List Message) → flat_map (pdu_bytes t l end) (zip (range_with_len id (length ms)) ms) ≡ pdus t l end id ms
-in_row t l end id [] = refl
-in_row t l end id (m ∷ ms) = ap (λ r. pdu_bytes t l end (id, m) ++ r) (in_row t l end (id + 1) ms)
+-- what is said in a row at one moment
+in_row : (t : Network) (labels : ℕ → Labelling) (now : Labelling) (l end id : ℕ) (sayings : List Saying)
+    → ((saying : Saying) → In sayings saying → labels saying.number ≡ now)
+    → flat_map (said_pdu t labels l end) (zip (range_with_len id (length sayings)) sayings) ≡ pdus t now l end id (messages_in sayings)
+in_row t labels now l end id [] h = refl
+in_row t labels now l end id (s ∷ ss) h =
+    ap (λ given. pdu_bytes t given l end id s.message ++ flat_map (said_pdu t labels l end) (zip (range_with_len (id + 1) (length ss)) ss)) (h s (inl refl))
+    ∙ ap (λ r. pdu_bytes t now l end id s.message ++ r) (in_row t labels now l end (id + 1) ss (λ x i. h x (inr i)))
+
+-- what was said keeps its bytes where the labels of its moment are the same
+alike : (t : Network) (labels later : ℕ → Labelling) (l end : ℕ) (ids : List ℕ) (sayings : List Saying)
+    → ((saying : Saying) → In sayings saying → labels saying.number ≡ later saying.number)
+    → flat_map (said_pdu t labels l end) (zip ids sayings) ≡ flat_map (said_pdu t later l end) (zip ids sayings)
+alike t labels later l end [] ss h = refl
+alike t labels later l end (id ∷ ids) [] h = refl
+alike t labels later l end (id ∷ ids) (s ∷ ss) h =
+    ap (λ given. pdu_bytes t given l end id s.message ++ flat_map (said_pdu t labels l end) (zip ids ss)) (h s (inl refl))
+    ∙ ap (λ r. pdu_bytes t (later s.number) l end id s.message ++ r) (alike t labels later l end ids ss (λ x i. h x (inr i)))
 
 ids_split : (id : ℕ) (xs ys : List Message) → (more : List ℕ) × (ids_after id (xs ++ ys) ≡ ids_after id xs ++ more)
 ids_split id [] ys = (ids_after id ys, refl)
@@ -104,6 +124,10 @@ last_ids old new earlier said more same few split places =
 
 -- 2. What an end says, of loads and of all that is made
 
+abbrev message_in : Load → List Message
+message_in (Says message) = message ∷ []
+message_in load = []
+
 said_back : (ms : List Message) → flat_map message_in (map (λ message. Says message) ms) ≡ ms
 said_back [] = refl
 said_back (m ∷ ms) = ap (λ r. m ∷ r) (said_back ms)
@@ -152,11 +176,48 @@ same_said l end (m ∷ ms) =
     one_said l end m.0 m.1 (filter (λ (one : Channel × Load). same_channel (Messages l end) one.0) ms)
     ∙ ap (λ r. said_on l end m ++ r) (same_said l end ms)
 
--- 3. One entry more
+-- 3. What an end says, with the numbers of its items
 
-module _ (t : Network) (lawful : IsLawful t) (l end : ℕ) (below : l < length t.links) (at_end : is_end (wiring_of t) l end ≡ true) (es : List JournalEntry)
-    (e : JournalEntry) (ps : List (List ℕ)) (b : List ℕ) (each : length ps ≡ injections es)
-    (journal : IsLawfulJournal t (es ++ e ∷ []) (with_packet e.step b ps)) where
+abbrev saying_of : Item → List Saying
+saying_of item = saying_in item.number item.load
+
+abbrev load_of : Item → Load
+load_of item = item.load
+
+-- without numbers it is what their loads say
+its_messages : (items : List Item) → messages_in (flat_map saying_of items) ≡ flat_map message_in (map load_of items)
+its_messages [] = refl
+its_messages (item ∷ items) =
+    map-append (λ saying. saying.message) (saying_of item) (flat_map saying_of items)
+    ∙ ap (λ r. messages_in (saying_of item) ++ r) (its_messages items)
+    ∙ ap (λ r. r ++ flat_map message_in (map load_of items)) (one item.number item.load)
+  where
+    one : (number : ℕ) (load : Load) → messages_in (saying_in number load) ≡ message_in load
+    one number (Says m) = refl
+    one number Notice = refl
+    one number (Tells m) = refl
+    one number (Carries k) = refl
+
+-- each has the number of one of the items
+its_item : (on : Channel) (items : List Item) (saying : Saying) → In (flat_map saying_of (items_on on items)) saying
+    → (item : Item) × In items item × (item.number ≡ saying.number)
+its_item on items saying i =
+    let one = in_flat_map saying_of (items_on on items) saying i in
+    (one.0, (in_filter (λ (x : Item). same_channel on x.on) items one.0 one.1).0, by one.0.number one.0.load one.2)
+  where
+    by : (number : ℕ) (load : Load) → In (saying_in number load) saying → number ≡ saying.number
+    by number (Says m) j = elim j [ inl e ↦ ap (λ (s : Saying). s.number) e | inr k ↦ absurd k ]
+    by number Notice j = absurd j
+    by number (Tells m) j = absurd j
+    by number (Carries k) j = absurd j
+
+-- 4. One entry more
+
+module _ (t : Network) (capture : List (List ℕ)) (lawful : IsLawful t) (l end : ℕ) (below : l < length t.links)
+    (at_end : is_end (wiring_of t) l end ≡ true) (es : List JournalEntry) (e : JournalEntry) where
+  abbrev ps : List (List ℕ)
+  ps = inputs_of capture es
+
   abbrev on : Channel
   on = Messages l end
 
@@ -164,13 +225,19 @@ module _ (t : Network) (lawful : IsLawful t) (l end : ℕ) (below : l < length t
   later = es ++ e ∷ []
 
   abbrev packets : List (List ℕ)
-  packets = with_packet e.step b ps
+  packets = inputs_of capture later
 
   abbrev made_now : List (Channel × Load)
-  made_now = made_then t (world_of t es) (packets_of t es ps) e b
+  made_now = made_by_entry t capture es e
 
-  abbrev old : List Message
+  abbrev fresh_items : List Item
+  fresh_items = numbered t e.tick (length (made_by t es ps)) made_now
+
+  abbrev old : List Saying
   old = all_said t es ps l end
+
+  abbrev fresh : List Saying
+  fresh = flat_map saying_of (items_on on fresh_items)
 
   abbrev new : List Message
   new = flat_map (said_on l end) made_now
@@ -179,23 +246,32 @@ module _ (t : Network) (lawful : IsLawful t) (l end : ℕ) (below : l < length t
   abbrev said : List Message
   said = (world_of t later).sessions.said l end
 
-  grown : all_said t later packets l end ≡ old ++ new
+  grown : all_said t later packets l end ≡ old ++ fresh
   grown =
-      ap (λ items. flat_map message_in (loads_on on items)) (goes_on t es ps e b each).made
-      ∙ ap (flat_map message_in)
-      (loads_append on (made_by t es ps) (numbered t e.tick (length (made_by t es ps)) made_now)
-      ∙ ap (λ r. loads_on on (made_by t es ps) ++ r) (on_numbered t on e.tick (length (made_by t es ps)) made_now))
-      ∙ flat_map-append message_in (loads_on on (made_by t es ps)) (loads_in on made_now)
-      ∙ ap (λ r. old ++ r) (same_said l end made_now)
+      ap (λ items. flat_map saying_of (items_on on items)) (made_more t capture es e)
+      ∙ ap (flat_map saying_of) (filter-append (λ (x : Item). same_channel on x.on) (made_by t es ps) fresh_items)
+      ∙ flat_map-append saying_of (items_on on (made_by t es ps)) (items_on on fresh_items)
+
+  fresh_is_new : messages_in fresh ≡ new
+  fresh_is_new =
+      its_messages (items_on on fresh_items) ∙ ap (flat_map message_in) (on_numbered t on e.tick (length (made_by t es ps)) made_now)
+      ∙ same_said l end made_now
+
+  as_many : length fresh ≡ length new
+  as_many = sym (length-map fresh (λ saying. saying.message)) ∙ ap length fresh_is_new
+
+  messages_grown : messages_in (old ++ fresh) ≡ messages_in old ++ new
+  messages_grown = map-append (λ saying. saying.message) old fresh ∙ ap (λ r. messages_in old ++ r) fresh_is_new
 
   -- what is new flies, and what flies on the channel was said in this life
-  few_new : length new ≤ length said
-  few_new =
+  few_new : IsLawfulJournal t later packets → length new ≤ length said
+  few_new journal =
       let left : List Item = left_in_flight t e.step (in_time t e (flight_of t es ps)).items in
       let number : ℕ = (in_time t e (flight_of t es ps)).made in
       let heard : ℕ = (world_of t later).sessions.heard l (across (wiring_of t) l end) in
       let flown : length (loads_on on (flight_of t later packets).items) ≡ length (loads_on on left) + length (loads_in on made_now) =
-      ap (λ (flight : Flight). length (loads_on on flight.items)) (goes_on t es ps e b each).flight
+      ap (λ qs. length (loads_on on (flight_of t later qs).items)) (inputs_more capture es e)
+      ∙ ap (λ (flight : Flight). length (loads_on on flight.items)) (goes_on t es ps e (packet_at capture e.step) (a_packet_each capture es)).flight
       ∙ ap length (loads_append on left (numbered t e.tick number made_now) ∙ ap (λ r. loads_on on left ++ r) (on_numbered t on e.tick number made_now))
       ∙ length-append (loads_on on left) (loads_in on made_now) in
       let there : length (loads_on on (flight_of t later packets).items) ≡ length said - heard =
@@ -204,23 +280,39 @@ module _ (t : Network) (lawful : IsLawful t) (l end : ℕ) (below : l < length t
       let same : length (flat_map message_in (loads_in on made_now)) ≡ length new = ap length (same_said l end made_now) in
       omega (arith, flown, there, same, few_of (loads_in on made_now))
 
-  new_ids : (more : List ℕ) → ids_of (old ++ new) ≡ ids_of old ++ more → SaysWithIds t later packets l end
-      → more ≡ range_with_len (length said - length new + 1) (length new)
-  new_ids more split h =
-      last_ids old new h.earlier said more (sym grown ∙ ap (flat_map message_in) h.all ∙ said_back (h.earlier ++ said)) few_new split h.ids
+  new_ids : (more : List ℕ) → ids_of (messages_in old ++ new) ≡ ids_of (messages_in old) ++ more → IsLawfulJournal t later packets
+      → SaysWithIds t later packets l end → more ≡ range_with_len (length said - length new + 1) (length new)
+  new_ids more split journal h =
+      last_ids (messages_in old) new h.earlier said more
+      (sym (ap messages_in grown ∙ messages_grown) ∙ its_messages (items_on on (made_by t later packets))
+      ∙ ap (flat_map message_in) h.all ∙ said_back (h.earlier ++ said))
+      (few_new journal) split h.ids
 
-  bytes_grown : said_bytes t l end (all_said t later packets l end) ≡ said_bytes t l end old ++ pdus t l end (length said - length new + 1) new
-  bytes_grown =
-      let split = ids_split 0 old new in
+  bytes_grown : IsLawfulJournal t later packets → said_bytes t (labels_when t capture later) l end (all_said t later packets l end)
+      ≡ said_bytes t (labels_when t capture es) l end old ++ pdus t (given t later) l end (length said - length new + 1) new
+  bytes_grown journal =
+      let split = ids_split 0 (messages_in old) new in
       let first : ℕ = length said - length new + 1 in
-      ap (said_bytes t l end) grown
-      ∙ ap (λ ids. flat_map (pdu_bytes t l end) (zip ids (old ++ new))) split.1
-      ∙ zipped (pdu_bytes t l end) (ids_of old) split.0 old new (as_many_ids 0 old)
-      ∙ ap (λ ids. said_bytes t l end old ++ flat_map (pdu_bytes t l end) (zip ids new))
-      (new_ids split.0 split.1 (says_with_ids t later packets l end lawful journal below at_end))
-      ∙ ap (λ r. said_bytes t l end old ++ r) (in_row t l end first new)
+      let pdu : ℕ × Saying → List ℕ = said_pdu t (labels_when t capture later) l end in
+      let ids : List ℕ = ids_of (messages_in old) in
+      ap (said_bytes t (labels_when t capture later) l end) grown
+      ∙ ap (λ ms. flat_map pdu (zip (ids_of ms) (old ++ fresh))) messages_grown
+      ∙ ap (λ all. flat_map pdu (zip all (old ++ fresh))) split.1
+      ∙ zipped pdu ids split.0 old fresh (as_many_ids 0 (messages_in old) ∙ length-map old (λ saying. saying.message))
+      ∙ ap (λ r. r ++ flat_map pdu (zip split.0 fresh))
+      (sym (alike t (labels_when t capture es) (labels_when t capture later) l end ids old
+      (λ saying i. let one = its_item on (made_by t es ps) saying i in
+      ap (labels_when t capture es) (sym one.2) ∙ old_labels t capture es e one.0 one.1 ∙ ap (labels_when t capture later) one.2)))
+      ∙ ap (λ r. said_bytes t (labels_when t capture es) l end old ++ r)
+      (ap (λ all. flat_map pdu (zip all fresh))
+      (new_ids split.0 split.1 journal (says_with_ids t later packets l end lawful journal below at_end)
+      ∙ ap (range_with_len first) (sym as_many))
+      ∙ in_row t (labels_when t capture later) (given t later) l end first fresh
+      (λ saying i. let one = its_item on fresh_items saying i in
+      ap (labels_when t capture later) (sym one.2) ∙ new_labels t capture es e one.0 one.1)
+      ∙ ap (pdus t (given t later) l end first) fresh_is_new)
 
--- 4. The law
+-- 5. The law
 
 any_or_true : (b : Bool) → (b || true) ≡ true
 any_or_true true = refl
@@ -240,21 +332,17 @@ module _ (t : Network) (capture : List (List ℕ)) (lawful : IsLawful t) (l : �
   one_more : (es : List JournalEntry) (e : JournalEntry) → IsWritten es → IsWritten (es ++ e ∷ [])
   one_more es e h journal =
       let ps : List (List ℕ) = inputs_of capture es in
-      let b : List ℕ = packet_at capture e.step in
-      let each : length ps ≡ injections es = a_packet_each capture es in
-      let one = goes_on t es ps e b each in
-      let now : IsLawfulJournal t (es ++ e ∷ []) (with_packet e.step b ps) =
-      subst (IsLawfulJournal t (es ++ e ∷ [])) (inputs_more capture es e) journal in
+      let one = goes_on t es ps e (packet_at capture e.step) (a_packet_each capture es) in
+      let before : IsLawfulJournal t es ps = (one.lawful.0 (subst (IsLawfulJournal t (es ++ e ∷ [])) (inputs_more capture es e) journal)).0 in
       let new : List ℕ → List Message = λ bytes. flat_map (said_on l from) (made_then t (world_of t es) (packets_of t es ps) e bytes) in
       let added : World → List Message → List ℕ =
-      λ world messages. pdus t l from (length (world.sessions.said l from) - length messages + 1) messages in
+      λ world messages. pdus t (given t (es ++ e ∷ [])) l from (length (world.sessions.said l from) - length messages + 1) messages in
       let bytes : List ℕ = next_of (input_before capture e.step []) in
       adding t capture es e (Said l dir)
-      ∙ ap (λ r. r ++ added (after t (world_of t es) e.step) (new bytes)) (h (one.lawful.0 now).0)
+      ∙ ap (λ r. r ++ added (after t (world_of t es) e.step) (new bytes)) (h before)
       ∙ ap (λ c. said_file t capture es l from ++ added (after t (world_of t es) e.step) (new c)) (its_packet capture e.step)
-      ∙ ap (λ world. said_file t capture es l from ++ added world (new b)) (sym one.world)
-      ∙ sym (bytes_grown t lawful l from below (sends_there (wiring_of t) l dir) es e ps b each now)
-      ∙ ap (λ qs. said_bytes t l from (all_said t (es ++ e ∷ []) qs l from)) (sym (inputs_more capture es e))
+      ∙ ap (λ world. said_file t capture es l from ++ added world (new (packet_at capture e.step))) (sym one.world)
+      ∙ sym (bytes_grown t capture lawful l from below (sends_there (wiring_of t) l dir) es e journal)
 
   pub all_lives_are_written : (es : List JournalEntry) → IsLawfulJournal t es (inputs_of capture es)
       → whole t capture es (Said l dir) ≡ said_file t capture es l from

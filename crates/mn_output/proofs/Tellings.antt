@@ -2,10 +2,9 @@
 use Rattle.std.proofs.Common.{ℕ, zero, suc, ◌≡◌, inl, inr, Bool, true, false, cond, List, [], ◌∷◌, ◌++◌, map, filter, length, drop, refl, sym, ap, subst}
 use Rattle.std.proofs.Common.{◌∙◌, append-nil}
 use Rattle.std.specs.Prelude.{◌≢◌, ◌==◌, ◌&&◌}
-use Rattle.std.specs.List.{Contains, flat_map}
+use Rattle.std.specs.List.{flat_map}
 use Rattle.std.proofs.lemmas.List.Concat.{flat_map-append}
-use Rattle.mn_base.proofs.Members.{In, in_contained, contained_in, in_append, in_front, in_rest, in_map, in_flat_map}
-use Rattle.mn_labels.specs.declared.meaning.Bind.{Bind}
+use Rattle.mn_base.proofs.Members.{In, contained_in, in_append, in_rest, in_map, in_flat_map}
 use Rattle.mn_topo.specs.Lawful.{IsLawful}
 use Rattle.mn_topo.specs.Network.{Network}
 use Rattle.mn_topo.specs.declared.steps.JournalEntry.{JournalEntry}
@@ -19,11 +18,10 @@ use Rattle.mn_ledger.specs.Items.{left_in_flight, in_time, numbered, made_by, fl
 use Rattle.mn_ledger.proofs.Channels.{loads_in, loads_append, on_numbered}
 use Rattle.mn_ledger.proofs.Flows.{in_flight}
 use Rattle.mn_ledger.proofs.More.{goes_on}
-use Rattle.mn_frames.specs.Given.{Labelling, attachment_of, given}
-use Rattle.mn_frames.specs.Laws.{Extends}
+use Rattle.mn_frames.specs.Given.{attachment_of, given, HasLabel}
 use Rattle.mn_frames.specs.Numbers.{labels_of}
-use Rattle.mn_frames.proofs.Anew.{gives_to_no_other, by_table}
-use Rattle.mn_frames.proofs.Labels.{label_stays}
+use Rattle.mn_frames.proofs.Anew.{gives_to_no_other}
+use Rattle.mn_frames.proofs.Labels.{attachments_stay}
 use Rattle.mn_frames.proofs.Named.{all_have_labels}
 use Rattle.mn_bgp_spelling.specs.Spelling.{bytes_in}
 use Rattle.mn_course.specs.Course.{input_before, inputs_of}
@@ -33,7 +31,7 @@ use Rattle.mn_output.specs.Contents.{told_on, contents, whole}
 use Rattle.mn_output.specs.Lists.{telling_in, all_told, told_file}
 use Rattle.mn_output.proofs.Adding.{adding}
 use Rattle.mn_output.proofs.Deliveries.{by_last, its_packet}
-use Rattle.mn_output.proofs.Frames.{same_all, extends}
+use Rattle.mn_output.proofs.Frames.{same_all}
 
 -- 1. What an edge tells, of loads and of all that is made
 
@@ -91,24 +89,14 @@ bytes_alike t old new edge (Announcement export) h = ap (λ label. bytes_in t (�
 bytes_alike t old new edge (Withdrawal v prefix) h = refl
 
 -- the site's edge has given a label for the attachment that an announcement names
-abbrev HasLabel : Network → List JournalEntry → Telling → Type 0
-HasLabel t es telling = (export : Export) → telling ≡ Announcement export →
-    Contains (given t es (home_of t export.site)) (attachment_of export.site export.attachment)
+abbrev IsLabelled : Network → List JournalEntry → Telling → Type 0
+IsLabelled t es telling = (export : Export) → telling ≡ Announcement export →
+    HasLabel (given t es (home_of t export.site)) (attachment_of export.site export.attachment)
 
-still : (earlier later : Labelling) (node : ℕ) (bind : Bind) → Extends earlier later → Contains (earlier node) bind → Contains (later node) bind
-still earlier later node bind extends there =
-    subst (λ binds. Contains binds bind) (sym (extends node).1)
-    (contained_in (earlier node ++ (extends node).0) bind (in_front (earlier node) (extends node).0 bind (in_contained (earlier node) bind there)))
-
-label_later : (t : Network) (es : List JournalEntry) (e : JournalEntry) (ps qs : List (List ℕ)) (site attachment : ℕ) → IsLawful t
-    → IsLawfulJournal t es ps → IsLawfulJournal t (es ++ e ∷ []) qs → Contains (given t es (home_of t site)) (attachment_of site attachment)
-    → labels_of t es site attachment ≡ labels_of t (es ++ e ∷ []) site attachment
-label_later t es e ps qs site attachment lawful journal later there =
-    let home : ℕ = home_of t site in
-    let bind : Bind = attachment_of site attachment in
-    sym (by_table t es ps site attachment lawful journal there)
-    ∙ sym (label_stays (given t es) (given t (es ++ e ∷ [])) home bind (extends t es e) there)
-    ∙ by_table t (es ++ e ∷ []) qs site attachment lawful later (still (given t es) (given t (es ++ e ∷ [])) home bind (extends t es e) there)
+label_later : (t : Network) (es : List JournalEntry) (e : JournalEntry) (site attachment : ℕ)
+    → HasLabel (given t es (home_of t site)) (attachment_of site attachment) → labels_of t es site attachment ≡ labels_of t (es ++ e ∷ []) site attachment
+unfolding labels_of
+label_later t es e site attachment there = sym (attachments_stay t es e (home_of t site) site attachment there).label
 
 in_drop : {A : Type 0} (n : ℕ) (xs : List A) (x : A) → In (drop n xs) x → In xs x
 in_drop zero xs x i = i
@@ -120,7 +108,7 @@ one_telling a b e = cc
 
 -- what flies was told in this life, and what was told in this life has a label
 flies_labelled : (t : Network) (es : List JournalEntry) (ps : List (List ℕ)) (edge peer : ℕ) → IsLawful t → IsLawfulJournal t es ps → edge ≢ peer
-    → (telling : Telling) → In (loads_on (Routes edge peer) (flight_of t es ps).items) (Tells telling) → HasLabel t es telling
+    → (telling : Telling) → In (loads_on (Routes edge peer) (flight_of t es ps).items) (Tells telling) → IsLabelled t es telling
 flies_labelled t es ps edge peer lawful journal apart telling i export e =
     let told : List Telling = (world_of t es).peerings.told edge peer in
     let heard : ℕ = (world_of t es).peerings.heard peer edge in
@@ -128,10 +116,10 @@ flies_labelled t es ps edge peer lawful journal apart telling i export e =
     subst (λ loads. In loads (Tells telling)) ((in_flight t es ps lawful journal).routes edge peer apart) i in
     let one = in_map (λ telling. Tells telling) (drop heard told) (Tells telling) flies in
     let there : In told (Announcement export) = subst (In told) (one_telling one.0 telling one.2 ∙ e) (in_drop heard told one.0 one.1) in
-    let bind : Bind = attachment_of export.site export.attachment in
-    let gives : Contains (given t es edge) bind =
+    let gives : HasLabel (given t es edge) (attachment_of export.site export.attachment) =
     (all_have_labels t es ps lawful journal).told edge peer export (contained_in told (Announcement export) there) in
-    subst (λ node. Contains (given t es node) bind) (sym (gives_to_no_other t es ps edge export.site export.attachment journal gives).home) gives
+    subst (λ node. HasLabel (given t es node) (attachment_of export.site export.attachment))
+    (sym (gives_to_no_other t es ps edge export.site export.attachment journal gives).home) gives
 
 -- 3. The law
 
@@ -147,7 +135,7 @@ module _ (t : Network) (capture : List (List ℕ)) (lawful : IsLawful t) (edge p
 
   abbrev IsWritten : List JournalEntry → Type 0
   IsWritten es = IsLawfulJournal t es (inputs_of capture es) → (contents t capture es (out.Told edge peer) ≡ told_file t capture es edge peer)
-      × ((telling : Telling) → In (all_told t es (inputs_of capture es) edge peer) telling → HasLabel t es telling)
+      × ((telling : Telling) → In (all_told t es (inputs_of capture es) edge peer) telling → IsLabelled t es telling)
 
   one_more : (es : List JournalEntry) (e : JournalEntry) → IsWritten es → IsWritten (es ++ e ∷ [])
   one_more es e h journal =
@@ -175,7 +163,7 @@ module _ (t : Network) (capture : List (List ℕ)) (lawful : IsLawful t) (edge p
       let flown : loads_on on (flight_of t later packets).items ≡ loads_on on left ++ loads_in on (made b) =
       ap (λ (flight : Flight). loads_on on flight.items) one.flight
       ∙ loads_append on left (numbered t e.tick m (made b)) ∙ ap (λ r. loads_on on left ++ r) (on_numbered t on e.tick m (made b)) in
-      let new_labelled : (telling : Telling) → In new telling → HasLabel t later telling = (
+      let new_labelled : (telling : Telling) → In new telling → IsLabelled t later telling = (
       λ telling i.
       let found = in_flat_map telling_in (loads_in on (made b)) telling (subst (λ tellings. In tellings telling) (sym (same_told edge peer (made b))) i) in
       flies_labelled t later packets edge peer lawful now apart telling
@@ -183,9 +171,8 @@ module _ (t : Network) (capture : List (List ℕ)) (lawful : IsLawful t) (edge p
       (in_rest (loads_on on left) (loads_in on (made b)) (Tells telling)
       (subst (In (loads_in on (made b))) (its_load found.0 telling found.2) found.1)))
       ) in
-      let old_labelled : (telling : Telling) → In old telling → HasLabel t later telling = (
-      λ telling i export is. still (given t es) (given t later) (home_of t export.site) (attachment_of export.site export.attachment) (extends t es e)
-      (before.1 telling i export is)
+      let old_labelled : (telling : Telling) → In old telling → IsLabelled t later telling = (
+      λ telling i export is. (attachments_stay t es e (home_of t export.site) export.site export.attachment (before.1 telling i export is)).had
       ) in (
         adding t capture es e (out.Told edge peer)
             ∙ ap (λ r. r ++ spelled later (told_in (made (next_of (input_before capture e.step []))))) before.0
@@ -193,7 +180,7 @@ module _ (t : Network) (capture : List (List ℕ)) (lawful : IsLawful t) (edge p
             ∙ ap (λ r. r ++ spelled later new)
             (same_all (bytes_in t (labels_of t es) edge) (bytes_in t (labels_of t later) edge) old
             (λ telling i. bytes_alike t (labels_of t es) (labels_of t later) edge telling
-            (λ export is. label_later t es e ps packets export.site export.attachment lawful was_lawful now (before.1 telling i export is))))
+            (λ export is. label_later t es e export.site export.attachment (before.1 telling i export is))))
             ∙ sym (flat_map-append (bytes_in t (labels_of t later) edge) old new)
             ∙ ap (spelled later) (sym told_all),
         λ telling i. elim (in_append old new telling (subst (λ tellings. In tellings telling) told_all i)) [

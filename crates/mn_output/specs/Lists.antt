@@ -1,19 +1,19 @@
 -- Whole files by what the ledger lists over a whole journal.
-use Rattle.std.specs.Prelude.{List, ℕ, ◌-◌, [], ◌∷◌, ◌++◌}
+use Rattle.std.specs.Prelude.{List, ℕ, ◌-◌, [], ◌∷◌, ◌++◌, map}
 use Rattle.std.specs.List.{flat_map, zip}
 use Rattle.mn_pcap.specs.Format.{header, record_of}
-use Rattle.mn_topo.specs.Network.{Network, wiring_of}
+use Rattle.mn_topo.specs.Network.{Network}
 use Rattle.mn_topo.specs.declared.steps.JournalEntry.{JournalEntry}
-use Rattle.mn_ldp_session.specs.Spelling.{pdu_in_network}
 use Rattle.mn_ledger.specs.World.{Message, Telling}
-use Rattle.mn_ledger.specs.Items.{Messages, Routes, Load, Says, Tells, Item, loads_on, delay_on, made_by}
+use Rattle.mn_ledger.specs.Items.{Messages, Routes, Load, Says, Tells, Item, items_on, loads_on, delay_on, made_by}
 use Rattle.mn_laws.specs.Deliveries.{Delivery, deliveries_of}
 use Rattle.mn_laws.specs.Ids.{ids_of}
-use Rattle.mn_frames.specs.Given.{Labelling, given}
+use Rattle.mn_frames.specs.Given.{Labelling}
 use Rattle.mn_frames.specs.Numbers.{labels_of}
 use Rattle.mn_bgp_spelling.specs.Spelling.{bytes_in}
 use Rattle.mn_course.specs.Course.{inputs_of}
-use Rattle.mn_output.specs.Contents.{raw_ipv4, ppp, frame_record}
+use Rattle.mn_output.specs.Moments.{labels_when}
+use Rattle.mn_output.specs.Contents.{raw_ipv4, ppp, frame_record, pdu_bytes}
 
 -- 1. Deliveries
 
@@ -28,35 +28,44 @@ deliveries_file topology capture entries =
 
 -- 2. LDP: RFC 5036, section 3.5
 
-abbrev pub message_in : Load → List Message
-message_in (Says message) = message ∷ []
-message_in load = []
+-- a message that an end said, and the number of its item
+pub record Saying : Type 0 where
+  pub number : ℕ
+  pub message : Message
+
+abbrev pub saying_in : ℕ → Load → List Saying
+saying_in number (Says message) = record { number = number; message = message } ∷ []
+saying_in number load = []
 
 -- all that an end says over a link, in all lives of the session, in order
-abbrev pub all_said : Network → List JournalEntry → List (List ℕ) → ℕ → ℕ → List Message
-all_said topology entries inputs l end = flat_map message_in (loads_on (Messages l end) (made_by topology entries inputs))
+abbrev pub all_said : Network → List JournalEntry → List (List ℕ) → ℕ → ℕ → List Saying
+all_said topology entries inputs l end = flat_map (λ item. saying_in item.number item.load) (items_on (Messages l end) (made_by topology entries inputs))
 
--- the PDU of a message with its id
-abbrev pub pdu_bytes : Network → ℕ → ℕ → ℕ × Message → List ℕ
-pdu_bytes topology l end said = (pdu_in_network (wiring_of topology) l end said.0 said.1).bytes
+abbrev pub messages_in : List Saying → List Message
+messages_in sayings = map (λ saying. saying.message) sayings
+
+-- the PDU of what was said, with its id, by the labels of the moment at which it was said
+abbrev pub said_pdu : Network → (ℕ → Labelling) → ℕ → ℕ → ℕ × Saying → List ℕ
+said_pdu topology labels l end said = pdu_bytes topology (labels said.1.number) l end said.0 said.1.message
 
 -- each message with its id, which in each life starts with 1
-abbrev pub said_bytes : Network → ℕ → ℕ → List Message → List ℕ
-said_bytes topology l end messages = flat_map (pdu_bytes topology l end) (zip (ids_of messages) messages)
+abbrev pub said_bytes : Network → (ℕ → Labelling) → ℕ → ℕ → List Saying → List ℕ
+said_bytes topology labels l end sayings = flat_map (said_pdu topology labels l end) (zip (ids_of (messages_in sayings)) sayings)
 
 abbrev pub said_file : Network → List (List ℕ) → List JournalEntry → ℕ → ℕ → List ℕ
-said_file topology capture entries l end = said_bytes topology l end (all_said topology entries (inputs_of capture entries) l end)
+said_file topology capture entries l end =
+    said_bytes topology (labels_when topology capture entries) l end (all_said topology entries (inputs_of capture entries) l end)
 
 -- 3. Frames: RFC 3032, sections 2.1 and 4.3
 
--- the record of a frame that was sent over the link, by its delay before it was due
-abbrev pub sent_bytes : Network → Labelling → ℕ → Item → List ℕ
-sent_bytes topology given l item = frame_record topology given (item.due - delay_on topology item.on) l (item.on, item.load)
+-- the record of a frame that was sent over the link, by its delay before it was due, with the labels of that moment
+abbrev pub sent_bytes : Network → (ℕ → Labelling) → ℕ → Item → List ℕ
+sent_bytes topology labels l item = frame_record topology (labels item.number) (item.due - delay_on topology item.on) l (item.on, item.load)
 
--- the header, and the record of each frame that was sent over the link in either direction, with the labels of the whole journal
+-- the header, and the record of each frame that was sent over the link in either direction
 abbrev pub frames_file : Network → List (List ℕ) → List JournalEntry → ℕ → List ℕ
 frames_file topology capture entries l =
-    header ppp ++ flat_map (sent_bytes topology (given topology entries) l) (made_by topology entries (inputs_of capture entries))
+    header ppp ++ flat_map (sent_bytes topology (labels_when topology capture entries) l) (made_by topology entries (inputs_of capture entries))
 
 -- 4. BGP: RFC 4271, section 4
 
@@ -68,7 +77,7 @@ telling_in load = []
 abbrev pub all_told : Network → List JournalEntry → List (List ℕ) → ℕ → ℕ → List Telling
 all_told topology entries inputs edge peer = flat_map telling_in (loads_on (Routes edge peer) (made_by topology entries inputs))
 
--- the bytes of each of these messages, with the labels of the whole journal
+-- the bytes of each of these messages, with the labels of the whole journal: an attachment keeps its label
 abbrev pub told_file : Network → List (List ℕ) → List JournalEntry → ℕ → ℕ → List ℕ
 told_file topology capture entries edge peer =
     flat_map (bytes_in topology (labels_of topology entries) edge) (all_told topology entries (inputs_of capture entries) edge peer)

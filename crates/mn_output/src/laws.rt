@@ -10,7 +10,6 @@ ghost use Rattle.mn_journal.specs.Lines.{line_of};
 ghost use Rattle.mn_script.specs.declared.command.Line.{Line};
 ghost use Rattle.mn_ledger.specs.Lawful.{IsLawfulJournal};
 ghost use Rattle.mn_ledger.specs.Ledger.{packets_of};
-ghost use Rattle.mn_laws.specs.Named.{AreBytes};
 ghost use Rattle.mn_course.specs.Course.{inputs_of};
 ghost use Rattle.mn_course.specs.Expansion.{expanded};
 ghost use Rattle.mn_output.specs.Files.{OutputFile, Journal, Deliveries, Frames, Said, Told};
@@ -49,23 +48,23 @@ pub fn deliveries_are_written()
 {}
 
 /// After a lawful journal the whole of a .ldp file is the PDUs of all that its end said over the link, in order, those of an
-/// ended life too, each with its id, which in each life of the session starts with 1 (RFC 5036, section 3.5).
+/// ended life too, each with its id, which in each life of the session starts with 1 (RFC 5036, section 3.5), and with the labels
+/// of the moment at which it was said: a FEC may get another one later.
 pub fn all_lives_are_written()
     ensures { (topology : Network) (capture : List (List ℕ)) (entries : List JournalEntry) (l : ℕ) (dir : Dir) →
         IsLawful topology → IsLawfulJournal topology entries (inputs_of capture entries) → l < length topology.links →
         whole topology capture entries (Said l dir) ≡ said_file topology capture entries l (sender (wiring_of topology) l dir) }
 {}
 
-/// After a lawful journal the whole of a link's .pcap is its header and a record of each frame that was sent over the link, in
-/// either direction, in order, with the tick at which it was sent. Its labels are those of all that was given: none changes.
+/// The whole of a link's .pcap is its header and a record of each frame that was sent over the link, in either direction, in
+/// order, with the tick at which it was sent and the labels of that moment. It holds of every journal, lawful or not.
 pub fn frames_are_written()
     ensures { (topology : Network) (capture : List (List ℕ)) (entries : List JournalEntry) (l : ℕ) →
-        IsLawful topology → IsLawfulJournal topology entries (inputs_of capture entries) → AreBytes (inputs_of capture entries) →
         whole topology capture entries (Frames l) ≡ frames_file topology capture entries l }
 {}
 
 /// After a lawful journal the whole of a .bgp file is the messages of all that its edge told the peer, in order, those of an
-/// ended life of the session too (RFC 4271, section 4). Their labels are those of all that was given: none changes.
+/// ended life of the session too (RFC 4271, section 4). Their labels are those of the whole journal: an attachment's stays.
 pub fn tellings_are_written()
     ensures { (topology : Network) (capture : List (List ℕ)) (entries : List JournalEntry) (edge peer : ℕ) →
         IsLawful topology → IsLawfulJournal topology entries (inputs_of capture entries) → edge ≢ peer →

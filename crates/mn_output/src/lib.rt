@@ -11,14 +11,14 @@
 //! A file is what it begins with, what each step adds to it, and what is written at the end. Said so, a program can write it step by step and
 //! keep nothing; the laws say what whole files then are: a record of each delivery, a record of each frame, each message of all lives of a session.
 //!
-//! - `specs/Moments`: the steps of a journal, each with what came before it
+//! - `specs/Moments`: the steps of a journal, each with what came before it, and which one made an item
 //! - `specs/Files`: the files, their order and names; `specs/Contents`: their bytes, and what each step adds to them
 //! - `specs/Tables`: the tables of `show`; `specs/Report`: the report, and the whole answer of a run
 //! - `specs/Sendings`: which line sent a packet; `specs/Lists`: whole files by what the ledger lists over a journal
 //! - `laws`: a longer journal adds its last step's part to each file; each packet has its line; what whole files are
 //!
-//! Labels are the numbers in the order of giving, frames are stacks of them over packets, and messages are the bytes of
-//! LDP's and BGP's writers.
+//! Frames are stacks of labels over packets, and messages are the bytes of LDP's and BGP's writers. Each is written as it was sent: a
+//! label that is later given to another FEC changes nothing of it, and labels.txt has a line for each giving.
 #![tactic(auto)]
 
 mod laws;

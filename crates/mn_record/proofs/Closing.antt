@@ -71,7 +71,7 @@ heads_part folder t capture entries a b m f g n named_so same held stands framed
 -- 2. Files that are whole
 
 abbrev pub all_labels : Network → List JournalEntry → List ℕ
-all_labels t entries = flat_map (λ node. label_lines t node 16 (given t entries node)) (nodes_of (wiring_of t))
+all_labels t entries = flat_map (λ node. label_lines t node (given t entries node).given) (nodes_of (wiring_of t))
 
 whole_is : (t : Network) (capture : List (List ℕ)) (entries : List JournalEntry) (k : ℕ) → k < length (files_of t) →
     with_part (contents_at t capture entries) (only_in 1 (all_labels t entries)) k ≡ whole_at t capture entries k

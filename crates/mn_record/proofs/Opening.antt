@@ -1,12 +1,12 @@
 -- With what files begin, and what they are in the end.
 use Rattle.std.proofs.Common.{◌≡◌, ◌≢◌, ℕ, zero, suc, ◌+◌, ◌-◌, ◌<◌, ◌≤◌, ◌==◌, nat_lt, take, subst, Bool, true, false}
 use Rattle.std.proofs.Common.{if◌then◌else◌, List, [], ◌∷◌, ◌++◌, map, length, slice_index_or, get_or, Some, refl, sym, ◌∙◌, ap, arith, append_assoc}
-use Rattle.std.proofs.lemmas.List.{append-nil, take_more, length-take-le}
+use Rattle.std.proofs.lemmas.List.{append-nil, take_more}
 use Rattle.std.proofs.lemmas.Grind.{flat_map-append}
 use Rattle.std.specs.List.{flat_map, range_with_len}
 use Rattle.mn_base.proofs.Bools.{other_test, other_numbers, same_numbers, less_is, not_less, less_tells, not_less_tells}
 use Rattle.mn_wiring.specs.Wiring.{nodes_of}
-use Rattle.mn_labels.specs.declared.meaning.Bind.{Bind}
+use Rattle.mn_labels.specs.declared.meaning.Given.{Given}
 use Rattle.mn_frames.specs.Given.{given}
 use Rattle.mn_pcap.specs.Format.{header}
 use Rattle.mn_edge.specs.Laid.{named}
@@ -14,11 +14,11 @@ use Rattle.mn_topo.specs.Network.{Network, wiring_of}
 use Rattle.mn_topo.specs.declared.steps.JournalEntry.{JournalEntry}
 use Rattle.mn_output.specs.Files.{OutputFile, Journal, Labels, Deliveries, Frames, Said, files_of, file_name}
 use Rattle.mn_output.specs.Files as file
-use Rattle.mn_output.specs.Contents.{contents, whole, output, head_of, label_lines, raw_ipv4, ppp}
+use Rattle.mn_output.specs.Contents.{contents, whole, output, head_of, label_line, label_lines, raw_ipv4, ppp}
 use Rattle.mn_files.specs.Numbers.{file_at}
 use Rattle.mn_files.proofs.Finding.{is_there, frames_there}
 use Rattle.mn_record.specs.Recorded.{whole_at}
-use Rattle.mn_record.specs.Labels.{frame_heads, label_line}
+use Rattle.mn_record.specs.Heads.{frame_heads}
 use Rattle.mn_record.specs.Parts.{in_file}
 use Rattle.mn_record.proofs.Same.{by_test}
 
@@ -123,37 +123,23 @@ head_parts t k within = heads_are t (file_at t k) (λ l is. frames_within t k l 
 
 -- 3. Labels
 
-pub one_label_more : (t : Network) (node label : ℕ) (binds : List Bind) (bind : Bind) →
-    label_lines t node label (binds ++ bind ∷ []) ≡ label_lines t node label binds ++ label_line t node (label + length binds) bind
-one_label_more t node label [] bind =
-    append-nil (label_line t node label bind) ∙ ap (λ n. label_line t node n bind) (let e : label ≡ label + 0 = omega arith in e)
-one_label_more t node label (x ∷ binds) bind =
-    ap (λ l. label_line t node label x ++ l) (one_label_more t node (label + 1) binds bind
-    ∙ ap (λ n. label_lines t node (label + 1) binds ++ label_line t node n bind) (let e : (label + 1) + length binds ≡ label + suc (length binds) =
-    omega arith in e))
-    ∙ sym (append_assoc (label_line t node label x) (label_lines t node (label + 1) binds) (label_line t node (label + suc (length binds)) bind))
+-- the lines of the first few givings, and of the next
+pub next_label : (t : Network) (node n : ℕ) (givings : List Given) (d : Given) → n < length givings →
+    label_lines t node (take n givings) ++ label_line t node (get_or givings n d) ≡ label_lines t node (take (n + 1) givings)
+next_label t node n givings d within =
+    ap (λ l. label_lines t node (take n givings) ++ l) (sym (append-nil (label_line t node (get_or givings n d))))
+    ∙ sym (flat_map-append (label_line t node) (take n givings) (get_or givings n d ∷ []))
+    ∙ ap (label_lines t node) (sym (take_more givings n d within))
 
--- the lines of the first few labels, and of the next
-pub next_label : (t : Network) (node n label : ℕ) (binds : List Bind) (d : Bind) → n < length binds → label ≡ 16 + n →
-    label_lines t node 16 (take n binds) ++ label_line t node label (get_or binds n d) ≡ label_lines t node 16 (take (n + 1) binds)
-next_label t node n label binds d within is =
-    let le : n ≤ length binds = omega (arith, within) in
-    let len : length (take n binds) ≡ n = length-take-le n binds le in
-    ap (λ m. label_lines t node 16 (take n binds) ++ label_line t node m (get_or binds n d))
-    (let e : label ≡ 16 + length (take n binds) = omega (arith, is, len) in e)
-    ∙ sym (one_label_more t node 16 (take n binds) (get_or binds n d))
-    ∙ ap (label_lines t node 16) (sym (take_more binds n d within))
-
--- labels of fewer come first
-pub labels_more : (t : Network) (node label n : ℕ) (binds : List Bind) →
-    (rest : List ℕ) × (label_lines t node label (take n binds) ++ rest ≡ label_lines t node label binds)
-labels_more t node label zero binds = (label_lines t node label binds, refl)
-labels_more t node label (suc n) [] = ([], refl)
-labels_more t node label (suc n) (bind ∷ binds) =
-    let x = labels_more t node (label + 1) n binds in (
+-- lines of fewer come first
+pub labels_more : (t : Network) (node n : ℕ) (givings : List Given) →
+    (rest : List ℕ) × (label_lines t node (take n givings) ++ rest ≡ label_lines t node givings)
+labels_more t node zero givings = (label_lines t node givings, refl)
+labels_more t node (suc n) [] = ([], refl)
+labels_more t node (suc n) (giving ∷ givings) =
+    let x = labels_more t node n givings in (
       x.0,
-      append_assoc (label_line t node label bind) (label_lines t node (label + 1) (take n binds)) x.0
-          ∙ ap (λ l. label_line t node label bind ++ l) x.1,
+      append_assoc (label_line t node giving) (label_lines t node (take n givings)) x.0 ∙ ap (λ l. label_line t node giving ++ l) x.1,
     )
 
 -- numbers one after another
@@ -190,7 +176,7 @@ nodes_more f fewer more le =
 
 -- whole files have the labels behind their contents
 pub labels_tail : (t : Network) (capture : List (List ℕ)) (entries : List JournalEntry) (out : OutputFile) →
-    contents t capture entries out ++ in_file (Some Labels) (flat_map (λ node. label_lines t node 16 (given t entries node)) (nodes_of (wiring_of t))) out
+    contents t capture entries out ++ in_file (Some Labels) (flat_map (λ node. label_lines t node (given t entries node).given) (nodes_of (wiring_of t))) out
     ≡ whole t capture entries out
 labels_tail t capture entries Journal = refl
 labels_tail t capture entries Labels = refl

@@ -13,7 +13,6 @@ use Rattle.mn_topo.specs.Lawful.{IsLawful}
 use Rattle.mn_topo.specs.declared.steps.Step.{Step}
 use Rattle.mn_topo.specs.declared.steps.Step.TheVariants.{Inject, Tick}
 use Rattle.mn_topo.specs.declared.steps.JournalEntry.{JournalEntry}
-use Rattle.mn_ldp_session.specs.Spelling.{pdu_in_network}
 use Rattle.mn_ledger.specs.World.{World, Message}
 use Rattle.mn_journal.specs.Lines.{line_of}
 use Rattle.mn_ledger.specs.Packets.{away_from}
@@ -29,16 +28,16 @@ use Rattle.mn_ledger.proofs.More.{goes_on}
 use Rattle.mn_ledger.proofs.Flows.{in_flight}
 use Rattle.mn_laws.specs.Flight.{AreAscending, IsOfChannel, FliesAsCounted}
 use Rattle.mn_laws.proofs.Counted.{flies_as_counted}
-use Rattle.mn_frames.specs.Given.{given}
+use Rattle.mn_frames.specs.Given.{Labelling, given}
 use Rattle.mn_frames.specs.Numbers.{labels_of}
 use Rattle.mn_bgp_spelling.specs.Spelling.{bytes_in}
 use Rattle.mn_course.specs.Course.{inputs_of, input_before}
 use Rattle.mn_course.proofs.Going.{a_packet_each, inputs_more, packet_at}
 use Rattle.mn_sched.specs.Told.{told_at, item_told, channel_of}
-use Rattle.mn_output.specs.Moments.{Moment, journal_then, made, injected, world_then, packets_then}
+use Rattle.mn_output.specs.Moments.{Moment, journal_then, labels_then, made, injected, world_then, packets_then}
 use Rattle.mn_output.specs.Files.{OutputFile, Journal, Labels, Deliveries, Frames, Said}
 use Rattle.mn_output.specs.Files as file
-use Rattle.mn_output.specs.Contents.{delivery_record, frame_record, said_on, told_on, pdus, adds}
+use Rattle.mn_output.specs.Contents.{delivery_record, frame_record, said_on, told_on, pdu_bytes, pdus, adds}
 use Rattle.mn_record.specs.Parts.{in_file, item_part, items_part, is_dir, same_file, file_for}
 use Rattle.mn_record.proofs.Same.{by_test}
 use Rattle.mn_record.proofs.Flying.{found, place_is, numbered-append, item_made}
@@ -286,12 +285,13 @@ unheard t all now l end known within at_end =
 abbrev first_id : Network → List (List ℕ) → Moment → ℕ → ℕ → ℕ
 first_id t all now l end = length ((world_then t now).sessions.said l end) - length (flat_map (said_on l end) (made t all now)) + 1
 
-pdus-append : (t : Network) (l end id : ℕ) (xs ys : List Message) → pdus t l end id (xs ++ ys) ≡ pdus t l end id xs ++ pdus t l end (id + length xs) ys
-pdus-append t l end id [] ys = ap (λ n. pdus t l end n ys) (let e : id ≡ id + 0 = omega arith in e)
-pdus-append t l end id (x ∷ xs) ys =
-    ap (λ r. (pdu_in_network (wiring_of t) l end id x).bytes ++ r) (pdus-append t l end (id + 1) xs ys
-    ∙ ap (λ n. pdus t l end (id + 1) xs ++ pdus t l end n ys) (let e : (id + 1) + length xs ≡ id + suc (length xs) = omega arith in e))
-    ∙ sym (append_assoc (pdu_in_network (wiring_of t) l end id x).bytes (pdus t l end (id + 1) xs) (pdus t l end (id + suc (length xs)) ys))
+pdus-append : (t : Network) (labels : Labelling) (l end id : ℕ) (xs ys : List Message)
+    → pdus t labels l end id (xs ++ ys) ≡ pdus t labels l end id xs ++ pdus t labels l end (id + length xs) ys
+pdus-append t labels l end id [] ys = ap (λ n. pdus t labels l end n ys) (let e : id ≡ id + 0 = omega arith in e)
+pdus-append t labels l end id (x ∷ xs) ys =
+    ap (λ r. pdu_bytes t labels l end id x ++ r) (pdus-append t labels l end (id + 1) xs ys
+    ∙ ap (λ n. pdus t labels l end (id + 1) xs ++ pdus t labels l end n ys) (let e : (id + 1) + length xs ≡ id + suc (length xs) = omega arith in e))
+    ∙ sym (append_assoc (pdu_bytes t labels l end id x) (pdus t labels l end (id + 1) xs) (pdus t labels l end (id + suc (length xs)) ys))
 
 -- the id by which a message is told is its place among those that the step adds
 ids_are : (t : Network) (all : List (List ℕ)) (now : Moment) (l end : ℕ) (front rest : List (Channel × Load)) (message : Message) → IsKnown t all now →
@@ -336,7 +336,7 @@ of_message : (t : Network) (all : List (List ℕ)) (now : Moment) (l end : ℕ) 
     (message : Message) →
     IsKnown t all now → end ≡ sender (wiring_of t) l dir → front ++ (on.Messages m speaker, Says message) ∷ rest ≡ made t all now →
     (m < length t.links) × (is_end (wiring_of t) m speaker ≡ true) →
-    pdus t l end (first_id t all now l end + length (flat_map (said_on l end) front)) (said_on l end (on.Messages m speaker, Says message))
+    pdus t (labels_then t now) l end (first_id t all now l end + length (flat_map (said_on l end) front)) (said_on l end (on.Messages m speaker, Says message))
     ≡ load_part t (journal_then now) now.entry.tick (place_then t all now front (on.Messages m speaker, Says message)) (on.Messages m speaker, Says message)
     (Said l dir)
 of_message t all now l end dir m speaker front rest message known sends split h = by_test ((m == l) && (speaker == end)) own other
@@ -345,47 +345,47 @@ of_message t all now l end dir m speaker front rest message known sends split h 
     tests = is_said_by t l m speaker dir known.lawful h.0 h.1 ∙ ap (λ n. (m == l) && (speaker == n)) (sym sends)
 
     same : m ≡ l → speaker ≡ end →
-        (pdu_in_network (wiring_of t) l end (first_id t all now l end + length (flat_map (said_on l end) front)) message).bytes
-        ≡ (pdu_in_network (wiring_of t) m speaker ((world_of t (journal_then now)).sessions.heard m (across (wiring_of t) m speaker)
-        + place_then t all now front (on.Messages m speaker, Says message) + 1) message).bytes
+        (pdu_bytes t (labels_then t now) l end (first_id t all now l end + length (flat_map (said_on l end) front)) message)
+        ≡ (pdu_bytes t (labels_then t now) m speaker ((world_of t (journal_then now)).sessions.heard m (across (wiring_of t) m speaker)
+        + place_then t all now front (on.Messages m speaker, Says message) + 1) message)
     same e f =
-        subst (λ n. (pdu_in_network (wiring_of t) l end (first_id t all now l end + length (flat_map (said_on l end) front)) message).bytes
-        ≡ (pdu_in_network (wiring_of t) n speaker ((world_of t (journal_then now)).sessions.heard n (across (wiring_of t) n speaker)
-        + place_then t all now front (on.Messages n speaker, Says message) + 1) message).bytes) (sym e)
-        (subst (λ n. (pdu_in_network (wiring_of t) l end (first_id t all now l end + length (flat_map (said_on l end) front)) message).bytes
-        ≡ (pdu_in_network (wiring_of t) l n ((world_of t (journal_then now)).sessions.heard l (across (wiring_of t) l n)
-        + place_then t all now front (on.Messages l n, Says message) + 1) message).bytes) (sym f)
-        (ap (λ id. (pdu_in_network (wiring_of t) l end id message).bytes)
+        subst (λ n. (pdu_bytes t (labels_then t now) l end (first_id t all now l end + length (flat_map (said_on l end) front)) message)
+        ≡ (pdu_bytes t (labels_then t now) n speaker ((world_of t (journal_then now)).sessions.heard n (across (wiring_of t) n speaker)
+        + place_then t all now front (on.Messages n speaker, Says message) + 1) message)) (sym e)
+        (subst (λ n. (pdu_bytes t (labels_then t now) l end (first_id t all now l end + length (flat_map (said_on l end) front)) message)
+        ≡ (pdu_bytes t (labels_then t now) l n ((world_of t (journal_then now)).sessions.heard l (across (wiring_of t) l n)
+        + place_then t all now front (on.Messages l n, Says message) + 1) message)) (sym f)
+        (ap (λ id. (pdu_bytes t (labels_then t now) l end id message))
         (sym (ids_are t all now l end front rest message known
         (ap (λ n. front ++ (on.Messages n end, Says message) ∷ rest) (sym e) ∙ ap (λ n. front ++ (on.Messages m n, Says message) ∷ rest) (sym f) ∙ split)
         (subst (λ n. n < length t.links) e h.0)
         (ap (λ n. is_end (wiring_of t) n end) (sym e) ∙ ap (λ n. is_end (wiring_of t) m n) (sym f) ∙ h.1)))))
 
-    own : ((m == l) && (speaker == end)) ≡ true → pdus t l end (first_id t all now l end + length (flat_map (said_on l end) front))
+    own : ((m == l) && (speaker == end)) ≡ true → pdus t (labels_then t now) l end (first_id t all now l end + length (flat_map (said_on l end) front))
         (said_on l end (on.Messages m speaker, Says message))
         ≡ load_part t (journal_then now) now.entry.tick (place_then t all now front (on.Messages m speaker, Says message))
         (on.Messages m speaker, Says message) (Said l dir)
     own both =
-        ap (λ b. pdus t l end (first_id t all now l end + length (flat_map (said_on l end) front)) (if b then message ∷ [] else [])) both
-        ∙ append-nil (pdu_in_network (wiring_of t) l end (first_id t all now l end + length (flat_map (said_on l end) front)) message).bytes
+        ap (λ b. pdus t (labels_then t now) l end (first_id t all now l end + length (flat_map (said_on l end) front)) (if b then message ∷ [] else [])) both
+        ∙ append-nil (pdu_bytes t (labels_then t now) l end (first_id t all now l end + length (flat_map (said_on l end) front)) message)
         ∙ same (same_numbers m l (and_left (m == l) (speaker == end) both)) (same_numbers speaker end (and_right (m == l) (speaker == end) both))
-        ∙ sym (ap (λ b. if b then (pdu_in_network (wiring_of t) m speaker ((world_of t (journal_then now)).sessions.heard m (across (wiring_of t) m speaker)
-        + place_then t all now front (on.Messages m speaker, Says message) + 1) message).bytes else []) (tests ∙ both))
+        ∙ sym (ap (λ b. if b then (pdu_bytes t (labels_then t now) m speaker ((world_of t (journal_then now)).sessions.heard m (across (wiring_of t) m speaker)
+        + place_then t all now front (on.Messages m speaker, Says message) + 1) message) else []) (tests ∙ both))
 
-    other : ((m == l) && (speaker == end)) ≡ false → pdus t l end (first_id t all now l end + length (flat_map (said_on l end) front))
+    other : ((m == l) && (speaker == end)) ≡ false → pdus t (labels_then t now) l end (first_id t all now l end + length (flat_map (said_on l end) front))
         (said_on l end (on.Messages m speaker, Says message))
         ≡ load_part t (journal_then now) now.entry.tick (place_then t all now front (on.Messages m speaker, Says message))
         (on.Messages m speaker, Says message) (Said l dir)
     other apart =
-        ap (λ b. pdus t l end (first_id t all now l end + length (flat_map (said_on l end) front)) (if b then message ∷ [] else [])) apart
-        ∙ sym (ap (λ b. if b then (pdu_in_network (wiring_of t) m speaker ((world_of t (journal_then now)).sessions.heard m (across (wiring_of t) m speaker)
-        + place_then t all now front (on.Messages m speaker, Says message) + 1) message).bytes else []) (tests ∙ apart))
+        ap (λ b. pdus t (labels_then t now) l end (first_id t all now l end + length (flat_map (said_on l end) front)) (if b then message ∷ [] else [])) apart
+        ∙ sym (ap (λ b. if b then (pdu_bytes t (labels_then t now) m speaker ((world_of t (journal_then now)).sessions.heard m (across (wiring_of t) m speaker)
+        + place_then t all now front (on.Messages m speaker, Says message) + 1) message) else []) (tests ∙ apart))
 
 -- what a load adds to the file of an end of a link
 said_part : (t : Network) (all : List (List ℕ)) (now : Moment) (l : ℕ) (dir : Dir) (front rest : List (Channel × Load)) (load : Channel × Load) →
     IsKnown t all now →
     front ++ load ∷ rest ≡ made t all now → IsOfChannel t load.0 load.1 →
-    pdus t l (sender (wiring_of t) l dir) (first_id t all now l (sender (wiring_of t) l dir) + length (flat_map (said_on l (sender (wiring_of t) l dir)) front))
+    pdus t (labels_then t now) l (sender (wiring_of t) l dir) (first_id t all now l (sender (wiring_of t) l dir) + length (flat_map (said_on l (sender (wiring_of t) l dir)) front))
     (said_on l (sender (wiring_of t) l dir) load)
     ≡ load_part t (journal_then now) now.entry.tick (place_then t all now front load) load (Said l dir)
 said_part t all now l dir front rest (on.Notices m node, Notice) known split h = refl
@@ -401,12 +401,12 @@ saids_told : (t : Network) (all : List (List ℕ)) (now : Moment) (l : ℕ) (dir
 saids_told t all now l dir known =
     let end : ℕ = sender (wiring_of t) l dir in
     let id : ℕ = first_id t all now l end in
-    all_told t all now (Said l dir) (λ front. pdus t l end id (flat_map (said_on l end) front)) known refl
+    all_told t all now (Said l dir) (λ front. pdus t (labels_then t now) l end id (flat_map (said_on l end) front)) known refl
     (λ front rest load split is_on.
-    ap (pdus t l end id)
+    ap (pdus t (labels_then t now) l end id)
     (flat_map-append (said_on l end) front (load ∷ []) ∙ ap (λ x. flat_map (said_on l end) front ++ x) (append-nil (said_on l end load)))
-    ∙ pdus-append t l end id (flat_map (said_on l end) front) (said_on l end load)
-    ∙ ap (λ x. pdus t l end id (flat_map (said_on l end) front) ++ x) (said_part t all now l dir front rest load known split is_on))
+    ∙ pdus-append t (labels_then t now) l end id (flat_map (said_on l end) front) (said_on l end load)
+    ∙ ap (λ x. pdus t (labels_then t now) l end id (flat_map (said_on l end) front) ++ x) (said_part t all now l dir front rest load known split is_on))
 
 -- 6. The files to which no item is written
 

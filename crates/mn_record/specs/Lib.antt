@@ -1,6 +1,6 @@
 pub mod Recorded
 pub mod Adding
-pub mod Labels
+pub mod Heads
 pub mod Parts
 pub mod Watched
 pub mod Laws

@@ -18,14 +18,14 @@ ghost use Rattle.mn_output.specs.Contents.{output as run_output, head_of, label_
 ghost use Rattle.mn_pcap.specs.Format.{header};
 ghost use Rattle.mn_record.specs.Recorded.{IsFor, IsFresh, Records, whole_at};
 ghost use Rattle.mn_record.specs.Adding.{Adds, MayAdd, only_in};
-ghost use Rattle.mn_record.specs.Labels.{frame_heads};
+ghost use Rattle.mn_record.specs.Heads.{frame_heads};
 ghost use Rattle.mn_record.specs.Parts.{by_number, in_file};
 
 use crate::output::Output;
 use mn_base::{LinkNo, NodeNo};
 use mn_edge::{DeviceBad, Shelf, begin_all};
 use mn_files::{EdgePlaces, deliveries_file, file_names, find_frames};
-use mn_labels::Bind;
+use mn_labels::Given;
 use mn_sched::Net;
 use mn_topo::Topology;
 use std::alloc::{AllocError, Global};
@@ -36,9 +36,6 @@ const RAW_IPV4: u32 = 228;
 
 /// Link type 9: a record is a PPP frame.
 const PPP: u32 = 9;
-
-/// The first label that is given: RFC 3032, section 2.1.
-const FIRST_LABEL: u64 = 16;
 
 /// The files of a run, their names and what waits for them: 64 KiB at most.
 #[derive(Drop)]
@@ -116,26 +113,24 @@ fn put_heads<S: Shelf>(
     put_frame_heads(topology, shelf, output)
 }
 
-/// Puts the lines of the labels of a node.
+/// Puts a line for each label that a node gave.
 fn put_labels_of<S: Shelf>(
     topology: &Topology,
     node: NodeNo,
-    binds: &[Bind],
+    givings: &[Given],
     shelf: &mut S,
     output: &mut Output,
 ) -> Result<(), DeviceBad>
-    ensures adds { OnOk result (Adds (only_in 1 (label_lines topology.now node.0 16 binds.now)) output.old output.new (S.files shelf.old) (S.files shelf.new)) }
-    ensures may { OnErr result (MayAdd (only_in 1 (label_lines topology.now node.0 16 binds.now)) output.old output.new (S.files shelf.old) (S.files shelf.new)) }
+    ensures adds { OnOk result (Adds (only_in 1 (label_lines topology.now node.0 givings.now)) output.old output.new (S.files shelf.old) (S.files shelf.new)) }
+    ensures may { OnErr result (MayAdd (only_in 1 (label_lines topology.now node.0 givings.now)) output.old output.new (S.files shelf.old) (S.files shelf.new)) }
     ensures names { output.new.names ≡ output.old.names }
     ensures places { output.new.places ≡ output.old.places }
     ensures framed { Framed output.old.names (S.files shelf.old) (S.files shelf.new) }
     ensures writes { Counted (S.write_faults shelf.old) (S.write_faults shelf.new) result }
     ensures reads { S.read_faults shelf.new ≡ S.read_faults shelf.old }
 {
-    let mut label = FIRST_LABEL;
-    for bind in binds {
-        output.put_label(shelf, topology, node, label, *bind)?;
-        label += 1;
+    for giving in givings {
+        output.put_label(shelf, topology, node, *giving)?;
     }
     Ok(())
 }
@@ -143,9 +138,9 @@ fn put_labels_of<S: Shelf>(
 /// Puts the lines of all labels that were given.
 fn put_labels<S: Shelf>(net: &Net, shelf: &mut S, output: &mut Output) -> Result<(), DeviceBad>
     requires { net.now.failed ≡ false }
-    ensures adds { OnOk result (Adds (only_in 1 (flat_map (λ node. label_lines net.now.topology node 16 (given net.now.topology net.now.journal node)) (nodes_of (wiring_of net.now.topology))))
+    ensures adds { OnOk result (Adds (only_in 1 (flat_map (λ node. label_lines net.now.topology node (given net.now.topology net.now.journal node).given) (nodes_of (wiring_of net.now.topology))))
         output.old output.new (S.files shelf.old) (S.files shelf.new)) }
-    ensures may { OnErr result (MayAdd (only_in 1 (flat_map (λ node. label_lines net.now.topology node 16 (given net.now.topology net.now.journal node)) (nodes_of (wiring_of net.now.topology))))
+    ensures may { OnErr result (MayAdd (only_in 1 (flat_map (λ node. label_lines net.now.topology node (given net.now.topology net.now.journal node).given) (nodes_of (wiring_of net.now.topology))))
         output.old output.new (S.files shelf.old) (S.files shelf.new)) }
     ensures names { output.new.names ≡ output.old.names }
     ensures places { output.new.places ≡ output.old.places }

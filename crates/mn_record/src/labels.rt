@@ -1,12 +1,11 @@
 //! The lines of labels.txt: one label space for each node, RFC 3031, section 3.14.
 ghost use Rattle.std.specs.Prelude.{◌≡◌, ◌++◌, OnOk};
 ghost use Rattle.mn_ledger.specs.Places.{loopback};
-ghost use Rattle.mn_output.specs.Contents.{bind_text};
-ghost use Rattle.mn_record.specs.Labels.{label_line};
+ghost use Rattle.mn_output.specs.Contents.{bind_text, label_line};
 
 use itoa::Buffer;
 use mn_base::NodeNo;
-use mn_labels::Bind;
+use mn_labels::{Bind, Given};
 use mn_lines::{node_name, put_pieces, site_name};
 use mn_text::put_address;
 use mn_topo::Topology;
@@ -46,15 +45,14 @@ fn put_bind(line: &mut Vec<u8>, topology: &Topology, bind: Bind) -> Result<(), A
     }
 }
 
-/// Appends the line of a label of a node.
+/// Appends the line of a label that a node gave.
 pub(crate) fn put_label(
     line: &mut Vec<u8>,
     topology: &Topology,
     node: NodeNo,
-    label: u64,
-    bind: Bind,
+    giving: Given,
 ) -> Result<(), AllocError>
-    ensures { OnOk result (line.new.items ≡ line.old.items ++ label_line topology.now node.0 label bind) }
+    ensures { OnOk result (line.new.items ≡ line.old.items ++ label_line topology.now node.0 giving) }
 {
     let mut digits = Buffer::new();
     put_pieces(
@@ -62,10 +60,10 @@ pub(crate) fn put_label(
         &[
             node_name(topology, node),
             b" ",
-            digits.format(label).as_bytes(),
+            digits.format(giving.label).as_bytes(),
             b" ",
         ],
     )?;
-    put_bind(line, topology, bind)?;
+    put_bind(line, topology, giving.what)?;
     line.extend_from_slice(b"\n")
 }

@@ -7,9 +7,9 @@ ghost use Rattle.mn_edge.specs.Memory.{all_differ};
 ghost use Rattle.mn_edge.specs.Written.{texts};
 ghost use Rattle.mn_entry.specs.Entries.{entry_fits};
 ghost use Rattle.mn_journal.specs.Lines.{line_of};
+ghost use Rattle.mn_output.specs.Contents.{label_line};
 ghost use Rattle.mn_pcap.specs.Format.{header, record_of};
 ghost use Rattle.mn_files.specs.Numbers.{edge_places};
-ghost use Rattle.mn_record.specs.Labels.{label_line};
 ghost use Rattle.mn_record.specs.Adding.{Adds, MayAdd, only_in};
 ghost use Rattle.mn_record.specs.Parts.{file_for, IsFileOf};
 
@@ -19,7 +19,7 @@ use mn_base::NodeNo;
 use mn_edge::{DeviceBad, Gather, Shelf};
 use mn_files::{EdgePlaces, find_frames, find_said, find_told, journal_file, labels_file};
 use mn_journal::put_entry;
-use mn_labels::Bind;
+use mn_labels::Given;
 use mn_pcap::put_header;
 use mn_sched::Channel;
 use mn_topo::{JournalEntry, Topology};
@@ -180,17 +180,16 @@ impl Output {
         put_piece(&mut self.gather, shelf, &self.names, file, &self.line)
     }
 
-    /// The labels grow by the line of one.
+    /// The labels grow by the line of one that was given.
     pub(crate) fn put_label<S: Shelf>(
         &mut self,
         shelf: &mut S,
         topology: &Topology,
         node: NodeNo,
-        label: u64,
-        bind: Bind,
+        giving: Given,
     ) -> Result<(), DeviceBad>
-        ensures adds { OnOk result (Adds (only_in 1 (label_line topology.now node.0 label bind)) self.old self.new (S.files shelf.old) (S.files shelf.new)) }
-        ensures may { OnErr result (MayAdd (only_in 1 (label_line topology.now node.0 label bind)) self.old self.new (S.files shelf.old) (S.files shelf.new)) }
+        ensures adds { OnOk result (Adds (only_in 1 (label_line topology.now node.0 giving)) self.old self.new (S.files shelf.old) (S.files shelf.new)) }
+        ensures may { OnErr result (MayAdd (only_in 1 (label_line topology.now node.0 giving)) self.old self.new (S.files shelf.old) (S.files shelf.new)) }
         ensures names { self.new.names ≡ self.old.names }
         ensures places { self.new.places ≡ self.old.places }
         ensures framed { Framed self.old.names (S.files shelf.old) (S.files shelf.new) }
@@ -198,7 +197,7 @@ impl Output {
         ensures reads { S.read_faults shelf.new ≡ S.read_faults shelf.old }
     {
         self.line.clear();
-        put_label(&mut self.line, topology, node, label, bind)?;
+        put_label(&mut self.line, topology, node, giving)?;
         put_piece(
             &mut self.gather,
             shelf,

@@ -35,7 +35,8 @@ fn done(answer: Result<(), VrfBad>) -> Result<(), AllocError>
 
 /// What an edge tells, or want of memory.
 fn told(answer: Result<Vec<Export>, NoMemory>) -> Result<Vec<Export>, AllocError>
-    ensures { IfOk result (λ exports. answer ≡ Ok exports) }
+    ensures told { IfOk result (λ exports. answer ≡ Ok exports) }
+    ensures asked { IsOk answer → IsOk result }
 {
     match answer {
         Ok(exports) => Ok(exports),
@@ -50,6 +51,7 @@ fn told_of_one(
 ) -> Result<Vec<Export>, AllocError>
     ensures told { IfOk result (λ exports. IfOk answer (λ export. exports.items ≡ those_of export)) }
     ensures asked { IsOk result → IsOk answer }
+    ensures none { answer ≡ Ok None → IsOk result }
 {
     let mut exports = Vec::new(alloc);
     match answer {

@@ -18,13 +18,13 @@ use Rattle.mn_ledger.specs.World.{Config}
 use Rattle.mn_ledger.specs.Ledger.{first_config, config_after}
 use Rattle.mn_ledger.specs.Refusal.{is_spent, labels_given}
 use Rattle.mn_ledger.proofs.GoingBy.{put_here, put_off, pair_here, pair_off}
-use Rattle.mn_frames.specs.Numbers.{sites_before}
-use Rattle.mn_frames.specs.Given.{given_in, attachment_of}
+use Rattle.mn_frames.specs.Given.{attachment_of}
+use Rattle.mn_frames.proofs.Bridge.{attachments_by}
 use Rattle.mn_frames.proofs.Spent.{total_is, step_gives, none_attached}
 use Rattle.mn_bgp_spelling.specs.Spelling.{Labels}
 use Rattle.mn_bgp_spelling.specs.Laws.{AreLabels}
 use Rattle.mn_bgp_spelling.proofs.Writable.{no_longer}
-use Rattle.mn_reflect_model.specs.Labels.{first_labels, attachments_at, labels_after}
+use Rattle.mn_reflect_model.specs.Labels.{sites_before, first_labels, attachments_at, labels_after}
 
 -- 1. Counts
 
@@ -146,14 +146,14 @@ first_given t lawful = record {
 -- 4. A step
 
 pub more_attachments : (t : Network) (c : Config) (s : Step) (node : ℕ) → fits t s ≡ true →
-    attachments_at t (config_after c s) node ≡ attachments_at t c node + length (given_in t node c s)
+    attachments_at t (config_after c s) node ≡ attachments_at t c node + length (attachments_by t node c s)
 more_attachments t c s node fit =
     let gives = step_gives t node c s fit in
     let was = total_is c.attaches (sites_at t node) in
     let is = total_is (config_after c s).attaches (sites_at t node) in
     omega (arith, gives, was, is)
 
-attaching_gives : (t : Network) (c : Config) (s : SiteNo) → length (given_in t (home_of t s.0) c (step.Attach s)) ≡ 1
+attaching_gives : (t : Network) (c : Config) (s : SiteNo) → length (attachments_by t (home_of t s.0) c (step.Attach s)) ≡ 1
 attaching_gives t c s = by (home_of t s.0 == home_of t s.0) (same_test (home_of t s.0))
   where
     by : (b : Bool) → b ≡ true → length (if b then attachment_of s.0 (c.attaches s.0 + 2) ∷ [] else []) ≡ 1

@@ -1,6 +1,7 @@
 -- The labels of attachments where routes are reflected: no FEC has one, so they go from 16 upward at each edge, first one for each of its
 -- sites and then one for each later attachment.
-use Rattle.std.specs.Prelude.{ℕ, ◌+◌, List, [], ◌∷◌, map, length, sum}
+use Rattle.std.specs.Prelude.{ℕ, ◌+◌, ◌==◌, ◌&&◌, nat_lt, List, [], ◌∷◌, map, filter, length, sum}
+use Rattle.std.specs.List.{range_with_len}
 use Rattle.mn_topo.specs.Network.{Network}
 use Rattle.mn_topo.specs.declared.steps.Step.{Step}
 use Rattle.mn_topo.specs.declared.steps.Step.TheVariants as step
@@ -8,8 +9,11 @@ use Rattle.mn_ledger.specs.Tables.{put_pair}
 use Rattle.mn_ledger.specs.Places.{home_of, sites_at}
 use Rattle.mn_ledger.specs.World.{Config}
 use Rattle.mn_ledger.specs.Ledger.{first_config, config_after}
-use Rattle.mn_frames.specs.Numbers.{sites_before}
 use Rattle.mn_bgp_spelling.specs.Spelling.{Labels}
+
+-- how many sites of the same edge come before this one
+abbrev pub sites_before : Network → ℕ → ℕ
+sites_before topology site = length (filter (λ s. (home_of topology s == home_of topology site) && nat_lt s site) (range_with_len 0 (length topology.sites)))
 
 abbrev pub first_labels : Network → Labels
 first_labels topology site attachment = 16 + sites_before topology site

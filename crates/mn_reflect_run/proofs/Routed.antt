@@ -151,7 +151,7 @@ nothing_held labels routes place is = nothing_by labels (held_at routes place) i
 -- 3. The line of a route that no other edge told has no label
 
 abbrev pub no_labels : Labelling
-no_labels node = []
+no_labels node = record { given = []; fecs = [] }
 
 module _ (topology : Network) (labels : Labels) (v : ℕ) (route : HeldRoute) where
   abbrev with_source : List ℕ → List ℕ

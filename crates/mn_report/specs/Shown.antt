@@ -6,7 +6,7 @@ use Rattle.mn_course.specs.Expansion.{SentLine}
 use Rattle.mn_lines.specs.declared.lines.Sent.{Sent}
 use Rattle.mn_lines.specs.declared.lines.Totals.{Totals}
 use Rattle.mn_lines.specs.Lines.{refused_line, cause_text}
-use Rattle.mn_net_now.specs.Now.{NetNow}
+use Rattle.mn_net.specs.Now.{NetNow}
 use Rattle.mn_output.specs.Report.{count, is_delivered, is_dropped, is_flying}
 use Rattle.mn_report.specs.declared.refused.Shown.{Shown}
 use Rattle.mn_report.specs.declared.refused.Shown.TheVariants.{Step, NoRecord}

@@ -5,7 +5,7 @@ ghost use Rattle.mn_wiring.specs.Wiring.{links_of};
 ghost use Rattle.mn_edge.specs.Faults.{Counted};
 ghost use Rattle.mn_topo.specs.Network.{wiring_of};
 ghost use Rattle.mn_ledger.specs.Items.{flight_of};
-ghost use Rattle.mn_net_now.specs.Now.{StandsFor};
+ghost use Rattle.mn_net.specs.Now.{StandsFor};
 ghost use Rattle.mn_output.specs.Tables.{frames_lines, flight_lines};
 ghost use Rattle.mn_tables.specs.Telling.{standing, Tells};
 

@@ -6,7 +6,7 @@ ghost use Rattle.mn_edge.specs.Faults.{Counted};
 ghost use Rattle.mn_ledger.specs.Ledger.{packets_of};
 ghost use Rattle.mn_lines.specs.Lines.{total_line};
 ghost use Rattle.mn_lines.specs.Putting.{Puts, PutsPart};
-ghost use Rattle.mn_net_now.specs.Now.{StandsFor};
+ghost use Rattle.mn_net.specs.Now.{StandsFor};
 ghost use Rattle.mn_report.specs.Packets.{counts_of, with_verdict};
 ghost use Rattle.mn_report.specs.Shown.{totals_by};
 

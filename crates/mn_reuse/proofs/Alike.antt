@@ -28,7 +28,8 @@ use Rattle.mn_slice.specs.Steps.{node_then}
 use Rattle.mn_slice.proofs.Nodes.{by_nodes}
 use Rattle.mn_reuse.proofs.Relabelling.{goes_alike}
 use Rattle.mn_reuse.specs.Answers.{heard_from}
-use Rattle.mn_reuse.specs.Labels.{label_now, labels_of}
+use Rattle.mn_labels.specs.Labels.{label_now}
+use Rattle.mn_reuse.specs.Labels.{labels_of}
 use Rattle.mn_reuse.specs.Relabelled.{Labelling, relabelled_from, session_with, sessions_with, node_with, labels_at, event_with, event_then, IsRelabelledAlike, GoesWithItsLabels}
 use Rattle.mn_reuse.specs.Laws.{StaysLabelled}
 use Rattle.mn_reuse.proofs.Keeping.{keeps_what_is_said}

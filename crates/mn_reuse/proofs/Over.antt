@@ -4,7 +4,7 @@ use Rattle.std.proofs.Common.{Option, Some, None}
 use Rattle.std.specs.Prelude.{◌==◌, ◌&&◌, not, ◌||◌, nat_lt, is_some, if◌then◌else◌}
 use Rattle.std.specs.List.{list_all}
 use Rattle.mn_base.proofs.Bools.{clash, two_ways, other_test, and_on}
-use Rattle.mn_base.proofs.Members.{In, in_filter, filter_in, range_in}
+use Rattle.mn_base.proofs.Members.{In, filter_in, range_in}
 use Rattle.mn_wiring.specs.Wiring.{nodes_of, links_at, JoinsNodes, EndsDiffer}
 use Rattle.mn_topo.specs.Network.{Network, wiring_of}
 use Rattle.mn_topo.specs.Lawful.{IsLawful}
@@ -26,7 +26,8 @@ use Rattle.mn_ledger.proofs.InTurn.{goes_step, begins, not_empty, link_there}
 use Rattle.mn_settled.specs.Offers.{offers_in}
 use Rattle.mn_ledger.specs.Transport.{knowledge_of, usable}
 use Rattle.mn_reuse.specs.Resting.{is_released, is_at_rest, rested_after, rested_from, rested_of}
-use Rattle.mn_reuse.specs.Labels.{Labels, label_now, attachment_of, fec_of, attached, offered_one, offered_all, given_up, offered, next_label, begins_offer, new_offers}
+use Rattle.mn_labels.specs.Labels.{attachment_of, Labels, label_now, fec_of, attached, offered_one, offered_all, given_up, offered, next_label}
+use Rattle.mn_reuse.specs.Labels.{begins_offer, new_offers}
 use Rattle.mn_reuse.specs.Labels.{longest_life, is_free, attached_in, labels_after, first_labels, labels_from, labels_of}
 use Rattle.mn_reuse.specs.Laws.{AreSound, KeepsItsLabel, ChangesOnceFree}
 use Rattle.mn_reuse.proofs.Answering.{Released, released_step}
@@ -39,78 +40,78 @@ use Rattle.mn_reuse.proofs.Waking.{rest_stays}
 zero_and : {p : ℕ} → 0 + p ≡ p
 zero_and = omega arith
 
-one_keeps : (nodes : List ℕ) (labels : Labels) (fec p a : ℕ) → label_now labels p ≡ Some a → label_now (offered_one nodes labels fec) p ≡ Some a
-one_keeps nodes labels fec p a h = by (label_now labels fec) refl
+one_keeps : (labels : Labels) (fec p a : ℕ) → label_now labels p ≡ Some a → label_now (offered_one labels fec) p ≡ Some a
+one_keeps labels fec p a h = by (label_now labels fec) refl
   where
     by : (o : Option ℕ) → label_now labels fec ≡ o → label_now (elim o as (λ _. Labels) [
       | Some label ↦ labels
       | None ↦ record {
-        given = labels.given ++ record { label = next_label nodes labels; what = fec_of fec } ∷ [];
-        fecs = slice_set labels.fecs fec (Some (next_label nodes labels));
+        given = labels.given ++ record { label = next_label labels; what = fec_of fec } ∷ [];
+        fecs = slice_set labels.fecs fec (Some (next_label labels));
       }
     ]) p ≡ Some a
     by (Some label) e = h
-    by None e = get_or-set_other labels.fecs fec p (Some (next_label nodes labels)) None (apart e) ∙ h
+    by None e = get_or-set_other labels.fecs fec p (Some (next_label labels)) None (apart e) ∙ h
       where
         apart : label_now labels fec ≡ None → p ≢ fec
         apart e same = let no : None ≡ Some a = sym e ∙ ap (label_now labels) (sym same) ∙ h in cc
 
-one_gives : (nodes : List ℕ) (labels : Labels) (fec : ℕ) → fec < length labels.fecs → (a : ℕ) × (label_now (offered_one nodes labels fec) fec ≡ Some a)
-one_gives nodes labels fec below = by (label_now labels fec) refl
+one_gives : (labels : Labels) (fec : ℕ) → fec < length labels.fecs → (a : ℕ) × (label_now (offered_one labels fec) fec ≡ Some a)
+one_gives labels fec below = by (label_now labels fec) refl
   where
     by : (o : Option ℕ) → label_now labels fec ≡ o → (a : ℕ) × (label_now (elim o as (λ _. Labels) [
       | Some label ↦ labels
       | None ↦ record {
-        given = labels.given ++ record { label = next_label nodes labels; what = fec_of fec } ∷ [];
-        fecs = slice_set labels.fecs fec (Some (next_label nodes labels));
+        given = labels.given ++ record { label = next_label labels; what = fec_of fec } ∷ [];
+        fecs = slice_set labels.fecs fec (Some (next_label labels));
       }
     ]) fec ≡ Some a)
     by (Some label) e = (label, e)
-    by None e = (next_label nodes labels, get_or-set_same labels.fecs fec (Some (next_label nodes labels)) None below)
+    by None e = (next_label labels, get_or-set_same labels.fecs fec (Some (next_label labels)) None below)
 
-one_long : (nodes : List ℕ) (labels : Labels) (fec : ℕ) → length (offered_one nodes labels fec).fecs ≡ length labels.fecs
-one_long nodes labels fec = by (label_now labels fec)
+one_long : (labels : Labels) (fec : ℕ) → length (offered_one labels fec).fecs ≡ length labels.fecs
+one_long labels fec = by (label_now labels fec)
   where
     by : (o : Option ℕ) → length (elim o as (λ _. Labels) [
       | Some label ↦ labels
       | None ↦ record {
-        given = labels.given ++ record { label = next_label nodes labels; what = fec_of fec } ∷ [];
-        fecs = slice_set labels.fecs fec (Some (next_label nodes labels));
+        given = labels.given ++ record { label = next_label labels; what = fec_of fec } ∷ [];
+        fecs = slice_set labels.fecs fec (Some (next_label labels));
       }
     ]).fecs ≡ length labels.fecs
     by (Some label) = refl
-    by None = length-set labels.fecs fec (Some (next_label nodes labels))
+    by None = length-set labels.fecs fec (Some (next_label labels))
 
-all_long : (nodes : List ℕ) (labels : Labels) (fecs : List ℕ) → length (offered_all nodes labels fecs).fecs ≡ length labels.fecs
-all_long nodes labels [] = refl
-all_long nodes labels (fec ∷ fecs) = all_long nodes (offered_one nodes labels fec) fecs ∙ one_long nodes labels fec
+all_long : (labels : Labels) (fecs : List ℕ) → length (offered_all labels fecs).fecs ≡ length labels.fecs
+all_long labels [] = refl
+all_long labels (fec ∷ fecs) = all_long (offered_one labels fec) fecs ∙ one_long labels fec
 
-offered_long : (nodes : List ℕ) (free : ℕ → Bool) (labels : Labels) (fecs : List ℕ) → length (offered nodes free labels fecs).fecs ≡ length labels.fecs
-offered_long nodes free labels [] = refl
-offered_long nodes free labels (fec ∷ fecs) = all_long nodes (given_up free labels) (fec ∷ fecs) ∙ kept_length free 0 labels.fecs
+offered_long : (free : ℕ → Bool) (labels : Labels) (fecs : List ℕ) → length (offered free labels fecs).fecs ≡ length labels.fecs
+offered_long free labels [] = refl
+offered_long free labels (fec ∷ fecs) = all_long (given_up free labels) (fec ∷ fecs) ∙ kept_length free 0 labels.fecs
 
-all_keep : (nodes : List ℕ) (labels : Labels) (fecs : List ℕ) (p a : ℕ) → label_now labels p ≡ Some a → label_now (offered_all nodes labels fecs) p ≡ Some a
-all_keep nodes labels [] p a h = h
-all_keep nodes labels (fec ∷ fecs) p a h = all_keep nodes (offered_one nodes labels fec) fecs p a (one_keeps nodes labels fec p a h)
+all_keep : (labels : Labels) (fecs : List ℕ) (p a : ℕ) → label_now labels p ≡ Some a → label_now (offered_all labels fecs) p ≡ Some a
+all_keep labels [] p a h = h
+all_keep labels (fec ∷ fecs) p a h = all_keep (offered_one labels fec) fecs p a (one_keeps labels fec p a h)
 
-all_give : (nodes : List ℕ) (labels : Labels) (fecs : List ℕ) (p : ℕ) → p < length labels.fecs → In fecs p → (a : ℕ) × (label_now (offered_all nodes labels fecs) p ≡ Some a)
-all_give nodes labels [] p below i = absurd i
-all_give nodes labels (fec ∷ fecs) p below i = elim i [
-  | inl e ↦ let one = one_gives nodes labels fec (subst (λ x. x < length labels.fecs) (sym e) below) in
-      (one.0, all_keep nodes (offered_one nodes labels fec) fecs p one.0 (subst (λ q. label_now (offered_one nodes labels fec) q ≡ Some one.0) e one.1))
-  | inr j ↦ all_give nodes (offered_one nodes labels fec) fecs p (subst (λ x. p < x) (sym (one_long nodes labels fec)) below) j
+all_give : (labels : Labels) (fecs : List ℕ) (p : ℕ) → p < length labels.fecs → In fecs p → (a : ℕ) × (label_now (offered_all labels fecs) p ≡ Some a)
+all_give labels [] p below i = absurd i
+all_give labels (fec ∷ fecs) p below i = elim i [
+  | inl e ↦ let one = one_gives labels fec (subst (λ x. x < length labels.fecs) (sym e) below) in
+      (one.0, all_keep (offered_one labels fec) fecs p one.0 (subst (λ q. label_now (offered_one labels fec) q ≡ Some one.0) e one.1))
+  | inr j ↦ all_give (offered_one labels fec) fecs p (subst (λ x. p < x) (sym (one_long labels fec)) below) j
 ]
 
-offered_keeps : (nodes : List ℕ) (free : ℕ → Bool) (labels : Labels) (fecs : List ℕ) (p a : ℕ) → free p ≡ false → label_now labels p ≡ Some a →
-    label_now (offered nodes free labels fecs) p ≡ Some a
-offered_keeps nodes free labels [] p a off h = h
-offered_keeps nodes free labels (fec ∷ fecs) p a off h =
-    all_keep nodes (given_up free labels) (fec ∷ fecs) p a (kept_at free 0 labels.fecs p (ap free zero_and ∙ off) ∙ h)
+offered_keeps : (free : ℕ → Bool) (labels : Labels) (fecs : List ℕ) (p a : ℕ) → free p ≡ false → label_now labels p ≡ Some a →
+    label_now (offered free labels fecs) p ≡ Some a
+offered_keeps free labels [] p a off h = h
+offered_keeps free labels (fec ∷ fecs) p a off h =
+    all_keep (given_up free labels) (fec ∷ fecs) p a (kept_at free 0 labels.fecs p (ap free zero_and ∙ off) ∙ h)
 
-offered_gives : (nodes : List ℕ) (free : ℕ → Bool) (labels : Labels) (fecs : List ℕ) (p : ℕ) → p < length labels.fecs → In fecs p → (a : ℕ) × (label_now (offered nodes free labels fecs) p ≡ Some a)
-offered_gives nodes free labels [] p below i = absurd i
-offered_gives nodes free labels (fec ∷ fecs) p below i =
-    all_give nodes (given_up free labels) (fec ∷ fecs) p (subst (λ x. p < x) (sym (kept_length free 0 labels.fecs)) below) i
+offered_gives : (free : ℕ → Bool) (labels : Labels) (fecs : List ℕ) (p : ℕ) → p < length labels.fecs → In fecs p → (a : ℕ) × (label_now (offered free labels fecs) p ≡ Some a)
+offered_gives free labels [] p below i = absurd i
+offered_gives free labels (fec ∷ fecs) p below i =
+    all_give (given_up free labels) (fec ∷ fecs) p (subst (λ x. p < x) (sym (kept_length free 0 labels.fecs)) below) i
 
 attached_keeps : (t : Network) (w : World) (s : Step) (n p : ℕ) (labels : Labels) → label_now (attached_in t w s n labels) p ≡ label_now labels p
 attached_keeps t w (Attach site) n p labels = by (home_of t site.0 == n)
@@ -128,24 +129,24 @@ attached_long t w (Attach site) n labels = by (home_of t site.0 == n)
     by false = refl
 attached_long t w _ n labels = refl
 
-attached_is_fit : (t : Network) (w : World) (s : Step) (n : ℕ) (nodes : List ℕ) (labels : Labels) → AreFit nodes labels → AreFit nodes (attached_in t w s n labels)
-attached_is_fit t w (Attach site) n nodes labels fit = by (home_of t site.0 == n)
+attached_is_fit : (t : Network) (w : World) (s : Step) (n : ℕ) (labels : Labels) → AreFit labels → AreFit (attached_in t w s n labels)
+attached_is_fit t w (Attach site) n labels fit = by (home_of t site.0 == n)
   where
-    by : (b : Bool) → AreFit nodes (if b then attached labels (attachment_of site.0 (w.config.attaches site.0 + 2)) else labels)
-    by true = attached_fit nodes labels (attachment_of site.0 (w.config.attaches site.0 + 2)) refl fit
+    by : (b : Bool) → AreFit (if b then attached labels (attachment_of site.0 (w.config.attaches site.0 + 2)) else labels)
+    by true = attached_fit labels (attachment_of site.0 (w.config.attaches site.0 + 2)) refl fit
     by false = fit
-attached_is_fit t w _ n nodes labels fit = fit
+attached_is_fit t w _ n labels fit = fit
 
 -- 2. One step
 
 pub keeps_label : (t : Network) (w : World) (tick : ℕ) (s : Step) (n p a : ℕ) (rested : ℕ → ℕ) (labels : Labels) → label_now labels p ≡ Some a →
     is_free t w n rested tick p ≡ false → label_now (labels_after t w tick s n rested labels) p ≡ Some a
 keeps_label t w tick s n p a rested labels h off =
-    offered_keeps (nodes_of (wiring_of t)) (is_free t w n rested tick) (attached_in t w s n labels) (new_offers t w s n) p a off
+    offered_keeps (is_free t w n rested tick) (attached_in t w s n labels) (new_offers t w s n) p a off
     (attached_keeps t w s n p labels ∙ h)
 
 pub record HasLabels (t : Network) (w : World) (n : ℕ) (labels : Labels) : Type 0 where
-  pub fit : AreFit (nodes_of (wiring_of t)) labels
+  pub fit : AreFit labels
   pub long : length labels.fecs ≡ length t.loopbacks
   pub had : (p : ℕ) → p < length t.loopbacks → p ≢ n → is_at_rest t w n p ≡ false → (a : ℕ) × (label_now labels p ≡ Some a)
 
@@ -153,9 +154,8 @@ labels_step : (t : Network) (w : World) (k : Packets) (tick : ℕ) (s : Step) (n
     ((p : ℕ) → p < length t.loopbacks → is_at_rest t w n p ≡ true → offers_in t (after t w s) n p ≡ false → is_at_rest t (after t w s) n p ≡ true) →
     HasLabels t w n labels → HasLabels t (after t w s) n (labels_after t w tick s n rested labels)
 labels_step t w k tick s n rested labels stays h = record {
-  fit = offered_fit (nodes_of (wiring_of t)) (is_free t w n rested tick) (attached_in t w s n labels) (new_offers t w s n)
-      (λ p i. (in_filter (begins_offer t w s n) (nodes_of (wiring_of t)) p i).0) (attached_is_fit t w s n (nodes_of (wiring_of t)) labels h.fit);
-  long = offered_long (nodes_of (wiring_of t)) (is_free t w n rested tick) (attached_in t w s n labels) (new_offers t w s n) ∙ attached_long t w s n labels ∙ h.long;
+  fit = offered_fit (is_free t w n rested tick) (attached_in t w s n labels) (new_offers t w s n) (attached_is_fit t w s n labels h.fit);
+  long = offered_long (is_free t w n rested tick) (attached_in t w s n labels) (new_offers t w s n) ∙ attached_long t w s n labels ∙ h.long;
   had = λ p below apart awake. elim (two_ways (is_at_rest t w n p)) [
     | inr before ↦ let one = h.had p below apart before in (
       one.0,
@@ -164,7 +164,7 @@ labels_step t w k tick s n rested labels stays h = record {
     )
     | inl before ↦ elim (two_ways (offers_in t (after t w s) n p)) [
       | inr off ↦ absurd (clash (sym (stays p below before off) ∙ awake))
-      | inl on ↦ offered_gives (nodes_of (wiring_of t)) (is_free t w n rested tick) (attached_in t w s n labels) (new_offers t w s n) p
+      | inl on ↦ offered_gives (is_free t w n rested tick) (attached_in t w s n labels) (new_offers t w s n) p
           (subst (λ x. p < x) (sym (attached_long t w s n labels ∙ h.long)) below)
           (filter_in (begins_offer t w s n) (nodes_of (wiring_of t)) p (range_in 0 (length t.loopbacks) p (omega arith) (omega (arith, below)))
           (and_on _ _ (ap not (other_test p n apart)) (and_on _ _ (ap not (resting t w n p before).0) on)))
@@ -213,19 +213,19 @@ unfolding labels_of
 has_labels t es ps n inside lawful journal =
     labels_on t n (loopbacks_apart t lawful) lawful.joins_nodes lawful.ends_differ es 0 (start t) no_packets 0 ps (λ fec. 0) (first_labels t n) journal
     (begins t) (λ l m p h e. refl)
-    (record { fit = first_fit (nodes_of (wiring_of t)) (sites_at t n) (length t.loopbacks); long = length-replicate (length t.loopbacks) None; had = λ p below apart awake. absurd (clash (sym (all_rest t n p lawful.joins_nodes inside (λ e. apart (sym e))) ∙ awake)) })
+    (record { fit = first_fit (sites_at t n) (length t.loopbacks); long = length-replicate (length t.loopbacks) None; had = λ p below apart awake. absurd (clash (sym (all_rest t n p lawful.joins_nodes inside (λ e. apart (sym e))) ∙ awake)) })
 
 pub are_sound : (t : Network) (es : List JournalEntry) (ps : List (List ℕ)) (n : ℕ) → n < length t.loopbacks → IsLawful t → IsLawfulJournal t es ps →
     AreSound t es n
 are_sound t es ps n inside lawful journal =
     let all = has_labels t es ps n inside lawful journal in record {
-      one = means_one (nodes_of (wiring_of t)) (labels_of t es n) all.fit;
+      one = means_one (labels_of t es n) all.fit;
       had = λ p below apart awake. let one = all.had p below apart awake in ap is_some one.1;
     }
 
 -- 4. One entry more
 
-labels_from_push : (t : Network) (n : ℕ) (es : List JournalEntry) (w : World) (rested : ℕ → ℕ) (labels : Labels) (e : JournalEntry) →
+pub labels_from_push : (t : Network) (n : ℕ) (es : List JournalEntry) (w : World) (rested : ℕ → ℕ) (labels : Labels) (e : JournalEntry) →
     labels_from t n w rested labels (es ++ e ∷ [])
     ≡ labels_after t (world_from t w es) e.tick e.step n (rested_from t n w rested es) (labels_from t n w rested labels es)
 labels_from_push t n [] w rested labels e = refl

@@ -23,12 +23,14 @@ use Rattle.mn_ledger.specs.Lawful.{IsLawfulJournal}
 use Rattle.mn_ledger.specs.Refusal.{in_flight, bytes_flying}
 use Rattle.mn_ledger.proofs.Deciding.{lawful}
 use Rattle.mn_ledger.proofs.TwoLinks.{two_links, node_no, link_no, site_no, settling, packet}
-use Rattle.mn_reuse.specs.Labels.{Giving, labels_of, fec_of, attachment_of}
+use Rattle.mn_labels.specs.declared.meaning.Given.{Given}
+use Rattle.mn_labels.specs.Labels.{attachment_of, fec_of}
+use Rattle.mn_reuse.specs.Labels.{labels_of}
 
 abbrev pub at : ℕ → List Step → List JournalEntry
 at tick steps = map (λ step. record { tick = tick; step = step; damaged = Undamaged }) steps
 
-abbrev giving : ℕ → Bind → Giving
+abbrev giving : ℕ → Bind → Given
 giving label what = record { label = label; what = what }
 
 -- 1. The journals

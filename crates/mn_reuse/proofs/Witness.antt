@@ -26,7 +26,8 @@ use Rattle.mn_ledger.proofs.TwoLinks.{two_links, link_no, site_no, settling, pac
 use Rattle.mn_settled.specs.Offers.{offers_in}
 use Rattle.mn_reuse.specs.Answers.{heard_from, flying_from}
 use Rattle.mn_reuse.specs.Resting.{is_at_rest, rested_of}
-use Rattle.mn_reuse.specs.Labels.{labels_of, label_now, is_free}
+use Rattle.mn_labels.specs.Labels.{label_now}
+use Rattle.mn_reuse.specs.Labels.{labels_of, is_free}
 use Rattle.mn_reuse.proofs.Runs.{at, withdrawing, quieting, after_the_life}
 
 a_lawful_topology : IsLawful two_links

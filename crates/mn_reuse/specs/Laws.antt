@@ -19,7 +19,8 @@ use Rattle.mn_ledger.specs.Refusal.{refusal_at}
 use Rattle.mn_settled.specs.Offers.{offers_in}
 use Rattle.mn_reuse.specs.Answers.{count_by, is_mention, is_release, heard_from, flying_from}
 use Rattle.mn_reuse.specs.Resting.{is_at_rest, lays_to_rest, rested_of}
-use Rattle.mn_reuse.specs.Labels.{label_now, fec_of, is_free, labels_of, Means}
+use Rattle.mn_labels.specs.Labels.{label_now, fec_of, Means}
+use Rattle.mn_reuse.specs.Labels.{is_free, labels_of}
 
 -- no label of a node means two things, and a FEC that isn't at rest has one
 pub record AreSound (topology : Network) (entries : List JournalEntry) (node : ℕ) : Type 0 where

@@ -1,5 +1,5 @@
 -- A node whose neighbours' FECs have other labels.
-use Rattle.std.specs.Prelude.{◌≡◌, ℕ, ◌+◌, ◌==◌, if◌then◌else◌, List, [], ◌∷◌, ◌++◌, Option, Some, None, option_map, unwrap_or}
+use Rattle.std.specs.Prelude.{◌≡◌, ℕ, ◌+◌, List, [], ◌∷◌, ◌++◌, Option, Some, None, option_map}
 use Rattle.mn_wiring.specs.Wiring.{Wiring, across}
 use Rattle.mn_topo.specs.Network.{Network, wiring_of}
 use Rattle.mn_topo.specs.declared.steps.JournalEntry.{JournalEntry}
@@ -9,7 +9,8 @@ use Rattle.mn_slice.specs.Steps.{node_says}
 use Rattle.mn_node.specs.Ldp.{Message, Mapping, Withdraw}
 use Rattle.mn_node.specs.Node.{Session, Node, knowledge_in}
 use Rattle.mn_node.specs.Machine.{Event, Learns, Opens, Closes, Hears, changed, said, said_any, after_event, after_any}
-use Rattle.mn_reuse.specs.Labels.{label_now, labels_of}
+use Rattle.mn_labels.specs.Labels.{own_labels}
+use Rattle.mn_reuse.specs.Labels.{labels_of}
 
 -- where a FEC has a label it has this one instead, by FEC from this one on
 abbrev pub relabelled_from : (ℕ → ℕ) → ℕ → List (Option ℕ) → List (Option ℕ)
@@ -54,7 +55,7 @@ pub record GoesAlike (wiring : Wiring) (given : Labelling) (node : Node) (event 
 
 -- by a journal, the label that a FEC has at a node (RFC 3032, section 2.1: 3 for the node's own)
 abbrev pub labels_at : Network → List JournalEntry → Labelling
-labels_at topology entries node fec = if node == fec then 3 else unwrap_or (label_now (labels_of topology entries node) fec) 0
+labels_at topology entries node = own_labels node (labels_of topology entries node)
 
 -- a node of the world before a step, with the labels of before, is the same with the labels of after
 abbrev pub IsRelabelledAlike : Network → List JournalEntry → JournalEntry → ℕ → Type 0

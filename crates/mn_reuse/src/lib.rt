@@ -19,8 +19,7 @@
 //! - `specs/Relabelled`: a node whose neighbours' FECs have other labels
 //! - `specs/Laws`: what holds of them
 //!
-//! No running code gives labels by these definitions yet: there a FEC keeps its label for good (`given` of mn_frames). Each law
-//! here is the contract of a function that does nothing; `proofs/Witness` and `proofs/Runs` show that what the laws ask is met.
+//! Each law here is the contract of a function that does nothing; `proofs/Witness` and `proofs/Runs` show that what the laws ask is met.
 #![tactic(auto)]
 
 ghost use Rattle.std.specs.Prelude.{ℕ, ◌≡◌, ◌≢◌, ◌<◌, List, [], ◌∷◌, ◌++◌, length, true, None};

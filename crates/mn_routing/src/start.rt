@@ -16,7 +16,10 @@ use mn_pe::Pe;
 use mn_topo::Topology;
 use std::alloc::{AllocError, Global};
 
-/// An edge whose sites have the labels that come after those of the other nodes' FECs, in site order.
+/// The least label that isn't reserved: RFC 3032, section 2.1.
+const FIRST: u32 = 16;
+
+/// An edge whose sites have labels from 16 on, in site order.
 fn first_edge(alloc: Global, topology: &Topology, node: NodeNo) -> Result<Pe, AllocError>
     requires { node.0 < length topology.now.loopbacks }
     ensures { IfOk result (λ pe. pe ≡ working (edge_in topology.now (labels_of topology.now []) (first_config topology.now) (first_world topology.now).peerings node.0)) }
@@ -25,7 +28,7 @@ fn first_edge(alloc: Global, topology: &Topology, node: NodeNo) -> Result<Pe, Al
     let Ok(mut pe) = Pe::new(alloc, topology, node) else {
         return Err(AllocError);
     };
-    let mut label = 15 + topology.nodes().len() as u32;
+    let mut label = FIRST;
     for number in 0..topology.sites().len() {
         let site = SiteNo(number as u16);
         if topology.home_of(site).0 == node.0 {

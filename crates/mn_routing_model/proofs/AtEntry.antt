@@ -1,8 +1,8 @@
 -- Where a packet enters its site's edge stands for the ledger.
-use Rattle.std.proofs.Common.{ℕ, ◌≡◌, ◌≢◌, ◌+◌, ◌<◌, Bool, true, false, List, [], ◌∷◌, map, filter, length, refl, sym, ◌∙◌, ap, subst, Option, Some, None}
-use Rattle.std.proofs.Common.{inl, inr}
-use Rattle.std.specs.Prelude.{◌==◌, is_none, option_map, slice_index, slice_index_or, if◌then◌else◌, not}
-use Rattle.std.specs.List.{Contains, list_any, range_with_len}
+use Rattle.std.proofs.Common.{ℕ, ◌≡◌, ◌<◌, List, [], ◌∷◌, length, refl, ◌∙◌, ap, Option, Some, None}
+use Rattle.std.proofs.Common.{inl}
+use Rattle.std.specs.Prelude.{is_none, option_map, slice_index, if◌then◌else◌, not}
+use Rattle.std.specs.List.{list_any}
 use Rattle.std.proofs.lemmas.Option.{same_Some}
 use Rattle.mn_base.proofs.Bools.{same_test}
 use Rattle.mn_base.proofs.Members.{In, in_filter, contained_in}
@@ -19,20 +19,19 @@ use Rattle.mn_ledger.specs.Held as ledger_held
 use Rattle.mn_ledger.specs.Ledger.{world_of}
 use Rattle.mn_ledger.specs.Lawful.{IsLawfulJournal}
 use Rattle.mn_laws.proofs.There.{vrf_there}
-use Rattle.mn_frames.specs.Given.{given, label_at, attachment_of}
+use Rattle.mn_frames.specs.Given.{given, label_at}
 use Rattle.mn_frames.specs.Numbers.{labels_of}
-use Rattle.mn_frames.proofs.Anew.{by_table, gives_to_no_other}
+use Rattle.mn_frames.proofs.Anew.{gives_to_no_other}
 use Rattle.mn_frames.proofs.Named.{all_have_labels, leaves_sound}
 use Rattle.mn_bgp_spelling.specs.Spelling.{Labels}
 use Rattle.mn_vrf.specs.declared.source.Source.{Source}
 use Rattle.mn_vrf.specs.Vrf.{VrfState}
-use Rattle.mn_pe.specs.Edge.{Edge, vrf_of_site}
-use Rattle.mn_pe.specs.Held.{site_label, held_by, far_over}
+use Rattle.mn_pe.specs.Held.{held_by, far_over}
 use Rattle.mn_pe.specs.Entries as entry
 use Rattle.mn_pe.specs.Entries.{StandsAtEntry, route_for}
 use Rattle.mn_pe.specs.Pe.{found_in}
 use Rattle.mn_routing_model.specs.Sources.{as_held, source_from}
-use Rattle.mn_routing_model.specs.Standing.{vrf_in, site_label_now, edge_in}
+use Rattle.mn_routing_model.specs.Standing.{site_label_now, edge_in}
 use Rattle.mn_routing_model.proofs.Tables.{map_numbers_at}
 use Rattle.mn_routing_model.proofs.Lawful.{finds_best}
 use Rattle.mn_routing_model.proofs.News.{vrf_of_site_is}
@@ -76,12 +75,10 @@ module _ (t : Network) (lawful : IsLawful t) (es : List JournalEntry) (ps : List
 
   label_is : (v : ℕ) (route : HeldRoute) → v < length t.vrfs → In (held t w.config w.peerings (edge_of t v) v) route →
       l route.site route.attachment ≡ label_at (given t es) route.edge route.site route.attachment
+  unfolding labels_of
   label_is v route below i =
       let there = (all_have_labels t es ps lawful journal).held v route below (contained_in (held t w.config w.peerings (edge_of t v) v) route i) in
-      let at = gives_to_no_other t es ps route.edge route.site route.attachment journal there in
-      sym (ap (λ e. label_at (given t es) e route.site route.attachment) (sym at.home)
-      ∙ by_table t es ps route.site route.attachment lawful journal
-      (subst (λ e. Contains (given t es e) (attachment_of route.site route.attachment)) (sym at.home) there))
+      ap (λ e. label_at (given t es) e route.site route.attachment) (gives_to_no_other t es ps route.edge route.site route.attachment journal there).home
 
   best_as : (v address : ℕ) → v < length t.vrfs → (o : Option HeldRoute) → best (held t w.config w.peerings (edge_of t v) v) address ≡ o →
       option_map (as_held l) o ≡ option_map (entry.as_held (given t es)) o

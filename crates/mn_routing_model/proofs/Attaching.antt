@@ -15,14 +15,13 @@ use Rattle.mn_ledger.specs.World.{Config, Telling, Open, BgpKeepAlive, Announcem
 use Rattle.mn_ledger.specs.Bgp.{peers_live, tellings_of, told_in, with_told, peerings_after}
 use Rattle.mn_ledger.specs.Held.{heard_of}
 use Rattle.mn_ledger.specs.Ledger.{config_after}
-use Rattle.mn_ledger.specs.Refusal.{labels_given}
 use Rattle.mn_ledger.proofs.GoingBy.{put_here, put_off, pair_here, pair_off}
 use Rattle.mn_ledger.proofs.Members.{In, in_take}
 use Rattle.mn_ledger.proofs.Peers.{same_test}
 use Rattle.mn_rib_in.specs.Heard.{Heard}
 use Rattle.mn_pe.specs.Edge.{Edge, after_attach, after_detach}
-use Rattle.mn_frames.specs.Numbers.{labels_after}
 use Rattle.mn_bgp_spelling.specs.Spelling.{Labels, as_targets}
+use Rattle.mn_routing_model.specs.Labels.{labels_after}
 use Rattle.mn_routing_model.specs.Standing.{vrf_in, site_label_now, says_of, heard_if, heard_in, edge_in}
 use Rattle.mn_routing_model.proofs.Tables.{map_same, map_numbers_set}
 use Rattle.mn_routing_model.proofs.Hearing.{IsInTurn, heard_same}
@@ -60,18 +59,18 @@ same_heard : (t : Network) (l m : Labels) (c : Config) (p : Peerings) (edge q : 
 same_heard t l m c p edge q h = ap (λ xs. if q == edge then [] else if peers_live c edge q then xs else [])
     (same_fold t l m q [] (heard_of p edge q) (λ x i. h x (in_take (p.heard edge q) (p.told q edge) x i)))
 
-pub agrees : (t : Network) (c : Config) (l : Labels) (s : SiteNo) (x : Telling) → IsKnown c x → AgreeOn (labels_after t c l (step.Attach s)) l x
+pub agrees : (t : Network) (gives : ℕ → ℕ) (c : Config) (l : Labels) (s : SiteNo) (x : Telling) → IsKnown c x → AgreeOn (labels_after gives c l (step.Attach s)) l x
 unfolding AgreeOn
-agrees t c l s (Announcement e) h = elim (eqb_tells e.site s.0) [
-  | inr d ↦ pair_off l s.0 (c.attaches s.0 + 2) (16 + labels_given t c (home_of t s.0)) e.site e.attachment (inl d.1)
-  | inl q ↦ pair_off l s.0 (c.attaches s.0 + 2) (16 + labels_given t c (home_of t s.0)) e.site e.attachment (inr (past q.1))
+agrees t gives c l s (Announcement e) h = elim (eqb_tells e.site s.0) [
+  | inr d ↦ pair_off l s.0 (c.attaches s.0 + 2) (gives s.0) e.site e.attachment (inl d.1)
+  | inl q ↦ pair_off l s.0 (c.attaches s.0 + 2) (gives s.0) e.site e.attachment (inr (past q.1))
 ]
   where
     past : e.site ≡ s.0 → e.attachment ≢ c.attaches s.0 + 2
     past q f = omega (arith, h, f, ap c.attaches q)
-agrees t c l s (Withdrawal v p) h = tt
-agrees t c l s Open h = tt
-agrees t c l s BgpKeepAlive h = tt
+agrees t gives c l s (Withdrawal v p) h = tt
+agrees t gives c l s Open h = tt
+agrees t gives c l s BgpKeepAlive h = tt
 
 -- 2. The labels of the edge
 
@@ -89,64 +88,64 @@ made t c edge labels heard = record {
   heard = heard;
 }
 
-module _ (t : Network) (l : Labels) (c : Config) (p : Peerings) (s : SiteNo) (turn : IsInTurn p) where
+module _ (t : Network) (gives : ℕ → ℕ) (l : Labels) (c : Config) (p : Peerings) (s : SiteNo) (turn : IsInTurn p) where
   new_label : ℕ
-  new_label = 16 + labels_given t c (home_of t s.0)
+  new_label = gives s.0
 
-  label_elsewhere : (edge site : ℕ) → site ≢ s.0 → site_label_now t (labels_after t c l (step.Attach s))
+  label_elsewhere : (edge site : ℕ) → site ≢ s.0 → site_label_now t (labels_after gives c l (step.Attach s))
       (config_after c (step.Attach s)) edge site ≡ site_label_now t l c edge site
   label_elsewhere edge site d =
-      ap (λ o. if home_of t site == edge then option_map (labels_after t c l (step.Attach s) site) o else None)
+      ap (λ o. if home_of t site == edge then option_map (labels_after gives c l (step.Attach s) site) o else None)
       (put_off c.attached s.0 (Some (c.attaches s.0 + 2)) site d)
       ∙ ap (λ o. if home_of t site == edge then o else None)
-      (some_other (labels_after t c l (step.Attach s) site) (l site) (c.attached site)
-      (λ k. pair_off l s.0 (c.attaches s.0 + 2) (16 + labels_given t c (home_of t s.0)) site k (inl d)))
+      (some_other (labels_after gives c l (step.Attach s) site) (l site) (c.attached site)
+      (λ k. pair_off l s.0 (c.attaches s.0 + 2) (gives s.0) site k (inl d)))
 
-  label_there : site_label_now t (labels_after t c l (step.Attach s)) (config_after c (step.Attach s)) (home_of t s.0) s.0 ≡ Some new_label
+  label_there : site_label_now t (labels_after gives c l (step.Attach s)) (config_after c (step.Attach s)) (home_of t s.0) s.0 ≡ Some new_label
   unfolding new_label
   label_there =
-      ap (λ b. if b then option_map (labels_after t c l (step.Attach s) s.0) (put c.attached s.0 (Some (c.attaches s.0 + 2)) s.0) else None)
+      ap (λ b. if b then option_map (labels_after gives c l (step.Attach s) s.0) (put c.attached s.0 (Some (c.attaches s.0 + 2)) s.0) else None)
       (same_test (home_of t s.0))
-      ∙ ap (option_map (labels_after t c l (step.Attach s) s.0)) (put_here c.attached s.0 (Some (c.attaches s.0 + 2)))
-      ∙ ap (λ x. Some x) (pair_here l s.0 (c.attaches s.0 + 2) (16 + labels_given t c (home_of t s.0)))
+      ∙ ap (option_map (labels_after gives c l (step.Attach s) s.0)) (put_here c.attached s.0 (Some (c.attaches s.0 + 2)))
+      ∙ ap (λ x. Some x) (pair_here l s.0 (c.attaches s.0 + 2) (gives s.0))
 
-  heard_kept : AllKnown c p → (edge : ℕ) → map (heard_in t (labels_after t c l (step.Attach s)) (config_after c (step.Attach s))
+  heard_kept : AllKnown c p → (edge : ℕ) → map (heard_in t (labels_after gives c l (step.Attach s)) (config_after c (step.Attach s))
       (peerings_after t c (config_after c (step.Attach s)) p (step.Attach s)) edge) (nodes_of (wiring_of t)) ≡ map (heard_in t l c p edge)
       (nodes_of (wiring_of t))
   unfolding peerings_after
   heard_kept known edge =
       let new : Config = config_after c (step.Attach s) in
       let k : Peerings = with_told p (told_in t c p new p (step.Attach s)) in
-      let m : Labels = labels_after t c l (step.Attach s) in
+      let m : Labels = labels_after gives c l (step.Attach s) in
       map_same (heard_in t m new k edge) (heard_in t l c p edge) (nodes_of (wiring_of t)) (λ q i.
       heard_same t m c new p k edge q (tellings_of q edge (told_in t c p new p (step.Attach s))) refl refl refl (turn edge q)
-      ∙ same_heard t m l c p edge q (λ x j. agrees t c l s x (known q edge x j)))
+      ∙ same_heard t m l c p edge q (λ x j. agrees t gives c l s x (known q edge x j)))
 
   pub attach_here : AllKnown c p → s.0 < length t.sites
-      → edge_in t (labels_after t c l (step.Attach s)) (config_after c (step.Attach s))
+      → edge_in t (labels_after gives c l (step.Attach s)) (config_after c (step.Attach s))
       (peerings_after t c (config_after c (step.Attach s)) p (step.Attach s)) (home_of t s.0)
-      ≡ after_attach (edge_in t l c p (home_of t s.0)) s.0 (16 + labels_given t c (home_of t s.0))
+      ≡ after_attach (edge_in t l c p (home_of t s.0)) s.0 (gives s.0)
   unfolding made new_label
   attach_here known below =
-      ap (λ hs. made t c (home_of t s.0) (map (site_label_now t (labels_after t c l (step.Attach s)) (config_after c (step.Attach s)) (home_of t s.0))
+      ap (λ hs. made t c (home_of t s.0) (map (site_label_now t (labels_after gives c l (step.Attach s)) (config_after c (step.Attach s)) (home_of t s.0))
       (range_with_len 0 (length t.sites))) hs) (heard_kept known (home_of t s.0))
       ∙ ap (λ ls. made t c (home_of t s.0) ls (map (heard_in t l c p (home_of t s.0)) (nodes_of (wiring_of t))))
       (map_numbers_set (site_label_now t l c (home_of t s.0))
-      (site_label_now t (labels_after t c l (step.Attach s)) (config_after c (step.Attach s)) (home_of t s.0))
+      (site_label_now t (labels_after gives c l (step.Attach s)) (config_after c (step.Attach s)) (home_of t s.0))
       (length t.sites) s.0 (Some new_label) below label_there (λ x d. label_elsewhere (home_of t s.0) x d))
 
   pub attach_off : AllKnown c p → (edge : ℕ) → edge ≢ home_of t s.0
-      → edge_in t (labels_after t c l (step.Attach s)) (config_after c (step.Attach s))
+      → edge_in t (labels_after gives c l (step.Attach s)) (config_after c (step.Attach s))
       (peerings_after t c (config_after c (step.Attach s)) p (step.Attach s)) edge ≡ edge_in t l c p edge
   unfolding made
   attach_off known edge d =
-      ap (λ hs. made t c edge (map (site_label_now t (labels_after t c l (step.Attach s)) (config_after c (step.Attach s)) edge)
+      ap (λ hs. made t c edge (map (site_label_now t (labels_after gives c l (step.Attach s)) (config_after c (step.Attach s)) edge)
       (range_with_len 0 (length t.sites))) hs) (heard_kept known edge)
       ∙ ap (λ ls. made t c edge ls (map (heard_in t l c p edge) (nodes_of (wiring_of t))))
-      (map_same (site_label_now t (labels_after t c l (step.Attach s)) (config_after c (step.Attach s)) edge) (site_label_now t l c edge)
+      (map_same (site_label_now t (labels_after gives c l (step.Attach s)) (config_after c (step.Attach s)) edge) (site_label_now t l c edge)
       (range_with_len 0 (length t.sites)) (λ x i. elim (eqb_tells x s.0) [
         | inr e ↦ label_elsewhere edge x e.1
-        | inl e ↦ none_here x e.1 (labels_after t c l (step.Attach s) x) (put c.attached s.0 (Some (c.attaches s.0 + 2)) x) (l x) (c.attached x)
+        | inl e ↦ none_here x e.1 (labels_after gives c l (step.Attach s) x) (put c.attached s.0 (Some (c.attaches s.0 + 2)) x) (l x) (c.attached x)
       ]))
     where
       none_here : (x : ℕ) → x ≡ s.0 → (f : ℕ → ℕ) (o : Option ℕ) (g : ℕ → ℕ) (q : Option ℕ) →
@@ -156,7 +155,9 @@ module _ (t : Network) (l : Labels) (c : Config) (p : Peerings) (s : SiteNo) (tu
         | inr h ↦ ap (λ b. if b then option_map f o else None) h.0 ∙ sym (ap (λ b. if b then option_map g q else None) h.0)
       ]
 
-  -- a site that is detached has no label
+-- 3. A site that is detached has no label
+
+module _ (t : Network) (l : Labels) (c : Config) (p : Peerings) (s : SiteNo) (turn : IsInTurn p) where
   gone_elsewhere : (edge site : ℕ) → site ≢ s.0 → site_label_now t l (config_after c (step.Detach s)) edge site ≡ site_label_now t l c edge site
   gone_elsewhere edge site d = ap (λ o. if home_of t site == edge then option_map (l site) o else None) (put_off c.attached s.0 None site d)
 

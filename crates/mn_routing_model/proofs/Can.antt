@@ -1,7 +1,7 @@
 -- What a step's turn gives the edge that is told something.
-use Rattle.std.proofs.Common.{ℕ, ◌≡◌, ◌≢◌, ◌+◌, ◌<◌, ◌≤◌, inl, inr, Bool, true, false, List, [], ◌∷◌, ◌++◌, map, filter, length, refl, arith, sym, ◌∙◌, ap}
-use Rattle.std.proofs.Common.{subst, Option, Some, None}
-use Rattle.std.specs.Prelude.{◌==◌, ◌&&◌, nat_le, if◌then◌else◌}
+use Rattle.std.proofs.Common.{ℕ, ◌≡◌, ◌<◌, Bool, List, length, refl, sym, ◌∙◌, ap}
+use Rattle.std.proofs.Common.{subst}
+use Rattle.std.specs.Prelude.{◌==◌, ◌&&◌}
 use Rattle.std.specs.List.{list_any}
 use Rattle.mn_base.proofs.Bools.{less_tells, same_test}
 use Rattle.mn_base.proofs.Members.{In}
@@ -15,27 +15,26 @@ use Rattle.mn_topo.specs.Lawful.{IsLawful}
 use Rattle.mn_topo.specs.declared.steps.Step.{Step}
 use Rattle.mn_topo.specs.declared.steps.Step.TheVariants as step
 use Rattle.mn_topo.specs.declared.steps.JournalEntry.{JournalEntry}
-use Rattle.mn_targets.specs.Targets.{target_set}
 use Rattle.mn_ledger.specs.Places.{vrf_of, home_of, edge_of}
-use Rattle.mn_ledger.specs.World.{SiteRoute, Config, World, Peerings}
-use Rattle.mn_ledger.specs.Exports.{has_target}
+use Rattle.mn_ledger.specs.World.{Config, World, Peerings}
 use Rattle.mn_ledger.specs.Bgp.{peerings_after}
-use Rattle.mn_ledger.specs.Ledger.{config_after, world_of, packets_of, is_static}
-use Rattle.mn_ledger.specs.Refusal.{agree, is_targets_full}
+use Rattle.mn_ledger.specs.Ledger.{config_after, world_of, is_static}
+use Rattle.mn_ledger.specs.Refusal.{is_targets_full}
 use Rattle.mn_ledger.specs.declared.refused.Refused.TheVariants.{NoRouteThere}
-use Rattle.mn_ledger.proofs.Tidy.{Rise, RiseAll, sets_rise, rises_on}
+use Rattle.mn_ledger.proofs.Tidy.{RiseAll, sets_rise, rises_on}
 use Rattle.mn_laws.proofs.There.{vrf_there, edge_there}
-use Rattle.mn_frames.specs.Numbers.{labels_of, labels_after}
-use Rattle.mn_bgp_spelling.specs.Spelling.{Labels, as_targets}
-use Rattle.mn_vrf.specs.Vrf.{VrfState, with_static, with_exports, with_imports, add_refused, del_refused, set_refused}
-use Rattle.mn_pe.specs.Edge.{Edge, after_vrf, after_attach, vrf_of_site}
+use Rattle.mn_frames.specs.Numbers.{labels_of}
+use Rattle.mn_bgp_spelling.specs.Spelling.{Labels}
+use Rattle.mn_vrf.specs.Vrf.{VrfState, with_static, add_refused, del_refused, set_refused}
+use Rattle.mn_pe.specs.Edge.{after_vrf, after_attach, vrf_of_site}
 use Rattle.mn_pe.specs.Held.{Exported, exports_of}
 use Rattle.mn_pe.specs.Pe.{found_in}
 use Rattle.mn_pe.specs.Exports.{exports_at, exports_over, export_of}
-use Rattle.mn_routing_model.specs.Standing.{vrf_in, edge_in}
-use Rattle.mn_routing_model.specs.Routed.{Routed, IsRoutes}
+use Rattle.mn_routing_model.specs.Labels.{labels_after}
+use Rattle.mn_routing_model.specs.Standing.{edge_in}
+use Rattle.mn_routing_model.specs.Routed.{Routed}
 use Rattle.mn_routing_model.specs.Steps.{IsTurn, MayDo, MayGive, next_label}
-use Rattle.mn_routing_model.specs.Doing.{HasEdge, IsSayable, AreSayable, edge_at, those_of, static_added, export_set, MaySetImport, MaySetExport, MayAdd}
+use Rattle.mn_routing_model.specs.Doing.{IsSayable, AreSayable, edge_at, those_of, static_added, export_set, MaySetImport, MaySetExport, MayAdd}
 use Rattle.mn_routing_model.specs.Doing.{MayDel, MayAttach, MayDetach}
 use Rattle.mn_routing_model.proofs.GoingOn.{at_site, at_vrf, static_there, heard_turn}
 use Rattle.mn_routing_model.proofs.Steps.{add_here, export_here}
@@ -47,9 +46,10 @@ use Rattle.mn_routing_model.proofs.Home.{is_edge_of}
 use Rattle.mn_routing_model.proofs.Matching.{exports_at_are, exports_over_are, export_of_is}
 use Rattle.mn_routing_model.proofs.News.{vrf_of_site_is, at_home, vrfs_apart}
 use Rattle.mn_routing_model.proofs.Placed.{edge_is, has_edge}
-use Rattle.mn_routing_model.proofs.Goes.{Brings, brings}
+use Rattle.mn_routing_model.proofs.Goes.{brings}
 use Rattle.mn_bgp_spelling.proofs.Writable.{sets_go}
 use Rattle.mn_routing_model.proofs.Sayable.{Fits, all_fits, labels_go, all_sayable}
+use Rattle.mn_routing_model.proofs.TwentyBits.{next_fits}
 use Rattle.mn_routing_model.proofs.Refusing.{set_free, found, add_free, del_free}
 
 -- 1. Parts of what an edge exports
@@ -82,14 +82,15 @@ module _ (t : Network) (lawful : IsLawful t) (old : Routed) where
   rise_now es s turn = sets_rise t es turn.inputs lawful turn.lawful
 
   fits_then : (es : List JournalEntry) (s : Step) → IsTurn t es s →
-      Fits (config_after (world_of t es).config s) (labels_after t (world_of t es).config (labels_of t es) s)
+      Fits (config_after (world_of t es).config s) (labels_after (next_label t es) (world_of t es).config (labels_of t es) s)
   fits_then es s turn =
       let b = brings t es s lawful turn in
       let h = fits_now es s turn in
       record {
         sets = sets_go t (world_of t es).config s turn.fitting b.ok.targets h.sets;
         labels =
-            labels_go t (world_of t es).config (labels_of t es) s b.ok.labels h.labels;
+            labels_go (next_label t es) (world_of t es).config (labels_of t es) s
+            (next_fits t es turn.inputs s lawful turn.lawful turn.fitting b.ok.labels) h.labels;
       }
 
   rise_then : (es : List JournalEntry) (s : Step) → IsTurn t es s → RiseAll (config_after (world_of t es).config s)
@@ -208,10 +209,10 @@ module _ (t : Network) (lawful : IsLawful t) (old : Routed) where
       let edge = is_edge_of t (vrf_of t site.0) there in
       let is = edge_is t l w old may.stands (home_of t site.0) below edge in
       let new : Config = config_after w.config s in
-      let later : Labels = labels_after t w.config l s in
+      let later : Labels = labels_after (next_label t es) w.config l s in
       let now : edge_in t later new (peerings_after t w.config new w.peerings s) (home_of t site.0) ≡ after_attach
       (edge_at old (home_of t site.0)) site.0 label =
-      attach_here t l w.config w.peerings site (heard_turn w b.turn.bgp) (λ teller peer m i. (b.rest.sound teller peer m i).1) fit
+      attach_here t (next_label t es) l w.config w.peerings site (heard_turn w b.turn.bgp) (λ teller peer m i. (b.rest.sound teller peer m i).1) fit
       ∙ ap (λ e. after_attach e site.0 (next_label t es site.0)) (sym is)
       ∙ ap (after_attach (edge_at old (home_of t site.0)) site.0) (sym may.gives) in
       record {

@@ -1,50 +1,38 @@
 -- The steps that one edge is told are done in the ledger's words.
-use Rattle.std.proofs.Common.{ℕ, zero, suc, ◌≡◌, ◌≢◌, ◌+◌, ◌-◌, ◌*◌, ◌<◌, ◌≤◌, inl, inr, Bool, true, false, cond, List, [], ◌∷◌, ◌++◌, map, filter, length}
-use Rattle.std.proofs.Common.{refl, arith, sym, ◌∙◌, ap, subst, Option, Some, None, append-nil}
-use Rattle.std.specs.Prelude.{◌==◌, ◌&&◌, nat_lt, slice_set, option_map}
-use Rattle.std.specs.List.{flat_map, list_any}
-use Rattle.mn_base.proofs.Bools.{same_test, less_tells}
-use Rattle.mn_base.proofs.Members.{In}
-use Rattle.mn_wiring.specs.Wiring.{nodes_of}
+use Rattle.std.proofs.Common.{ℕ, ◌≡◌, ◌-◌, ◌<◌, true, false, List, length}
+use Rattle.std.proofs.Common.{refl, sym, ◌∙◌, ap, subst}
+use Rattle.std.specs.Prelude.{nat_lt}
+use Rattle.mn_base.proofs.Bools.{less_tells}
 use Rattle.mn_base.specs.declared.numbers.SiteNo.{SiteNo}
-use Rattle.mn_base.specs.declared.numbers.VrfNo.{VrfNo}
-use Rattle.mn_base.specs.declared.numbers.Rt.{Rt}
 use Rattle.mn_prefix.specs.Prefix.{AddressBlock}
-use Rattle.mn_topo.specs.Network.{Network, wiring_of}
+use Rattle.mn_topo.specs.Network.{Network}
 use Rattle.mn_topo.specs.Lawful.{IsLawful}
 use Rattle.mn_topo.specs.declared.steps.Step.{Step}
 use Rattle.mn_topo.specs.declared.steps.Step.TheVariants as step
 use Rattle.mn_topo.specs.declared.steps.JournalEntry.{JournalEntry}
-use Rattle.mn_ledger.specs.Places.{vrf_of, home_of, edge_of}
-use Rattle.mn_ledger.specs.World.{SiteRoute, Config, World, Peerings}
+use Rattle.mn_ledger.specs.Places.{vrf_of, home_of}
+use Rattle.mn_ledger.specs.World.{Config, World}
 use Rattle.mn_ledger.specs.Bgp.{peerings_after}
-use Rattle.mn_ledger.specs.Ledger.{config_after, after, world_of, packets_of, is_static, with_target}
-use Rattle.mn_ledger.specs.declared.refused.Refused.TheVariants.{NoRouteThere}
-use Rattle.mn_ledger.proofs.Statics.{HasStatics, statics_go}
-use Rattle.mn_laws.proofs.There.{vrf_there, edge_there, home_there}
-use Rattle.mn_frames.specs.Numbers.{labels_of, labels_after}
-use Rattle.mn_timetable.specs.Keys.{keys_in}
-use Rattle.mn_timetable.specs.Steps.{pushed}
-use Rattle.mn_bgp_spelling.specs.Spelling.{Labels, as_targets, bytes_in}
-use Rattle.mn_targets.specs.Targets.{target_set}
-use Rattle.mn_vrf.specs.Vrf.{with_static, without_static, with_imports, with_exports}
-use Rattle.mn_pe.specs.Edge.{Edge, after_vrf, after_attach, after_detach, vrf_of_site}
-use Rattle.mn_pe.specs.Held.{Exported}
+use Rattle.mn_ledger.specs.Ledger.{config_after, world_of, packets_of}
+use Rattle.mn_ledger.proofs.Statics.{statics_go}
+use Rattle.mn_laws.proofs.There.{vrf_there, edge_there}
+use Rattle.mn_frames.specs.Numbers.{labels_of}
+use Rattle.mn_bgp_spelling.specs.Spelling.{Labels}
+use Rattle.mn_vrf.specs.Vrf.{with_static, without_static}
+use Rattle.mn_pe.specs.Edge.{after_vrf, after_attach, after_detach, vrf_of_site}
 use Rattle.mn_pe.specs.Exports.{exports_over, export_of}
+use Rattle.mn_routing_model.specs.Labels.{labels_after}
 use Rattle.mn_routing_model.specs.Standing.{edge_in}
-use Rattle.mn_routing_model.specs.Touched.{touches, comes, goes, told_of}
-use Rattle.mn_routing_model.specs.Routed.{Routed, IsRoutes, StandsFor}
+use Rattle.mn_routing_model.specs.Routed.{Routed, IsRoutes}
 use Rattle.mn_routing_model.specs.Steps.{IsTurn, Did, DidAttach, next_label}
-use Rattle.mn_routing_model.specs.Sending.{spelled_in}
-use Rattle.mn_routing_model.specs.Doing.{edge_at, those_of, static_added, static_deleted, Adds, Dels, Attaches, Detaches, Tells}
-use Rattle.mn_routing_model.proofs.GoingOn.{at_site, static_there, heard_turn}
+use Rattle.mn_routing_model.specs.Doing.{edge_at, those_of, static_added, Adds, Dels, Attaches, Detaches, Tells}
+use Rattle.mn_routing_model.proofs.GoingOn.{at_site, heard_turn}
 use Rattle.mn_routing_model.proofs.Lawful.{sited_go}
 use Rattle.mn_routing_model.proofs.Steps.{add_here}
-use Rattle.mn_routing_model.proofs.Attaching.{attach_here, detach_here}
-use Rattle.mn_routing_model.proofs.Removing.{del_here}
-use Rattle.mn_routing_model.proofs.Home.{home_in, is_edge_of, among_edges}
+use Rattle.mn_routing_model.proofs.Attaching.{attach_here}
+use Rattle.mn_routing_model.proofs.Home.{is_edge_of, among_edges}
 use Rattle.mn_routing_model.proofs.News.{vrf_of_site_is, of_prefix, over_site, comes_as, goes_as}
-use Rattle.mn_routing_model.proofs.Goes.{Brings, brings, IsOfOne, Does, was, does}
+use Rattle.mn_routing_model.proofs.Goes.{brings, IsOfOne, Does, was, does}
 
 less_site : (t : Network) (s : SiteNo) → nat_lt s.0 (length t.sites) ≡ true → s.0 < length t.sites
 less_site t s h = less_tells s.0 (length t.sites) h
@@ -203,10 +191,10 @@ module _ (t : Network) (lawful : IsLawful t) (tick number next : ℕ) (old new :
           let one = attach_one es turn in
           let is = was t lawful es attaching tick number old stands turn _ one in
           let new_config : Config = config_after w.config attaching in
-          let later : Labels = labels_after t w.config l attaching in
+          let later : Labels = labels_after (next_label t es) w.config l attaching in
           let now : edge_in t later new_config (peerings_after t w.config new_config w.peerings attaching) (home_of t site.0) ≡ after_attach
           (edge_at old (home_of t site.0)) site.0 (next_label t es site.0) =
-          attach_here t l w.config w.peerings site (heard_turn w b.turn.bgp) (λ teller peer m i. (b.rest.sound teller peer m i).1)
+          attach_here t (next_label t es) l w.config w.peerings site (heard_turn w b.turn.bgp) (λ teller peer m i. (b.rest.sound teller peer m i).1)
           (less_site t site turn.fitting)
           ∙ ap (λ e. after_attach e site.0 (next_label t es site.0)) (sym is) in
           does t lawful es attaching tick number old stands turn _ one true

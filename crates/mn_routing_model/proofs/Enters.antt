@@ -1,7 +1,7 @@
 -- The edge of a site or of a VRF answers for the ledger.
-use Rattle.std.proofs.Common.{ℕ, zero, suc, ◌≡◌, ◌+◌, ◌<◌, Bool, true, false, List, [], ◌∷◌, map, length, refl, arith, sym, ◌∙◌, ap, subst, Option, Some}
+use Rattle.std.proofs.Common.{ℕ, zero, suc, ◌≡◌, ◌<◌, false, List, [], ◌∷◌, length, refl, arith, sym, ◌∙◌, ap, subst, Option, Some}
 use Rattle.std.proofs.Common.{None, get_or}
-use Rattle.std.specs.Prelude.{slice_get, slice_index, slice_index_or, option_map}
+use Rattle.std.specs.Prelude.{slice_index, slice_index_or, option_map}
 use Rattle.std.proofs.lemmas.Option.{same_Some}
 use Rattle.mn_prefix.specs.Prefix.{AddressBlock}
 use Rattle.mn_prefix.specs.Table.{longest_match}
@@ -17,14 +17,12 @@ use Rattle.mn_frames.specs.Given.{given}
 use Rattle.mn_frames.specs.Numbers.{labels_of}
 use Rattle.mn_vrf.specs.declared.source.Source.{Source}
 use Rattle.mn_vrf.specs.Vrf.{VrfState}
-use Rattle.mn_pe.specs.Edge.{Edge}
 use Rattle.mn_pe.specs.Held.{held_by}
 use Rattle.mn_pe.specs.Entries.{StandsAtEntry}
 use Rattle.mn_pe.specs.Pe.{PeNow, found_in}
 use Rattle.mn_routing_model.specs.Sources.{as_held}
 use Rattle.mn_routing_model.specs.Standing.{edge_in}
 use Rattle.mn_routing_model.specs.Routed.{Routed, IsRoutes, working}
-use Rattle.mn_routing_model.specs.Doing.{edge_or_blank}
 use Rattle.mn_routing_model.proofs.Home.{is_edge_of}
 use Rattle.mn_routing_model.proofs.Lawful.{finds_best}
 use Rattle.mn_routing_model.proofs.Refusing.{found}

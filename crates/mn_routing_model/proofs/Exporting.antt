@@ -1,8 +1,8 @@
 -- A VRF exports with one target more or less.
-use Rattle.std.proofs.Common.{ℕ, zero, suc, ◌≡◌, ◌≢◌, ◌+◌, ◌-◌, ◌<◌, ◌≤◌, inl, inr, Bool, true, false, cond, List, [], ◌∷◌, ◌++◌, map, filter, length, refl}
+use Rattle.std.proofs.Common.{ℕ, ◌≡◌, ◌-◌, inl, inr, Bool, true, false, cond, List, [], ◌∷◌, ◌++◌, map, filter, refl}
 use Rattle.std.proofs.Common.{sym, ◌∙◌, ap, subst, Option, Some, None}
 use Rattle.std.specs.Prelude.{◌==◌, slice_index_or}
-use Rattle.std.specs.List.{flat_map, range_with_len}
+use Rattle.std.specs.List.{flat_map}
 use Rattle.mn_base.proofs.Bools.{same_numbers}
 use Rattle.mn_base.proofs.Members.{In, in_map}
 use Rattle.mn_base.specs.declared.numbers.VrfNo.{VrfNo}
@@ -14,7 +14,7 @@ use Rattle.mn_topo.specs.declared.steps.Step.TheVariants as step
 use Rattle.mn_topo.specs.declared.steps.JournalEntry.{JournalEntry}
 use Rattle.mn_targets.specs.Targets.{target_set}
 use Rattle.mn_ledger.specs.Places.{edge_of, vrfs_at}
-use Rattle.mn_ledger.specs.World.{Config, World, Peerings, Telling}
+use Rattle.mn_ledger.specs.World.{Config, World, Peerings}
 use Rattle.mn_ledger.specs.Bgp.{peerings_after}
 use Rattle.mn_ledger.specs.Ledger.{config_after, world_of, with_target}
 use Rattle.mn_laws.proofs.There.{edge_there}
@@ -25,7 +25,7 @@ use Rattle.mn_pe.specs.Edge.{Edge, on_vrf, after_vrf}
 use Rattle.mn_pe.specs.Held.{Exported, export_at, exports_with}
 use Rattle.mn_pe.specs.Exports.{labelled, exports_by, exports_at}
 use Rattle.mn_routing_model.specs.Standing.{vrf_in, edge_in}
-use Rattle.mn_routing_model.specs.Touched.{comes, goes, by_set, told_of}
+use Rattle.mn_routing_model.specs.Touched.{comes, goes, by_set}
 use Rattle.mn_routing_model.specs.Routed.{Routed, IsRoutes}
 use Rattle.mn_routing_model.specs.Steps.{IsTurn, Did}
 use Rattle.mn_routing_model.specs.Sending.{spelled_in}
@@ -34,7 +34,7 @@ use Rattle.mn_routing_model.proofs.GoingOn.{at_vrf, heard_turn}
 use Rattle.mn_routing_model.proofs.Steps.{set_same, export_here}
 use Rattle.mn_routing_model.proofs.Home.{is_edge_of, among_edges}
 use Rattle.mn_routing_model.proofs.News.{of_vrf, comes_as, goes_as}
-use Rattle.mn_routing_model.proofs.Goes.{Brings, brings, IsOfOne, Does, was, does}
+use Rattle.mn_routing_model.proofs.Goes.{brings, IsOfOne, Does, was, does}
 
 -- 1. What the VRF exports, by its targets
 

@@ -1,7 +1,7 @@
 -- One edge is told something and has news: the routes stand for the ledger again.
-use Rattle.std.proofs.Common.{ℕ, zero, suc, ◌≡◌, ◌≢◌, ◌+◌, ◌-◌, ◌*◌, ◌<◌, ◌≤◌, inl, inr, Bool, true, false, List, [], ◌∷◌, ◌++◌, map, length, refl, arith}
-use Rattle.std.proofs.Common.{sym, ◌∙◌, ap, subst, Option, Some, None, append-nil}
-use Rattle.std.specs.Prelude.{slice_get, slice_set, slice_index_or, option_map}
+use Rattle.std.proofs.Common.{ℕ, ◌≡◌, ◌+◌, ◌-◌, ◌*◌, ◌<◌, Bool, true, List, ◌++◌, map, length, refl, arith}
+use Rattle.std.proofs.Common.{sym, ◌∙◌, ap, subst, Some}
+use Rattle.std.specs.Prelude.{slice_get, slice_set, option_map}
 use Rattle.std.specs.List.{flat_map}
 use Rattle.mn_base.proofs.Members.{In, in_flat_map}
 use Rattle.mn_wiring.specs.Wiring.{nodes_of}
@@ -15,35 +15,35 @@ use Rattle.mn_topo.specs.declared.steps.JournalEntry.{JournalEntry}
 use Rattle.mn_topo.specs.declared.steps.Damaged.TheVariants.{Undamaged}
 use Rattle.mn_bgp_wire.specs.Written.{update_bytes, announced}
 use Rattle.mn_ledger.specs.Places.{edges, loopback, vrf_at, edge_of}
-use Rattle.mn_ledger.specs.World.{Config, Peerings, World, Telling, Open, BgpKeepAlive, Announcement, Withdrawal}
-use Rattle.mn_ledger.specs.Exports.{exports_of}
-use Rattle.mn_ledger.specs.Bgp.{Told, changed, is_established, steady_peers, route_news, told_in, bgp_counted, with_told}
+use Rattle.mn_ledger.specs.World.{Config, World, Telling, Open, BgpKeepAlive, Announcement, Withdrawal}
+use Rattle.mn_ledger.specs.Bgp.{Told, is_established, steady_peers, route_news, told_in, bgp_counted, with_told}
 use Rattle.mn_ledger.specs.Turns.{IsInTurn, PeersAreInTurn}
 use Rattle.mn_ledger.specs.Ledger.{config_after, after, world_of, packets_of}
 use Rattle.mn_ledger.specs.Items.{numbered, route_of}
 use Rattle.mn_ledger.proofs.InTurn.{in_turn}
 use Rattle.mn_ledger.proofs.Refusals.{IsFree, free}
-use Rattle.mn_frames.specs.Numbers.{labels_of, labels_after}
+use Rattle.mn_frames.specs.Numbers.{labels_of}
 use Rattle.mn_timetable.specs.Keys.{keys_in, keys_on, of_routes}
 use Rattle.mn_timetable.proofs.Keys.{keys_put}
 use Rattle.mn_timetable.specs.Steps.{pushed, routes_now}
 use Rattle.mn_bgp_spelling.specs.Spelling.{Labels, as_targets, bytes_in}
 use Rattle.mn_pe.specs.Edge.{Edge}
 use Rattle.mn_pe.specs.Held.{Exported}
+use Rattle.mn_routing_model.specs.Labels.{labels_after, next_label}
 use Rattle.mn_routing_model.specs.Standing.{edge_in}
-use Rattle.mn_routing_model.specs.Whole.{RoutesNow, session_or_none, edge_or_none, routes_in, at_edge}
+use Rattle.mn_routing_model.specs.Whole.{RoutesNow, edge_or_none, routes_in, at_edge}
 use Rattle.mn_routing_model.specs.Touched.{told_of}
 use Rattle.mn_routing_model.specs.Changes.{routes_after}
-use Rattle.mn_routing_model.specs.Routed.{Routed, StandsFor, IsRoutes, working}
+use Rattle.mn_routing_model.specs.Routed.{Routed, IsRoutes, working}
 use Rattle.mn_routing_model.specs.Steps.{IsTurn}
-use Rattle.mn_routing_model.specs.Sending.{Parcel, put_all, to_all, peers_from, ends_of, spelled_in, news_in}
+use Rattle.mn_routing_model.specs.Sending.{put_all, to_all, peers_from, ends_of, spelled_in, news_in}
 use Rattle.mn_routing_model.specs.Doing.{HasEdge, Tells, edge_at}
 use Rattle.mn_routing_model.proofs.Lawful.{Rests, rests}
 use Rattle.mn_routing_model.proofs.GoingOn.{go_by}
 use Rattle.mn_routing_model.proofs.Telling.{tells_what_is_touched}
 use Rattle.mn_routing_model.proofs.Attaching.{AgreeOn, IsKnown, agrees}
 use Rattle.mn_routing_model.proofs.Flying.{parcel_of, keys_told, as_many_told, AreToNodes, FliesAs, IsHeard, flies_told, flies_alike}
-use Rattle.mn_routing_model.proofs.Steady.{node_no, peers_are, to_all_peers, news_to_nodes}
+use Rattle.mn_routing_model.proofs.Steady.{peers_are, to_all_peers, news_to_nodes}
 use Rattle.mn_routing_model.proofs.Home.{home_in, news_at_home}
 use Rattle.mn_routing_model.proofs.Placed.{set_edge, edge_is, ends_are, has_edge}
 use Rattle.mn_routing_model.proofs.Others.{then_stands}
@@ -71,29 +71,29 @@ heard_all w turn a b apart = (turn b a (λ e. apart (sym e))).heard
 
 -- the routes go by parts
 pub routes_go : (t : Network) (l : Labels) (es : List JournalEntry) (s : Step) → IsLawful t → IsTurn t es s
-    → routes_in t (labels_after t (world_of t es).config l s) (config_after (world_of t es).config s) (after t (world_of t es) s).peerings
-    ≡ routes_after t l (world_of t es) (routes_in t l (world_of t es).config (world_of t es).peerings) s
+    → routes_in t (labels_after (next_label t es) (world_of t es).config l s) (config_after (world_of t es).config s) (after t (world_of t es) s).peerings
+    ≡ routes_after t (next_label t es) l (world_of t es) (routes_in t l (world_of t es).config (world_of t es).peerings) s
 routes_go t l es s lawful turn =
     let b = brings t es s lawful turn in
-    go_by t l (world_of t es) (packets_of t es b.inputs) (length es) b.bytes s lawful b.rest b.turn turn.fitting b.ok
+    go_by t (next_label t es) l (world_of t es) (packets_of t es b.inputs) (length es) b.bytes s lawful b.rest b.turn turn.fitting b.ok
 
 -- 2. What was told is spelled as it was
 
-pub same_bytes : (t : Network) (c : Config) (l : Labels) (s : Step) (a : ℕ) (m : Telling) → IsKnown c m →
-    bytes_in t l a m ≡ bytes_in t (labels_after t c l s) a m
+pub same_bytes : (t : Network) (gives : ℕ → ℕ) (c : Config) (l : Labels) (s : Step) (a : ℕ) (m : Telling) → IsKnown c m →
+    bytes_in t l a m ≡ bytes_in t (labels_after gives c l s) a m
 unfolding AgreeOn
-same_bytes t c l (step.Attach s) a (Announcement e) h =
+same_bytes t gives c l (step.Attach s) a (Announcement e) h =
     ap (λ label. update_bytes (announced (loopback t a) (record { rd = (vrf_at t e.vrf).rd; prefix = e.prefix; label = label }) (as_targets e.targets)))
-    (sym (agrees t c l s (Announcement e) h))
-same_bytes t c l (step.Attach s) a Open h = refl
-same_bytes t c l (step.Attach s) a BgpKeepAlive h = refl
-same_bytes t c l (step.Attach s) a (Withdrawal v p) h = refl
-same_bytes t c l _ a m h = refl
+    (sym (agrees t gives c l s (Announcement e) h))
+same_bytes t gives c l (step.Attach s) a Open h = refl
+same_bytes t gives c l (step.Attach s) a BgpKeepAlive h = refl
+same_bytes t gives c l (step.Attach s) a (Withdrawal v p) h = refl
+same_bytes t gives c l _ a m h = refl
 
-pub flies_now : (t : Network) (l : Labels) (w : World) (s : Step) (messages : List (Item (List ℕ))) → Rests t w → FliesAs t l w.peerings messages →
-    FliesAs t (labels_after t w.config l s) w.peerings messages
-flies_now t l w s messages rest flies =
-    flies_alike t l (labels_after t w.config l s) w.peerings messages (λ a b m i. same_bytes t w.config l s a m (rest.sound a b m i).1) flies
+pub flies_now : (t : Network) (gives : ℕ → ℕ) (l : Labels) (w : World) (s : Step) (messages : List (Item (List ℕ))) → Rests t w → FliesAs t l w.peerings messages →
+    FliesAs t (labels_after gives w.config l s) w.peerings messages
+flies_now t gives l w s messages rest flies =
+    flies_alike t l (labels_after gives w.config l s) w.peerings messages (λ a b m i. same_bytes t gives w.config l s a m (rest.sound a b m i).1) flies
 
 -- 3. The whole
 
@@ -128,7 +128,7 @@ pub record IsOfOne (t : Network) (l : Labels) (es : List JournalEntry) (s : Step
   pub home : edge_of t vrf ≡ home_in t s
   pub edge : is_edge t.vrfs (home_in t s) ≡ true
   pub among : In (edges t) (home_in t s)
-  pub changes : routes_after t l (world_of t es) (routes_in t l (world_of t es).config (world_of t es).peerings) s ≡ at_edge (home_in t s) f
+  pub changes : routes_after t (next_label t es) l (world_of t es) (routes_in t l (world_of t es).config (world_of t es).peerings) s ≡ at_edge (home_in t s) f
       (routes_in t l (world_of t es).config (world_of t es).peerings)
   pub quiet : bgp_counted (world_of t es).peerings s ≡ (world_of t es).peerings
   pub told : (after t (world_of t es) s).peerings ≡ with_told (bgp_counted (world_of t es).peerings s) (tolds t (world_of t es) s)
@@ -148,7 +148,7 @@ module _ (t : Network) (lawful : IsLawful t) (es : List JournalEntry) (s : Step)
   w = world_of t es
 
   abbrev later : Labels
-  later = labels_after t w.config l s
+  later = labels_after (next_label t es) w.config l s
 
   module _ (f : Edge → Edge) (one : IsOfOne t l es s f) where
     home_below : home_in t s < length t.loopbacks
@@ -202,7 +202,7 @@ module _ (t : Network) (lawful : IsLawful t) (es : List JournalEntry) (s : Step)
                 subst (λ p. FliesAs t later p new.messages) (sym (one.told ∙ ap (λ p. with_told p (tolds t w s)) one.quiet))
                 (subst (FliesAs t later (with_told w.peerings (tolds t w s))) (sym put)
                 (flies_told t later w.peerings (tick + t.bgp_delay) number (tolds t w s) old.messages (heard_all w b.turn.bgp) to_nodes
-                (flies_now t l w s old.messages b.rest stands.messages)));
+                (flies_now t (next_label t es) l w s old.messages b.rest stands.messages)));
           });
           keys = keys_then t later tick number (tolds t w s) old.messages new.messages put
               ∙ ap (λ xs. keys_in old.messages ++ keys_on (of_routes (length t.loopbacks)) (numbered t tick number xs)) (sym one.now);

@@ -26,9 +26,10 @@ use Rattle.mn_ledger.proofs.Peers.{live_sym}
 use Rattle.mn_ledger.proofs.InTurn.{in_order, in_turn, rows}
 use Rattle.mn_ledger.proofs.Refusals.{IsFree, free}
 use Rattle.mn_laws.proofs.There.{edge_there, home_there}
-use Rattle.mn_frames.specs.Numbers.{labels_after, labels_of}
-use Rattle.mn_frames.proofs.Anew.{table_grows}
+use Rattle.mn_frames.specs.Numbers.{labels_of}
 use Rattle.mn_bgp_spelling.specs.Spelling.{Labels}
+use Rattle.mn_routing_model.proofs.Growing.{table_grows}
+use Rattle.mn_routing_model.specs.Labels.{labels_after, next_label}
 use Rattle.mn_routing_model.specs.Whole.{routes_in}
 use Rattle.mn_routing_model.specs.Changes.{routes_after, GoByParts}
 use Rattle.mn_routing_model.proofs.Hearing.{IsInTurn as HeardInTurn}
@@ -86,19 +87,19 @@ static_there s p xs bad false e h = absurd (let none : Some bad ≡ None → ⊥
 pub next_there : (heard told : ℕ) → nat_le told heard ≡ false → heard < told
 next_there heard told h = grind (arith, nat_tests, h)
 
-pub go_by : (t : Network) (l : Labels) (w : World) (k : Packets) (n : ℕ) (b : List ℕ) (s : Step) → IsLawful t → Rests t w → IsInTurn t w → fits t s ≡ true →
+pub go_by : (t : Network) (gives : ℕ → ℕ) (l : Labels) (w : World) (k : Packets) (n : ℕ) (b : List ℕ) (s : Step) → IsLawful t → Rests t w → IsInTurn t w → fits t s ≡ true →
     IsFree t w k n s b
-    → routes_in t (labels_after t w.config l s) (config_after w.config s) (peerings_after t w.config (config_after w.config s) w.peerings s)
-    ≡ routes_after t l w (routes_in t l w.config w.peerings) s
+    → routes_in t (labels_after gives w.config l s) (config_after w.config s) (peerings_after t w.config (config_after w.config s) w.peerings s)
+    ≡ routes_after t gives l w (routes_in t l w.config w.peerings) s
 unfolding peerings_after
-go_by t l w k n b (step.BgpUp x y) lawful h turn fit ok =
+go_by t gives l w k n b (step.BgpUp x y) lawful h turn fit ok =
     let first : x.0 < y.0 = in_order t (step.BgpUp x y) fit in
     let below = two_below t x.0 y.0 (nat_lt x.0 y.0) lawful fit in
     let off : peers_live w.config x.0 y.0 ≡ false = live_off w.config x.0 y.0 first ok.changes in
     up_whole t l w.config w.peerings x y first below.1 off (sym (live_sym w.config x.0 y.0 (λ e. omega (arith, first, e))) ∙ off) (heard_turn w turn.bgp)
-go_by t l w k n b (step.BgpDown x y) lawful h turn fit ok =
+go_by t gives l w k n b (step.BgpDown x y) lawful h turn fit ok =
     down_whole t l w.config w.peerings x y (in_order t (step.BgpDown x y) fit) (two_below t x.0 y.0 (nat_lt x.0 y.0) lawful fit).1 (heard_turn w turn.bgp)
-go_by t l w k n b (step.HearBgp x y) lawful h turn fit ok =
+go_by t gives l w k n b (step.HearBgp x y) lawful h turn fit ok =
     let apart : x.0 ≢ y.0 = in_order t (step.HearBgp x y) fit in
     let below = two_below t x.0 y.0 (not (x.0 == y.0)) lawful fit in
     let parts = or_off (not (peers_live w.config x.0 y.0)) (nat_le (length (w.peerings.told x.0 y.0)) (w.peerings.heard y.0 x.0)) ok.there in
@@ -106,27 +107,27 @@ go_by t l w k n b (step.HearBgp x y) lawful h turn fit ok =
     let more : w.peerings.heard y.0 x.0 < length (w.peerings.told x.0 y.0) = next_there (w.peerings.heard y.0 x.0) (length (w.peerings.told x.0 y.0)) parts.1 in
     hears_whole t l w.config w.peerings x y apart below.0 below.1 alive more ((rows t w lawful turn).bgp y.0 x.0 (λ e. apart (sym e)) alive more)
     (heard_turn w turn.bgp)
-go_by t l w k n b (step.AddRoute s p) lawful h turn fit ok =
+go_by t gives l w k n b (step.AddRoute s p) lawful h turn fit ok =
     add_whole t l w.config w.peerings s p (home_there t s.0 lawful (at_site t s.0 p fit)) (heard_turn w turn.bgp)
-go_by t l w k n b (step.DelRoute s p) lawful h turn fit ok =
+go_by t gives l w k n b (step.DelRoute s p) lawful h turn fit ok =
     del_whole t l w.config w.peerings s p (home_there t s.0 lawful (at_site t s.0 p fit)) (heard_turn w turn.bgp) h.statics
     (static_there s.0 p w.config.statics NoRouteThere (list_any (is_static s.0 p) w.config.statics) refl ok.statics)
-go_by t l w k n b (step.Import v target on) lawful h turn fit ok =
+go_by t gives l w k n b (step.Import v target on) lawful h turn fit ok =
     import_whole t l w.config w.peerings v target on (edge_there t v.0 lawful (at_vrf t v.0 target.0 fit)) (heard_turn w turn.bgp)
-go_by t l w k n b (step.Export v target on) lawful h turn fit ok =
+go_by t gives l w k n b (step.Export v target on) lawful h turn fit ok =
     export_whole t l w.config w.peerings v target on (edge_there t v.0 lawful (at_vrf t v.0 target.0 fit)) (heard_turn w turn.bgp)
-go_by t l w k n b (step.Attach s) lawful h turn fit ok =
+go_by t gives l w k n b (step.Attach s) lawful h turn fit ok =
     let there : s.0 < length t.sites = less_tells s.0 (length t.sites) fit in
-    attach_whole t l w.config w.peerings s (home_there t s.0 lawful there) there (heard_turn w turn.bgp) (λ teller peer m i. (h.sound teller peer m i).1)
-go_by t l w k n b (step.Detach s) lawful h turn fit ok =
+    attach_whole t gives l w.config w.peerings s (home_there t s.0 lawful there) there (heard_turn w turn.bgp) (λ teller peer m i. (h.sound teller peer m i).1)
+go_by t gives l w k n b (step.Detach s) lawful h turn fit ok =
     let there : s.0 < length t.sites = less_tells s.0 (length t.sites) fit in
     detach_whole t l w.config w.peerings s (home_there t s.0 lawful there) there (heard_turn w turn.bgp)
-go_by t l w k n b _ lawful h turn fit ok = refl
+go_by t gives l w k n b _ lawful h turn fit ok = refl
 
 pub goes_by_parts : GoByParts
 goes_by_parts t es ps e b lawful journal fit none =
     let w : World = world_of t es in
     ap (λ (v : World). routes_in t (labels_of t (es ++ e ∷ [])) v.config v.peerings) (world_from-push t es (start t) e)
     ∙ ap (λ l. routes_in t l (config_after w.config e.step) (peerings_after t w.config (config_after w.config e.step) w.peerings e.step)) (table_grows t es e)
-    ∙ go_by t (labels_of t es) w (packets_of t es ps) (length es) b e.step lawful (rests t es ps lawful journal) (in_turn t es ps lawful journal) fit
+    ∙ go_by t (next_label t es) (labels_of t es) w (packets_of t es ps) (length es) b e.step lawful (rests t es ps lawful journal) (in_turn t es ps lawful journal) fit
     (free t w (packets_of t es ps) (length es) e.step b none)

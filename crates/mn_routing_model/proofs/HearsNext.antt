@@ -1,61 +1,56 @@
 -- An edge hears the next message of a peer.
 use Rattle.std.proofs.Common.{ℕ, zero, suc, ◌≡◌, ◌≢◌, ◌+◌, ◌-◌, ◌*◌, ◌<◌, ◌≤◌, ◌⊎◌, inl, inr, Bool, true, false, cond, not, List, [], ◌∷◌, ◌++◌, map}
-use Rattle.std.proofs.Common.{filter, length, drop, refl, arith, sym, ◌∙◌, ap, subst, Option, Some, None, append-nil, Ok, add-one}
-use Rattle.std.specs.Prelude.{◌==◌, ◌&&◌, ◌||◌, nat_le, slice_get, slice_set, slice_index_or, option_map, if◌then◌else◌, ⊤}
-use Rattle.std.specs.List.{Contains, flat_map}
+use Rattle.std.proofs.Common.{filter, length, drop, refl, arith, sym, ◌∙◌, ap, subst, Option, Some, None, append-nil, add-one}
+use Rattle.std.specs.Prelude.{◌==◌, ◌&&◌, nat_le, slice_get, slice_set, slice_index_or, option_map, if◌then◌else◌}
+use Rattle.std.specs.List.{Contains}
 use Rattle.std.proofs.lemmas.Bool.Decides.{eqb_tells}
 use Rattle.std.proofs.lemmas.List.{map-append}
-use Rattle.mn_base.proofs.Bools.{no, and_left, and_right, or_off, not_false, other_test, same_numbers}
+use Rattle.mn_base.proofs.Bools.{no, and_left, and_right, or_off, not_false}
 use Rattle.mn_base.proofs.Members.{In, in_map, contained_in}
-use Rattle.mn_wiring.specs.Wiring.{nodes_of}
 use Rattle.mn_base.specs.declared.numbers.NodeNo.{NodeNo}
 use Rattle.mn_states.specs.declared.states.BgpState.{BgpState}
 use Rattle.mn_states.specs.declared.states.BgpState.TheVariants.{Idle, OpenSent, OpenConfirm, Established}
 use Rattle.mn_flight.specs.declared.Item.{Item}
 use Rattle.mn_flight.specs.Flying.{IsFlight, on_channel, without}
-use Rattle.mn_topo.specs.Network.{Network, wiring_of}
+use Rattle.mn_topo.specs.Network.{Network}
 use Rattle.mn_topo.specs.Lawful.{IsLawful}
 use Rattle.mn_topo.specs.VrfTable.{is_edge}
 use Rattle.mn_topo.specs.declared.steps.Step.{Step}
 use Rattle.mn_topo.specs.declared.steps.Step.TheVariants as step
 use Rattle.mn_topo.specs.declared.steps.JournalEntry.{JournalEntry}
 use Rattle.mn_bgp_wire.specs.declared.message.BgpMessage.{BgpMessage}
-use Rattle.mn_bgp_wire.specs.declared.message.BgpMessage.TheVariants as message
 use Rattle.mn_bgp_wire.specs.Grammar.{IsBgp}
 use Rattle.mn_bgp_wire.specs.Says.{Says}
-use Rattle.mn_bgp_session.specs.declared.session.BgpSession.{BgpSession}
 use Rattle.mn_bgp_session.specs.declared.table.BgpReply.{BgpReply}
 use Rattle.mn_bgp_session.specs.Table as table
 use Rattle.mn_ledger.specs.Tables.{put_pair}
-use Rattle.mn_ledger.specs.Places.{edges, loopback}
-use Rattle.mn_ledger.specs.World.{Config, Peerings, World, Telling, Open, BgpKeepAlive, Announcement, Withdrawal, Export}
-use Rattle.mn_ledger.specs.Bgp.{Told, told_to, told_in, bgp_counted, with_told, peerings_after, peers_live, bgp_state_of, reply}
+use Rattle.mn_ledger.specs.World.{World, Telling, Open, BgpKeepAlive, Announcement, Withdrawal, Export}
+use Rattle.mn_ledger.specs.Bgp.{Told, told_to, bgp_counted, with_told, peerings_after, peers_live, bgp_state_of, reply}
 use Rattle.mn_ledger.specs.Exports as ledger_exports
-use Rattle.mn_ledger.specs.Ledger.{config_after, after, world_of}
+use Rattle.mn_ledger.specs.Ledger.{after, world_of}
 use Rattle.mn_ledger.specs.Items.{numbered, route_of}
 use Rattle.mn_ledger.proofs.GoingBy.{pair_here, pair_off}
 use Rattle.mn_ledger.proofs.InTurn.{in_order}
 use Rattle.mn_ledger.proofs.Peers.{live_sym}
 use Rattle.mn_ledger.proofs.Tidy.{sets_rise}
 use Rattle.mn_frames.specs.Numbers.{labels_of}
-use Rattle.mn_timetable.specs.Keys.{keys_in, keys_on, of_routes, key_without}
+use Rattle.mn_timetable.specs.Keys.{keys_in, keys_on, of_routes}
 use Rattle.mn_timetable.proofs.Keys.{key_taken}
 use Rattle.mn_timetable.proofs.OtherKeys.{pair_one}
-use Rattle.mn_timetable.specs.Steps.{pushed, routes_now}
+use Rattle.mn_timetable.specs.Steps.{pushed}
 use Rattle.mn_bgp_spelling.specs.Spelling.{Labels, bytes_in, message_in, session_in}
 use Rattle.mn_bgp_spelling.specs.Laws.{next_of, IsComing, AreLabels}
 use Rattle.mn_bgp_spelling.proofs.Coming as coming
 use Rattle.mn_bgp_spelling.proofs.Writable.{writable}
 use Rattle.mn_pe.specs.Edge.{Edge, after_message}
 use Rattle.mn_pe.specs.Held.{Exported, exports_of}
-use Rattle.mn_pe.specs.Pe.{PeNow, AreLabelled}
 use Rattle.mn_routing_model.specs.Standing.{edge_in}
-use Rattle.mn_routing_model.specs.Whole.{RoutesNow, routes_in, session_or_none, at_edge, update_of}
-use Rattle.mn_routing_model.specs.Routed.{Routed, IsRoutes, StandsFor, working, bytes_on, unheard}
+use Rattle.mn_routing_model.specs.Whole.{RoutesNow, routes_in, session_or_none, update_of}
+use Rattle.mn_routing_model.specs.Routed.{Routed, IsRoutes, working, bytes_on, unheard}
 use Rattle.mn_routing_model.specs.Steps.{IsTurn, MayDo, Did}
-use Rattle.mn_routing_model.specs.Sending.{Parcel, put_all, to_all, spelled_in, news_to, ends_of}
-use Rattle.mn_routing_model.specs.Doing.{HasEdge, Puts, edge_at, with_edge, with_end, next_on, taken, channel_from, Takes, MayHear, CanHear, AreLabelledIn}
-use Rattle.mn_routing_model.specs.Doing.{heard_in, answers_in, Hears, AreSayable}
+use Rattle.mn_routing_model.specs.Sending.{Parcel, put_all, to_all, spelled_in, news_to}
+use Rattle.mn_routing_model.specs.Doing.{HasEdge, edge_at, next_on, taken, channel_from, MayHear, CanHear, AreLabelledIn}
+use Rattle.mn_routing_model.specs.Doing.{answers_in, Hears, AreSayable}
 use Rattle.mn_routing_model.proofs.GoingOn.{two_below, next_there}
 use Rattle.mn_routing_model.proofs.Told.{nothing_changed}
 use Rattle.mn_routing_model.proofs.Flying.{parcel_of, AreToNodes, FliesAs, IsHeard, flies_told}
@@ -67,7 +62,7 @@ use Rattle.mn_routing_model.proofs.News.{announced_told}
 use Rattle.mn_routing_model.proofs.Others.{then_stands}
 use Rattle.mn_flight.proofs.OnChannels.{left_on, left_off, without_at}
 use Rattle.mn_routing_model.proofs.Sayable.{all_fits, all_sayable}
-use Rattle.mn_routing_model.proofs.Goes.{Brings, brings, routes_go, heard_all, tolds, keys_then, count_then}
+use Rattle.mn_routing_model.proofs.Goes.{brings, routes_go, heard_all, tolds, keys_then, count_then}
 
 -- 1. What the session answers, in parcels
 

@@ -1,8 +1,7 @@
 -- An import is told to nobody.
-use Rattle.std.proofs.Common.{ℕ, ◌≡◌, ◌+◌, ◌-◌, ◌<◌, Bool, true, false, List, [], ◌∷◌, ◌++◌, map, length, refl, sym, ◌∙◌, ap, subst, Option, Some, None}
+use Rattle.std.proofs.Common.{ℕ, ◌≡◌, ◌+◌, Bool, List, [], ◌++◌, map, length, refl, sym, ◌∙◌, ap, subst, Some}
 use Rattle.std.proofs.Common.{append-nil}
 use Rattle.std.specs.Prelude.{slice_get, slice_set, option_map}
-use Rattle.std.specs.List.{flat_map}
 use Rattle.mn_wiring.specs.Wiring.{nodes_of}
 use Rattle.mn_base.specs.declared.numbers.VrfNo.{VrfNo}
 use Rattle.mn_base.specs.declared.numbers.Rt.{Rt}
@@ -12,14 +11,14 @@ use Rattle.mn_topo.specs.declared.steps.Step.{Step}
 use Rattle.mn_topo.specs.declared.steps.Step.TheVariants as step
 use Rattle.mn_topo.specs.declared.steps.JournalEntry.{JournalEntry}
 use Rattle.mn_ledger.specs.Places.{edge_of}
-use Rattle.mn_ledger.specs.World.{World, Peerings}
-use Rattle.mn_ledger.specs.Bgp.{Told, peerings_after, with_told, tellings_of}
+use Rattle.mn_ledger.specs.World.{World}
+use Rattle.mn_ledger.specs.Bgp.{peerings_after, with_told}
 use Rattle.mn_ledger.specs.Ledger.{config_after, after, world_of}
 use Rattle.mn_ledger.specs.Items.{numbered, route_of}
 use Rattle.mn_laws.proofs.There.{edge_there}
 use Rattle.mn_frames.specs.Numbers.{labels_of}
 use Rattle.mn_timetable.specs.Keys.{keys_in, keys_on, of_routes}
-use Rattle.mn_timetable.specs.Steps.{pushed, routes_now}
+use Rattle.mn_timetable.specs.Steps.{pushed}
 use Rattle.mn_bgp_spelling.specs.Spelling.{Labels}
 use Rattle.mn_targets.specs.Targets.{target_set}
 use Rattle.mn_vrf.specs.Vrf.{with_imports}
@@ -34,7 +33,7 @@ use Rattle.mn_routing_model.proofs.Flying.{FliesAs, flies_told}
 use Rattle.mn_routing_model.proofs.Home.{is_edge_of, no_news}
 use Rattle.mn_routing_model.proofs.Placed.{set_edge, has_edge}
 use Rattle.mn_routing_model.proofs.Others.{then_stands}
-use Rattle.mn_routing_model.proofs.Goes.{Brings, brings, routes_go, heard_all, tolds}
+use Rattle.mn_routing_model.proofs.Goes.{brings, routes_go, heard_all, tolds}
 
 module _ (t : Network) (lawful : IsLawful t) (tick number : ℕ) (old new : Routed) (v : VrfNo) (target : Rt) (on : Bool) where
   abbrev importing : Step

@@ -30,7 +30,7 @@ use Rattle.mn_base.proofs.Bools.{and_left, no}
 use Rattle.mn_topo.specs.SiteTable.{is_lawful_prefix}
 use Rattle.mn_ledger.specs.Held.{best}
 use Rattle.mn_ledger.specs.Held as ledger_held
-use Rattle.mn_ledger.specs.Packets.{Packets, packets_after}
+use Rattle.mn_ledger.specs.Packets.{Packets}
 use Rattle.mn_ledger.specs.Lawful.{IsLawfulFrom, IsLawfulJournal}
 use Rattle.mn_ledger.specs.Places.{edge_of}
 use Rattle.mn_topo.specs.Lawful.{IsLawful, is_vrf_of}

@@ -19,6 +19,8 @@ pub mod GoingOn
 pub mod Telling
 pub mod Flying
 pub mod Steady
+pub mod Growing
+pub mod TwentyBits
 pub mod Others
 pub mod Home
 pub mod Matching

@@ -1,7 +1,7 @@
 -- What the code makes of the ends of a session.
-use Rattle.std.proofs.Common.{ℕ, zero, suc, ◌≡◌, ◌≢◌, ◌+◌, ◌*◌, ◌<◌, Bool, true, false, not, List, [], ◌∷◌, ◌++◌, length, refl, arith, sym, ◌∙◌, ap, subst}
+use Rattle.std.proofs.Common.{ℕ, zero, suc, ◌≡◌, ◌≢◌, ◌+◌, ◌*◌, ◌<◌, not, List, [], ◌∷◌, ◌++◌, length, refl, arith, sym, ◌∙◌, ap, subst}
 use Rattle.std.proofs.Common.{append_assoc, Option, Some, None, Result, Ok, Err}
-use Rattle.std.specs.Prelude.{◌==◌, IfOk, slice_get, slice_set, slice_index_or}
+use Rattle.std.specs.Prelude.{◌==◌, IfOk, slice_get, slice_set}
 use Rattle.std.specs.List.{All}
 use Rattle.std.proofs.lemmas.List.{length-append}
 use Rattle.std.proofs.lemmas.List.Elements.{All-filter}
@@ -14,7 +14,7 @@ use Rattle.mn_pe.specs.Pe.{PeNow}
 use Rattle.mn_routing_model.specs.Whole.{opened}
 use Rattle.mn_routing_model.specs.Routed.{Routed, working}
 use Rattle.mn_routing_model.specs.Sending.{Parcel, put_all}
-use Rattle.mn_routing_model.specs.Doing.{HasEdge, Puts, Opens, Ends, cut, open_to, with_end, with_edge, forgotten, edge_at, edge_or_blank}
+use Rattle.mn_routing_model.specs.Doing.{Puts, Opens, Ends, cut, open_to, with_end, forgotten, edge_at, edge_or_blank}
 use Rattle.mn_routing_model.proofs.Putting.{put_more}
 use Rattle.mn_routing_model.proofs.Turning.{get_other, index_other}
 

@@ -1,5 +1,5 @@
 -- A step of another part leaves the routes as they are.
-use Rattle.std.proofs.Common.{ℕ, ◌≡◌, true, false, List, sym, ◌∙◌, ap, subst}
+use Rattle.std.proofs.Common.{ℕ, ◌≡◌, false, List, sym, subst}
 use Rattle.mn_topo.specs.Network.{Network}
 use Rattle.mn_topo.specs.declared.steps.Step.{Step}
 use Rattle.mn_topo.specs.declared.steps.Step.TheVariants as step
@@ -9,10 +9,11 @@ use Rattle.mn_ledger.specs.World.{World}
 use Rattle.mn_ledger.specs.Bgp.{peerings_after}
 use Rattle.mn_ledger.specs.Ledger.{after, start, world_of}
 use Rattle.mn_ledger.proofs.More.{world_from-push}
-use Rattle.mn_frames.specs.Numbers.{labels_of, labels_after}
-use Rattle.mn_frames.proofs.Anew.{table_grows}
+use Rattle.mn_frames.specs.Numbers.{labels_of}
 use Rattle.mn_bgp_spelling.specs.Spelling.{Labels}
 use Rattle.mn_timetable.specs.Steps.{pushed}
+use Rattle.mn_routing_model.proofs.Growing.{table_grows}
+use Rattle.mn_routing_model.specs.Labels.{labels_after, next_label}
 use Rattle.mn_routing_model.specs.Routed.{Routed, StandsFor, IsRoutes}
 use Rattle.mn_routing_model.specs.Steps.{is_its, StayAsTheyWere}
 
@@ -21,28 +22,28 @@ pub world_then : (t : Network) (es : List JournalEntry) (tick : ℕ) (s : Step) 
 world_then t es tick s = world_from-push t es (start t) (record { tick = tick; step = s; damaged = Undamaged })
 
 pub labels_then : (t : Network) (es : List JournalEntry) (tick : ℕ) (s : Step) →
-    labels_of t (pushed es tick s) ≡ labels_after t (world_of t es).config (labels_of t es) s
+    labels_of t (pushed es tick s) ≡ labels_after (next_label t es) (world_of t es).config (labels_of t es) s
 labels_then t es tick s = table_grows t es (record { tick = tick; step = s; damaged = Undamaged })
 
 pub then_stands : (t : Network) (es : List JournalEntry) (tick : ℕ) (s : Step) (routed : Routed) →
-    StandsFor t (labels_after t (world_of t es).config (labels_of t es) s) (after t (world_of t es) s) routed → IsRoutes t (pushed es tick s) routed
+    StandsFor t (labels_after (next_label t es) (world_of t es).config (labels_of t es) s) (after t (world_of t es) s) routed → IsRoutes t (pushed es tick s) routed
 then_stands t es tick s routed h =
     subst (λ l. StandsFor t l (world_of t (pushed es tick s)) routed) (sym (labels_then t es tick s))
-    (subst (λ w. StandsFor t (labels_after t (world_of t es).config (labels_of t es) s) w routed) (sym (world_then t es tick s)) h)
+    (subst (λ w. StandsFor t (labels_after (next_label t es) (world_of t es).config (labels_of t es) s) w routed) (sym (world_then t es tick s)) h)
 
-still : (t : Network) (l : Labels) (w : World) (s : Step) (routed : Routed) → is_its s ≡ false → StandsFor t l w routed →
-    StandsFor t (labels_after t w.config l s) (after t w s) routed
+still : (t : Network) (gives : ℕ → ℕ) (l : Labels) (w : World) (s : Step) (routed : Routed) → is_its s ≡ false → StandsFor t l w routed →
+    StandsFor t (labels_after gives w.config l s) (after t w s) routed
 unfolding peerings_after
-still t l w (step.LinkUp k) routed e h = record { works = h.works; edges = h.edges; sessions = h.sessions; messages = h.messages }
-still t l w (step.LinkDown k) routed e h = record { works = h.works; edges = h.edges; sessions = h.sessions; messages = h.messages }
-still t l w (step.LdpAdmin k on) routed e h = record { works = h.works; edges = h.edges; sessions = h.sessions; messages = h.messages }
-still t l w (step.Learn n k) routed e h = record { works = h.works; edges = h.edges; sessions = h.sessions; messages = h.messages }
-still t l w (step.HearLdp k d) routed e h = record { works = h.works; edges = h.edges; sessions = h.sessions; messages = h.messages }
-still t l w (step.Inject s k) routed e h = record { works = h.works; edges = h.edges; sessions = h.sessions; messages = h.messages }
-still t l w (step.Carry k d n) routed e h = record { works = h.works; edges = h.edges; sessions = h.sessions; messages = h.messages }
-still t l w (step.Lose k d n) routed e h = record { works = h.works; edges = h.edges; sessions = h.sessions; messages = h.messages }
-still t l w (step.Tick ticks) routed e h = record { works = h.works; edges = h.edges; sessions = h.sessions; messages = h.messages }
-still t l w _ routed e h = cc
+still t gives l w (step.LinkUp k) routed e h = record { works = h.works; edges = h.edges; sessions = h.sessions; messages = h.messages }
+still t gives l w (step.LinkDown k) routed e h = record { works = h.works; edges = h.edges; sessions = h.sessions; messages = h.messages }
+still t gives l w (step.LdpAdmin k on) routed e h = record { works = h.works; edges = h.edges; sessions = h.sessions; messages = h.messages }
+still t gives l w (step.Learn n k) routed e h = record { works = h.works; edges = h.edges; sessions = h.sessions; messages = h.messages }
+still t gives l w (step.HearLdp k d) routed e h = record { works = h.works; edges = h.edges; sessions = h.sessions; messages = h.messages }
+still t gives l w (step.Inject s k) routed e h = record { works = h.works; edges = h.edges; sessions = h.sessions; messages = h.messages }
+still t gives l w (step.Carry k d n) routed e h = record { works = h.works; edges = h.edges; sessions = h.sessions; messages = h.messages }
+still t gives l w (step.Lose k d n) routed e h = record { works = h.works; edges = h.edges; sessions = h.sessions; messages = h.messages }
+still t gives l w (step.Tick ticks) routed e h = record { works = h.works; edges = h.edges; sessions = h.sessions; messages = h.messages }
+still t gives l w _ routed e h = cc
 
 pub stay : StayAsTheyWere
-stay t es tick s routed lawful other h = then_stands t es tick s routed (still t (labels_of t es) (world_of t es) s routed other h)
+stay t es tick s routed lawful other h = then_stands t es tick s routed (still t (next_label t es) (labels_of t es) (world_of t es) s routed other h)

@@ -1,5 +1,5 @@
 -- Each routing step changes the routes of a network as it changes its edges and its sessions.
-use Rattle.std.proofs.Common.{ℕ, ◌+◌, ◌≡◌, ◌≢◌, ◌<◌, ◌⊎◌, inl, inr, Bool, true, false, List, [], map, length, refl, arith, sym, ◌∙◌, ap, Option, Some, None}
+use Rattle.std.proofs.Common.{ℕ, ◌≡◌, ◌≢◌, ◌<◌, ◌⊎◌, inl, inr, Bool, true, false, List, [], map, length, refl, arith, sym, ◌∙◌, ap, Option, Some, None}
 use Rattle.std.specs.Prelude.{if◌then◌else◌, option_map}
 use Rattle.mn_base.proofs.Bools.{less_is, not_less}
 use Rattle.mn_base.specs.declared.numbers.NodeNo.{NodeNo}
@@ -18,16 +18,15 @@ use Rattle.mn_ledger.specs.Places.{loopback, edge_of, home_of, vrf_of}
 use Rattle.mn_ledger.specs.World.{Config, Peerings}
 use Rattle.mn_ledger.specs.Bgp.{peers_live, state_heard, bgp_restarted, told_in, with_told, peerings_after}
 use Rattle.mn_ledger.specs.Ledger.{config_after}
-use Rattle.mn_ledger.specs.Refusal.{labels_given}
 use Rattle.mn_ledger.proofs.Members.{In}
 use Rattle.mn_ledger.proofs.Statics.{HasStatics}
-use Rattle.mn_frames.specs.Numbers.{labels_after}
 use Rattle.mn_ledger.proofs.GoingBy.{pair_here, pair_off}
 use Rattle.mn_bgp_session.specs.declared.session.BgpSession.{BgpSession}
 use Rattle.mn_bgp_spelling.specs.Spelling.{Labels}
 use Rattle.mn_targets.specs.Targets.{target_set}
 use Rattle.mn_vrf.specs.Vrf.{with_imports, with_exports, with_static, without_static}
 use Rattle.mn_pe.specs.Edge.{Edge, after_vrf, after_forget, after_attach, after_detach}
+use Rattle.mn_routing_model.specs.Labels.{labels_after}
 use Rattle.mn_routing_model.specs.Standing.{edge_in}
 use Rattle.mn_routing_model.specs.Whole.{RoutesNow, edge_or_none, session_or_none, routes_in, at_edge, after_opening, after_ending}
 use Rattle.mn_routing_model.proofs.Tables.{map_same, set_by, one_set, two_set}
@@ -109,16 +108,16 @@ del_whole t l c p s prefix below turn has there =
     (λ now. after_vrf now (vrf_of t s.0) (without_static (record { prefix = prefix; site = s.0 }))) below
     (del_here t c s prefix l p (home_of t s.0) turn has there) (λ x d. del_off t c s prefix l p x d turn has there) (λ n m. refl)
 
-pub attach_whole : (t : Network) (l : Labels) (c : Config) (p : Peerings) (s : SiteNo) → home_of t s.0 < length t.loopbacks → s.0 < length t.sites →
+pub attach_whole : (t : Network) (gives : ℕ → ℕ) (l : Labels) (c : Config) (p : Peerings) (s : SiteNo) → home_of t s.0 < length t.loopbacks → s.0 < length t.sites →
     IsInTurn p → AllKnown c p
-    → routes_in t (labels_after t c l (step.Attach s)) (config_after c (step.Attach s)) (peerings_after t c (config_after c (step.Attach s)) p (step.Attach s))
-    ≡ at_edge (home_of t s.0) (λ now. after_attach now s.0 (16 + labels_given t c (home_of t s.0))) (routes_in t l c p)
+    → routes_in t (labels_after gives c l (step.Attach s)) (config_after c (step.Attach s)) (peerings_after t c (config_after c (step.Attach s)) p (step.Attach s))
+    ≡ at_edge (home_of t s.0) (λ now. after_attach now s.0 (gives s.0)) (routes_in t l c p)
 unfolding peerings_after
-attach_whole t l c p s below there turn known =
+attach_whole t gives l c p s below there turn known =
     let done : Step = step.Attach s in
-    one_edge t l (labels_after t c l done) c (config_after c done) p (peerings_after t c (config_after c done) p done) (home_of t s.0)
-    (λ now. after_attach now s.0 (16 + labels_given t c (home_of t s.0))) below
-    (attach_here t l c p s turn known there) (λ x d. attach_off t l c p s turn known x d) (λ n m. refl)
+    one_edge t l (labels_after gives c l done) c (config_after c done) p (peerings_after t c (config_after c done) p done) (home_of t s.0)
+    (λ now. after_attach now s.0 (gives s.0)) below
+    (attach_here t gives l c p s turn known there) (λ x d. attach_off t gives l c p s turn known x d) (λ n m. refl)
 
 pub detach_whole : (t : Network) (l : Labels) (c : Config) (p : Peerings) (s : SiteNo) → home_of t s.0 < length t.loopbacks → s.0 < length t.sites → IsInTurn p
     → routes_in t l (config_after c (step.Detach s)) (peerings_after t c (config_after c (step.Detach s)) p (step.Detach s))

@@ -1,5 +1,5 @@
 -- The edge of a number, and what a change of it makes of the whole.
-use Rattle.std.proofs.Common.{ℕ, zero, suc, ◌≡◌, ◌≢◌, ◌+◌, ◌<◌, inl, inr, Bool, true, false, List, [], ◌∷◌, map, length, refl, arith, sym, ◌∙◌, ap, subst}
+use Rattle.std.proofs.Common.{ℕ, zero, suc, ◌≡◌, ◌+◌, ◌<◌, true, List, [], ◌∷◌, map, length, refl, arith, sym, ◌∙◌, ap}
 use Rattle.std.proofs.Common.{Option, Some, None}
 use Rattle.std.specs.Prelude.{slice_get, slice_set, slice_index_or, option_map, if◌then◌else◌}
 use Rattle.std.specs.List.{range_with_len}
@@ -7,13 +7,12 @@ use Rattle.std.proofs.lemmas.List.{length-map}
 use Rattle.mn_wiring.specs.Wiring.{nodes_of}
 use Rattle.mn_topo.specs.Network.{Network, wiring_of}
 use Rattle.mn_topo.specs.VrfTable.{is_edge}
-use Rattle.mn_bgp_session.specs.declared.session.BgpSession.{BgpSession}
-use Rattle.mn_ledger.specs.World.{Config, Peerings, World}
+use Rattle.mn_ledger.specs.World.{World}
 use Rattle.mn_bgp_spelling.specs.Spelling.{Labels}
 use Rattle.mn_pe.specs.Edge.{Edge}
 use Rattle.mn_pe.specs.Pe.{PeNow}
 use Rattle.mn_routing_model.specs.Standing.{edge_in}
-use Rattle.mn_routing_model.specs.Whole.{edge_or_none, session_or_none, routes_in}
+use Rattle.mn_routing_model.specs.Whole.{edge_or_none, session_or_none}
 use Rattle.mn_routing_model.specs.Routed.{Routed, StandsFor, working}
 use Rattle.mn_routing_model.specs.Sending.{ends_of}
 use Rattle.mn_routing_model.specs.Doing.{HasEdge, edge_at, edge_or_blank}

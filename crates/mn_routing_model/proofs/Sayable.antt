@@ -1,7 +1,7 @@
 -- What an edge tells can be said: sets of targets ascend and are of their form, 16 at most, and labels have 20 bits.
-use Rattle.std.proofs.Common.{ℕ, zero, suc, ◌≡◌, ◌+◌, ◌-◌, ◌<◌, ◌≤◌, ◌^◌, inl, inr, Bool, true, false, List, [], ◌∷◌, map}
+use Rattle.std.proofs.Common.{ℕ, zero, suc, ◌≡◌, ◌+◌, ◌<◌, ◌≤◌, ◌^◌, inl, inr, Bool, true, false, List, [], ◌∷◌, map}
 use Rattle.std.proofs.Common.{length, refl, arith, sym, ◌∙◌, ap, subst, Option, Some, None}
-use Rattle.std.specs.Prelude.{◌==◌, ◌&&◌, nat_lt, slice_index_or, option_map, if◌then◌else◌}
+use Rattle.std.specs.Prelude.{◌==◌, nat_lt, slice_index_or, option_map, if◌then◌else◌}
 use Rattle.std.specs.List.{range_with_len}
 use Rattle.std.proofs.lemmas.Bool.Decides.{eqb_tells}
 use Rattle.std.proofs.lemmas.Bool.{and_parts}
@@ -9,8 +9,8 @@ use Rattle.std.proofs.lemmas.Option.{same_Some}
 use Rattle.mn_base.specs.Numbers.{has_rd_form}
 use Rattle.mn_base.specs.Ordered.{IsAscending}
 use Rattle.mn_base.specs.declared.numbers.Rt.{Rt}
-use Rattle.mn_base.proofs.Bools.{not_at_most_tells}
 use Rattle.mn_base.proofs.Members.{In, in_map, in_filter, in_flat_map, in_range}
+use Rattle.mn_base.specs.declared.numbers.SiteNo.{SiteNo}
 use Rattle.mn_topo.specs.Network.{Network}
 use Rattle.mn_topo.specs.Lawful.{IsLawful, is_vrf_of}
 use Rattle.mn_topo.specs.declared.steps.Step.{Step}
@@ -20,24 +20,25 @@ use Rattle.mn_vpn_nlri.specs.Grammar.{AllTargets}
 use Rattle.mn_ledger.specs.Tables.{put_pair}
 use Rattle.mn_ledger.specs.Places.{vrf_at, vrfs_at, edge_of, home_of}
 use Rattle.mn_ledger.specs.World.{Config, Peerings, World}
-use Rattle.mn_ledger.specs.Packets.{Packets, packets_after}
-use Rattle.mn_ledger.specs.Ledger.{ascending, after, start, no_packets, next_of, left_by, world_from, world_of, packets_by}
+use Rattle.mn_ledger.specs.Packets.{Packets}
+use Rattle.mn_ledger.specs.Ledger.{after, start, no_packets, next_of, left_by, world_from, world_of, packets_by}
 use Rattle.mn_ledger.specs.Lawful.{IsLawfulFrom, IsLawfulJournal}
-use Rattle.mn_ledger.specs.Refusal.{is_spent, labels_given}
 use Rattle.mn_ledger.proofs.GoingBy.{pair_here, pair_off}
 use Rattle.mn_ledger.proofs.Order.{EachBefore, pairs}
 use Rattle.mn_ledger.proofs.Refusals.{free}
 use Rattle.mn_ledger.proofs.Tidy.{Rise}
 use Rattle.mn_laws.proofs.There.{at_all}
-use Rattle.mn_frames.specs.Numbers.{first_labels, labels_after, labels_from, labels_of, sites_before}
+use Rattle.mn_frames.specs.Numbers.{labels_of}
 use Rattle.mn_bgp_spelling.specs.Spelling.{Labels, as_targets}
 use Rattle.mn_bgp_spelling.specs.Laws.{AreLabels}
-use Rattle.mn_bgp_spelling.proofs.Writable.{AreOfForm, AreFewAndFormed, no_longer, sets_go, first_sets}
+use Rattle.mn_bgp_spelling.proofs.Writable.{AreOfForm, AreFewAndFormed, sets_go, first_sets}
 use Rattle.mn_vrf.specs.Vrf.{Static, VrfState}
 use Rattle.mn_pe.specs.Edge.{Edge}
 use Rattle.mn_pe.specs.Held.{Exported, site_label, export_at, present_with, exports_with, exports_of}
+use Rattle.mn_routing_model.specs.Labels.{labels_after}
 use Rattle.mn_routing_model.specs.Standing.{vrf_in, site_label_now, edge_in}
 use Rattle.mn_routing_model.specs.Doing.{IsSayable, AreSayable}
+use Rattle.mn_routing_model.proofs.TwentyBits.{all_small}
 use Rattle.mn_routing_model.proofs.Refusing.{as_long as as_many}
 use Rattle.mn_ledger.specs.Time.{clock_after}
 
@@ -52,44 +53,27 @@ below_or f a b x h g site attachment = elim (eqb_tells site a) [
   ]
 ]
 
-pub labels_go : (t : Network) (c : Config) (l : Labels) (s : Step) → is_spent t c s ≡ false → AreLabels l → AreLabels (labels_after t c l s)
-labels_go t c l (step.Attach s) spent h =
-    below_or l s.0 (c.attaches s.0 + 2) (16 + labels_given t c (home_of t s.0)) h
-    (let few : labels_given t c (home_of t s.0) < 1048560 = not_at_most_tells 1048560 (labels_given t c (home_of t s.0)) spent in omega (arith, few))
-labels_go t c l _ spent h = h
-
-length_numbers : (from size : ℕ) → length (range_with_len from size) ≡ size
-length_numbers from zero = refl
-length_numbers from (suc size) = ap suc (length_numbers (from + 1) size)
-
-first_labels_fit : (t : Network) → IsLawful t → AreLabels (first_labels t)
-first_labels_fit t lawful site attachment =
-    let fewer : sites_before t site ≤ length (range_with_len 0 (length t.sites)) =
-    no_longer (λ s. (home_of t s == home_of t site) && nat_lt s site) (range_with_len 0 (length t.sites)) in
-    let few : length (range_with_len 0 (length t.sites)) ≡ length t.sites = length_numbers 0 (length t.sites) in
-    let sites : length t.sites ≤ 4096 = lawful.few_sites in
-    let nodes : length t.loopbacks ≤ 256 = lawful.few_nodes in
-    omega (arith, fewer, few, sites, nodes)
+pub labels_go : (gives : ℕ → ℕ) (c : Config) (l : Labels) (s : Step) → ((site : SiteNo) → s ≡ step.Attach site → gives site.0 < 2 ^ 20) → AreLabels l →
+    AreLabels (labels_after gives c l s)
+labels_go gives c l (step.Attach s) small h = below_or l s.0 (c.attaches s.0 + 2) (gives s.0) h (small s refl)
+labels_go gives c l _ small h = h
 
 pub record Fits (c : Config) (l : Labels) : Type 0 where
   pub sets : AreFewAndFormed c
   pub labels : AreLabels l
 
-fits_from : (t : Network) (es : List JournalEntry) (tick : ℕ) (w : World) (k : Packets) (n : ℕ) (ps : List (List ℕ)) (l : Labels) →
-    IsLawfulFrom t tick w k n es ps → Fits w.config l
-    → Fits (world_from t w es).config (labels_from t w.config l es)
-fits_from t [] tick w k n ps l lawful h = h
-fits_from t (e ∷ es) tick w k n ps l lawful h =
+sets_from : (t : Network) (es : List JournalEntry) (tick : ℕ) (w : World) (k : Packets) (n : ℕ) (ps : List (List ℕ)) → IsLawfulFrom t tick w k n es ps →
+    AreFewAndFormed w.config → AreFewAndFormed (world_from t w es).config
+sets_from t [] tick w k n ps lawful h = h
+sets_from t (e ∷ es) tick w k n ps lawful h =
     let ok = free t w k n e.step (next_of ps) lawful.2 in
-    fits_from t es (clock_after e) (after t w e.step) (packets_by t (after t w e.step) k e (next_of ps)) (n + 1) (left_by e.step ps)
-    (labels_after t w.config l e.step) lawful.3
-    (record { sets = sets_go t w.config e.step lawful.0 ok.targets h.sets; labels = labels_go t w.config l e.step ok.labels h.labels })
+    sets_from t es (clock_after e) (after t w e.step) (packets_by t (after t w e.step) k e (next_of ps)) (n + 1) (left_by e.step ps) lawful.3
+    (sets_go t w.config e.step lawful.0 ok.targets h)
 
 -- after a lawful journal
 pub all_fits : (t : Network) (es : List JournalEntry) (ps : List (List ℕ)) → IsLawful t → IsLawfulJournal t es ps → Fits (world_of t es).config (labels_of t es)
-unfolding labels_of
 all_fits t es ps lawful journal =
-    fits_from t es 0 (start t) no_packets 0 ps (first_labels t) journal (record { sets = first_sets t lawful; labels = first_labels_fit t lawful })
+    record { sets = sets_from t es 0 (start t) no_packets 0 ps journal (first_sets t lawful); labels = all_small t es ps lawful journal }
 
 -- 2. An edge's exports
 

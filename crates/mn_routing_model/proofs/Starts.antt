@@ -1,7 +1,7 @@
 -- At the start each edge has what the topology says of it, each of its sites has its label, and nothing was heard.
-use Rattle.std.proofs.Common.{ℕ, zero, suc, ◌≡◌, ◌≢◌, ◌+◌, ◌-◌, ◌*◌, ◌<◌, ◌≤◌, Bool, true, false, cond, List, [], ◌∷◌, ◌++◌, map, length, refl, arith, sym}
+use Rattle.std.proofs.Common.{ℕ, zero, suc, ◌≡◌, ◌≢◌, ◌+◌, ◌*◌, ◌<◌, Bool, true, false, cond, List, [], ◌∷◌, ◌++◌, map, length, refl, arith, sym}
 use Rattle.std.proofs.Common.{◌∙◌, ap, subst, Option, None, Some, inl, inr}
-use Rattle.std.specs.Prelude.{◌==◌, ◌&&◌, ◌||◌, nat_lt, filter, fold, slice_get, slice_set, replicate, option_map, if◌then◌else◌, ⊤}
+use Rattle.std.specs.Prelude.{◌==◌, ◌&&◌, ◌||◌, nat_lt, filter, fold, slice_get, replicate, option_map, if◌then◌else◌}
 use Rattle.std.specs.List.{AllByRecursion, IsDistinct, range_with_len}
 use Rattle.std.proofs.lemmas.Bool.Decides.{eqb_tells, leb_tells}
 use Rattle.std.proofs.lemmas.List.{map-append, length-map}
@@ -10,33 +10,33 @@ use Rattle.std.proofs.lemmas.Simd.{map-map}
 use Rattle.std.proofs.lemmas.List.Elements.{filter-append}
 use Rattle.std.proofs.lemmas.List.Sums.{fold-append}
 use Rattle.std.proofs.lemmas.Option.{get_or_from_slice_get}
-use Rattle.mn_base.proofs.Bools.{or_off, and_false, same_test, other_test, less_is, not_less}
+use Rattle.mn_base.proofs.Bools.{or_off, no, same_test, other_test, less_is, not_less}
 use Rattle.mn_base.specs.Ordered.{with_one}
 use Rattle.mn_wiring.specs.Wiring.{nodes_of}
 use Rattle.mn_base.specs.declared.numbers.Rt.{Rt}
 use Rattle.mn_prefix.specs.Prefix.{AddressBlock}
 use Rattle.mn_topo.specs.Network.{Network, wiring_of}
 use Rattle.mn_topo.specs.Lawful.{IsLawful, AreTargets}
-use Rattle.mn_topo.specs.VrfTable.{is_edge}
 use Rattle.mn_topo.specs.declared.vrfs.VrfDef.{VrfDef}
 use Rattle.mn_topo.specs.declared.sites.SiteDef.{SiteDef}
 use Rattle.mn_node.proofs.Lists.{map-put, map_below}
 use Rattle.mn_targets.specs.Targets.{has_target, target_set}
 use Rattle.mn_bgp_session.specs.declared.session.BgpSession.{BgpSession}
-use Rattle.mn_ledger.specs.Places.{site_at, vrf_at, vrf_of, vrfs_at, edge_of, home_of}
-use Rattle.mn_ledger.specs.World.{SiteRoute, Config}
+use Rattle.mn_ledger.specs.Places.{vrf_at, vrf_of, vrfs_at, edge_of, home_of}
+use Rattle.mn_ledger.specs.World.{SiteRoute}
 use Rattle.mn_ledger.specs.Ledger.{with_target, ascending, statics_from, first_config, start}
 use Rattle.mn_ledger.specs.Bgp.{peers_live}
-use Rattle.mn_bgp_spelling.specs.Spelling.{Labels, as_targets}
-use Rattle.mn_frames.specs.Numbers.{labels_of, first_labels, sites_before}
+use Rattle.mn_bgp_spelling.specs.Spelling.{as_targets}
+use Rattle.mn_frames.specs.Labels.{first_given, labels_of as node_labels}
+use Rattle.mn_frames.specs.Given.{given, attachment_of, label_given}
+use Rattle.mn_frames.specs.Numbers.{labels_of}
 use Rattle.mn_rib_in.specs.Heard.{Heard}
 use Rattle.mn_vrf.specs.Vrf.{Static, VrfState, static_before}
 use Rattle.mn_pe.specs.Edge.{Edge, after_attach}
 use Rattle.mn_pe.specs.Pe.{PeNow}
-use Rattle.mn_pe.specs.Start as pe
 use Rattle.mn_pe.specs.Start.{after_targets, after_prefixes, after_sites, vrf_at_start, vrf_if, vrfs_from, edge_at_start}
 use Rattle.mn_routing_model.specs.Routed.{Routed, working, bytes_on, IsRoutes}
-use Rattle.mn_routing_model.specs.Standing.{static_of, statics_in, vrf_in, site_label_now, heard_in, heard_live, edge_in}
+use Rattle.mn_routing_model.specs.Standing.{static_of, statics_in, vrf_in, site_label_now, heard_in, edge_in}
 use Rattle.mn_routing_model.specs.Whole.{edge_or_none, session_or_none, routes_in}
 use Rattle.mn_routing_model.proofs.Steps.{set_same}
 
@@ -210,31 +210,6 @@ nothing_of false false xs e = refl
 -- 5. How many of the first numbers pass a test
 
 module _ (p : ℕ → Bool) where
-  none_past : (n b c : ℕ) → c ≤ b → filter (λ s. p s && nat_lt s c) (range_with_len b n) ≡ []
-  none_past zero b c h = refl
-  none_past (suc n) b c h =
-      ap (λ x. cond (p b && x) (b ∷ filter (λ s. p s && nat_lt s c) (range_with_len (b + 1) n))
-      (filter (λ s. p s && nat_lt s c) (range_with_len (b + 1) n))) (not_less b c h)
-      ∙ ap (λ x. cond x (b ∷ filter (λ s. p s && nat_lt s c) (range_with_len (b + 1) n)) (filter (λ s. p s && nat_lt s c) (range_with_len (b + 1) n)))
-      (and_false (p b))
-      ∙ none_past n (b + 1) c (omega (arith, h))
-
-  below_only : (m a n : ℕ) → m ≤ n → filter (λ s. p s && nat_lt s (a + m)) (range_with_len a n) ≡ filter p (range_with_len a m)
-  below_only zero a n h = none_past n a (a + 0) (omega arith)
-  below_only (suc m) a zero h = absurd (omega (arith, h))
-  below_only (suc m) a (suc n) h =
-      ap (λ x. cond (p a && x) (a ∷ far) far) (less_is a (a + suc m) (omega arith))
-      ∙ ap (λ x. cond x (a ∷ far) far) (and_true (p a))
-      ∙ ap (λ (xs : List ℕ). cond (p a) (a ∷ xs) xs) (ap (λ c. filter (λ s. p s && nat_lt s c) (range_with_len (a + 1) n)) (let e : a + suc m ≡ a + 1 + m =
-      omega arith in e) ∙ below_only m (a + 1) n (omega (arith, h)))
-    where
-      far : List ℕ
-      far = filter (λ s. p s && nat_lt s (a + suc m)) (range_with_len (a + 1) n)
-
-      and_true : (b : Bool) → (b && true) ≡ b
-      and_true true = refl
-      and_true false = refl
-
   count_more : (n a : ℕ) → length (filter p (range_with_len a (suc n))) ≡ length (filter p (range_with_len a n)) + (if p (a + n) then 1 else 0)
   count_more zero a = ap (λ k. length (cond (p k) (a ∷ []) [])) (let e : a ≡ a + 0 = omega arith in e) ∙ by (p (a + 0))
     where
@@ -252,6 +227,38 @@ module _ (p : ℕ → Bool) where
       by false e = e
 
 -- 6. An edge, with labels for its sites below a number
+
+-- a site of the node has as its first label, from 16 on, the one after those of its sites before it
+first_label : (p : ℕ → Bool) (k : ℕ) → p k ≡ true → (d n b a : ℕ) → k ≡ b + d → d < n →
+    label_given (attachment_of k 1) (first_given a (filter p (range_with_len b n))) ≡ a + length (filter p (range_with_len b d))
+first_label p k on d zero b a e h = absurd (omega (arith, h))
+first_label p k on zero (suc n) b a e h = by (p b) (ap p (here e) ∙ on)
+  where
+    here : k ≡ b + 0 → b ≡ k
+    here e = omega (arith, e)
+
+    by : (x : Bool) → x ≡ true → label_given (attachment_of k 1) (first_given a (cond x (b ∷ filter p (range_with_len (b + 1) n)) (filter p (range_with_len (b + 1) n)))) ≡ a + 0
+    by true f = ap (λ m. cond ((k == m) && (1 == 1)) a (label_given (attachment_of k 1) (first_given (a + 1) (filter p (range_with_len (b + 1) n))))) (here e)
+        ∙ ap (λ x. cond (x && (1 == 1)) a (label_given (attachment_of k 1) (first_given (a + 1) (filter p (range_with_len (b + 1) n))))) (same_test k)
+        ∙ (let plain : a ≡ a + 0 = omega arith in plain)
+    by false f = absurd (no f)
+first_label p k on (suc d) (suc n) b a e h = by (p b) (λ c. first_label p k on d n (b + 1) c (further e) (omega (arith, h)))
+  where
+    further : k ≡ b + suc d → k ≡ b + 1 + d
+    further e = omega (arith, e)
+
+    apart : k ≢ b
+    apart f = omega (arith, e, f)
+
+    more : (m : ℕ) → a + 1 + m ≡ a + suc m
+    more m = omega arith
+
+    by : (x : Bool) → ((c : ℕ) → label_given (attachment_of k 1) (first_given c (filter p (range_with_len (b + 1) n))) ≡ c + length (filter p (range_with_len (b + 1) d))) →
+        label_given (attachment_of k 1) (first_given a (cond x (b ∷ filter p (range_with_len (b + 1) n)) (filter p (range_with_len (b + 1) n))))
+        ≡ a + length (cond x (b ∷ filter p (range_with_len (b + 1) d)) (filter p (range_with_len (b + 1) d)))
+    by true rest = ap (λ x. cond (x && (1 == 1)) a (label_given (attachment_of k 1) (first_given (a + 1) (filter p (range_with_len (b + 1) n))))) (other_test k b apart)
+        ∙ rest (a + 1) ∙ more (length (filter p (range_with_len (b + 1) d)))
+    by false rest = rest a
 
 -- how many of the sites below this one are the edge's
 abbrev pub given_below : Network → ℕ → ℕ → ℕ
@@ -312,15 +319,13 @@ module _ (t : Network) (lawful : IsLawful t) (node : ℕ) where
     | inr p ↦ less_is s (k + 1) (let low = p.1 in omega (arith, low)) ∙ sym (less_is s k p.1)
   ]
 
-  label_is : (k : ℕ) → k < length t.sites → home_of t k ≡ node → labels_of t [] k 1 ≡ 16 + ((length t.loopbacks - 1) + given_below t node k)
-  unfolding labels_of
+  label_is : (k : ℕ) → k < length t.sites → home_of t k ≡ node → labels_of t [] k 1 ≡ 16 + given_below t node k
+  unfolding labels_of given node_labels
   label_is k below home =
-      ap (λ n. 16 + ((length t.loopbacks - 1) + n))
-      (ap (λ h. length (filter (λ s. (home_of t s == h) && nat_lt s k) (range_with_len 0 (length t.sites)))) home
-      ∙ ap (λ c. length (filter (λ s. (home_of t s == node) && nat_lt s c) (range_with_len 0 (length t.sites)))) (let e : k ≡ 0 + k = omega arith in e)
-      ∙ ap length (below_only (λ s. home_of t s == node) k 0 (length t.sites) (omega (arith, below))))
+      first_label (λ s. home_of t s == home_of t k) k (same_test (home_of t k)) k (length t.sites) 0 16 (let e : k ≡ 0 + k = omega arith in e) below
+      ∙ ap (λ h. 16 + length (filter (λ s. home_of t s == h) (range_with_len 0 k))) home
 
-  pub edge_attached : (k label : ℕ) → k < length t.sites → home_of t k ≡ node → label ≡ 16 + ((length t.loopbacks - 1) + given_below t node k)
+  pub edge_attached : (k label : ℕ) → k < length t.sites → home_of t k ≡ node → label ≡ 16 + given_below t node k
       → after_attach (edge_below t node k) k label ≡ edge_below t node (k + 1)
   edge_attached k label below home is =
       ap (λ (ls : List (Option ℕ)). let e : Edge = record (edge_in t (labels_of t []) (first_config t) (start t).peerings node) { labels = ls } in e)

@@ -1,7 +1,7 @@
 -- An edge's news goes to the peers with which its session is Established.
-use Rattle.std.proofs.Common.{ℕ, zero, suc, ◌≡◌, ◌≢◌, ◌+◌, ◌*◌, ◌<◌, ◌≤◌, inl, inr, Bool, true, false, cond, List, [], ◌∷◌, ◌++◌, map, filter, length, refl}
-use Rattle.std.proofs.Common.{arith, sym, ◌∙◌, ap, subst, append-nil, Option, Some, None}
-use Rattle.std.specs.Prelude.{◌==◌, ◌&&◌, nat_le, if◌then◌else◌}
+use Rattle.std.proofs.Common.{ℕ, zero, suc, ◌≡◌, ◌≢◌, ◌+◌, ◌*◌, ◌<◌, inl, inr, Bool, true, false, cond, List, [], ◌∷◌, ◌++◌, map, filter, length, refl}
+use Rattle.std.proofs.Common.{arith, sym, ◌∙◌, ap, subst, append-nil, Some, None}
+use Rattle.std.specs.Prelude.{◌&&◌, nat_le, if◌then◌else◌}
 use Rattle.std.specs.List.{flat_map, range_with_len}
 use Rattle.std.proofs.lemmas.List.{map-append}
 use Rattle.std.proofs.lemmas.Bool.Decides.{eqb_tells}
@@ -11,7 +11,6 @@ use Rattle.mn_wiring.specs.Wiring.{nodes_of}
 use Rattle.mn_base.proofs.Bools.{at_most_is}
 use Rattle.mn_base.proofs.Members.{In, in_map, in_filter, in_flat_map, in_range}
 use Rattle.mn_topo.specs.Network.{Network, wiring_of}
-use Rattle.mn_bgp_session.specs.declared.session.BgpSession.{BgpSession}
 use Rattle.mn_ledger.specs.Places.{loopback}
 use Rattle.mn_ledger.specs.World.{Config, Telling, Peerings}
 use Rattle.mn_ledger.specs.Exports.{exports_of}

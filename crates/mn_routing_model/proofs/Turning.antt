@@ -1,28 +1,23 @@
 -- A session opens, or ends.
 use Rattle.std.proofs.Common.{ℕ, zero, suc, ◌≡◌, ◌≢◌, ◌+◌, ◌-◌, ◌*◌, ◌<◌, ◌≤◌, ◌⊎◌, inl, inr, Bool, true, false, cond, not, List, [], ◌∷◌, ◌++◌, map}
-use Rattle.std.proofs.Common.{filter, length, drop, refl, arith, sym, ◌∙◌, ap, subst, Option, Some, None, append-nil}
+use Rattle.std.proofs.Common.{length, drop, refl, arith, sym, ◌∙◌, ap, subst, Option, Some, None, append-nil}
 use Rattle.std.specs.Prelude.{◌==◌, ◌&&◌, nat_lt, slice_get, slice_set, slice_index_or, option_map}
-use Rattle.std.specs.List.{flat_map}
-use Rattle.std.proofs.lemmas.Bool.Decides.{eqb_tells}
 use Rattle.mn_base.proofs.Bools.{same_numbers, other_test, less_tells, and_left, and_right}
-use Rattle.mn_base.proofs.Members.{In, in_append}
-use Rattle.mn_wiring.specs.Wiring.{nodes_of}
 use Rattle.mn_base.specs.declared.numbers.NodeNo.{NodeNo}
 use Rattle.mn_flight.specs.declared.Item.{Item}
 use Rattle.mn_flight.specs.Flying.{on_channel, off_channel}
-use Rattle.mn_topo.specs.Network.{Network, wiring_of}
+use Rattle.mn_topo.specs.Network.{Network}
 use Rattle.mn_topo.specs.Lawful.{IsLawful}
 use Rattle.mn_topo.specs.VrfTable.{is_edge}
 use Rattle.mn_topo.specs.declared.steps.Step.{Step}
 use Rattle.mn_topo.specs.declared.steps.Step.TheVariants as step
 use Rattle.mn_topo.specs.declared.steps.JournalEntry.{JournalEntry}
 use Rattle.mn_ledger.specs.Tables.{put_pair}
-use Rattle.mn_ledger.specs.World.{Config, Peerings, World, Telling, Open}
+use Rattle.mn_ledger.specs.World.{Peerings, World, Open}
 use Rattle.mn_ledger.specs.Exports.{exports_of}
-use Rattle.mn_ledger.specs.Bgp.{Told, told_to, told_in, bgp_counted, bgp_restarted, with_told, route_news, peerings_after, changed}
+use Rattle.mn_ledger.specs.Bgp.{Told, told_to, bgp_counted, bgp_restarted, with_told, peerings_after}
 use Rattle.mn_ledger.specs.Ledger.{config_after, after, world_of}
 use Rattle.mn_ledger.specs.Items.{numbered, route_of}
-use Rattle.mn_ledger.specs.Places.{edges}
 use Rattle.mn_ledger.proofs.GoingBy.{pair_here, pair_off}
 use Rattle.mn_ledger.proofs.InTurn.{in_order}
 use Rattle.mn_ledger.proofs.Peers.{Which, which}
@@ -30,23 +25,22 @@ use Rattle.mn_frames.specs.Numbers.{labels_of}
 use Rattle.mn_timetable.specs.Keys.{keys_in, keys_on, of_routes, but_two, keys_by}
 use Rattle.mn_timetable.proofs.Keys.{keys_dropped}
 use Rattle.mn_timetable.proofs.OtherKeys.{pair_one}
-use Rattle.mn_timetable.specs.Steps.{pushed, routes_now}
+use Rattle.mn_timetable.specs.Steps.{pushed}
 use Rattle.mn_bgp_spelling.specs.Spelling.{Labels, bytes_in}
-use Rattle.mn_pe.specs.Edge.{Edge, after_forget}
+use Rattle.mn_pe.specs.Edge.{after_forget}
 use Rattle.mn_pe.specs.Pe.{PeNow}
 use Rattle.mn_routing_model.specs.Whole.{RoutesNow, routes_in, at_edge, opened}
-use Rattle.mn_routing_model.specs.Changes.{routes_after}
-use Rattle.mn_routing_model.specs.Routed.{Routed, IsRoutes, StandsFor, working, bytes_on, unheard}
+use Rattle.mn_routing_model.specs.Routed.{Routed, IsRoutes, working, bytes_on, unheard}
 use Rattle.mn_routing_model.specs.Steps.{IsTurn, MayDo, Did}
-use Rattle.mn_routing_model.specs.Sending.{Parcel, put_all}
-use Rattle.mn_routing_model.specs.Doing.{HasEdge, MayTurn, Opens, Ends, Puts, cut, forgotten, opens_in, edge_at, edge_or_blank, with_edge, with_end}
+use Rattle.mn_routing_model.specs.Sending.{put_all}
+use Rattle.mn_routing_model.specs.Doing.{MayTurn, Opens, Ends, forgotten, opens_in, edge_at, edge_or_blank, with_end}
 use Rattle.mn_routing_model.proofs.GoingOn.{two_below}
 use Rattle.mn_routing_model.proofs.Told.{nothing_changed}
 use Rattle.mn_routing_model.proofs.Flying.{parcel_of, AreToNodes, FliesAs, IsHeard, flies_told}
 use Rattle.mn_routing_model.proofs.Home.{no_news}
-use Rattle.mn_routing_model.proofs.Placed.{set_edge, has_edge, edge_is, edge_there}
+use Rattle.mn_routing_model.proofs.Placed.{set_edge, has_edge}
 use Rattle.mn_routing_model.proofs.Others.{then_stands}
-use Rattle.mn_routing_model.proofs.Goes.{Brings, brings, routes_go, heard_all, tolds, keys_then, count_then}
+use Rattle.mn_routing_model.proofs.Goes.{brings, routes_go, heard_all, tolds, keys_then, count_then}
 
 -- 1. Flights
 

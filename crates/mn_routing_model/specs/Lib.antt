@@ -1,3 +1,4 @@
+pub mod Labels
 pub mod Standing
 pub mod Sources
 pub mod Touched

@@ -1,5 +1,5 @@
 -- A step of the routes, in the ledger's words.
-use Rattle.std.specs.Prelude.{◌≡◌, ◌+◌, ℕ, Bool, true, false, List, ◌++◌, length, None}
+use Rattle.std.specs.Prelude.{◌≡◌, ℕ, Bool, true, false, List, ◌++◌, length, None}
 use Rattle.mn_topo.specs.Network.{Network}
 use Rattle.mn_topo.specs.Lawful.{IsLawful}
 use Rattle.mn_topo.specs.Steps.{fits}
@@ -7,13 +7,12 @@ use Rattle.mn_topo.specs.declared.steps.Step.{Step}
 use Rattle.mn_topo.specs.declared.steps.Step.TheVariants.{BgpUp, BgpDown, HearBgp, AddRoute, DelRoute, Import, Export, Attach, Detach}
 use Rattle.mn_topo.specs.declared.steps.JournalEntry.{JournalEntry}
 use Rattle.mn_base.specs.declared.numbers.SiteNo.{SiteNo}
-use Rattle.mn_ledger.specs.Ledger.{world_of}
-use Rattle.mn_ledger.specs.Places.{home_of}
-use Rattle.mn_ledger.specs.Refusal.{refusal, labels_given}
+use Rattle.mn_ledger.specs.Refusal.{refusal}
 use Rattle.mn_ledger.specs.Lawful.{IsLawfulJournal}
 use Rattle.mn_ledger.specs.Items.{numbered}
 use Rattle.mn_timetable.specs.Keys.{keys_in, keys_on, of_routes, routes_leave}
 use Rattle.mn_timetable.specs.Steps.{pushed, routes_now}
+pub use Rattle.mn_routing_model.specs.Labels.{next_label}
 use Rattle.mn_routing_model.specs.Routed.{Routed, IsRoutes}
 
 -- the step's turn has come: the journal is lawful, and after it the step fits and isn't refused
@@ -56,10 +55,6 @@ is_its _ = false
 abbrev pub StayAsTheyWere : Type 0
 StayAsTheyWere = (topology : Network) (journal : List JournalEntry) (tick : ℕ) (step : Step) (routed : Routed) → IsLawful topology → is_its step ≡ false →
     IsRoutes topology journal routed → IsRoutes topology (pushed journal tick step) routed
-
--- the label that a site's next attachment has
-abbrev pub next_label : Network → List JournalEntry → ℕ → ℕ
-next_label topology journal site = 16 + labels_given topology (world_of topology journal).config (home_of topology site)
 
 -- a site is attached with this label, where it is the next one of its edge
 pub record DidAttach (topology : Network) (tick number : ℕ) (site : SiteNo) (label : ℕ) (old new : Routed) (made : ℕ) : Type 0 where

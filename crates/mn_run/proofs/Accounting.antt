@@ -7,7 +7,7 @@ use Rattle.mn_ledger.specs.Ledger.{packets_of}
 use Rattle.mn_lines.specs.Lines.{total_line}
 use Rattle.mn_output.specs.Report.{totals_of}
 use Rattle.mn_output.proofs.Sendings.{each_packet_has_its_line}
-use Rattle.mn_perform.specs.Memory.{packets_at}
+use Rattle.mn_join_run.specs.Memory.{packets_at}
 use Rattle.mn_edge.specs.Files.{Files, file}
 use Rattle.mn_edge.specs.Written.{laid}
 use Rattle.mn_pcap.specs.Reading as pcap

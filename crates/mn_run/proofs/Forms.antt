@@ -6,7 +6,7 @@ use lib.Pointwise.{pointwise}
 use Rattle.mn_base.proofs.Bools.{and_left, and_right}
 use Rattle.mn_edge.proofs.Entries.{text-eq}
 use Rattle.mn_text.specs.Numbers.{number_up_to}
-use Rattle.mn_perform.specs.Inside.{is_inside}
+use Rattle.mn_join_run.specs.Inside.{is_inside}
 use Rattle.mn_run.specs.declared.words.Job.TheVariants.{Run, Check, Flood, Reflect, Join, Generate}
 use Rattle.mn_run.specs.Words.{word, is_run, is_check, is_flood, is_reflect, is_join, generator_number, generating, job_of}
 

@@ -15,14 +15,14 @@ use Rattle.mn_course.specs.Expansion.{expanded}
 use Rattle.mn_gen.specs.Topology.{topology_text}
 use Rattle.mn_gen.specs.Script.{script_text}
 use Rattle.mn_gen.specs.Capture.{capture_bytes}
-use Rattle.mn_perform.specs.declared.ended.Ended.{Ended}
-use Rattle.mn_perform.specs.declared.ended.Ended.TheVariants as ended
-use Rattle.mn_perform.specs.declared.ended.Fault.{Fault}
-use Rattle.mn_perform.specs.declared.ended.Fault.TheVariants as fault
-use Rattle.mn_perform.specs.Faults.{SinkBlamed}
-use Rattle.mn_perform.specs.Memory.{MemoryView, packets_at}
-use Rattle.mn_perform.specs.Running.{is_stopped}
-use Rattle.mn_perform.specs.Total.{total_text, PutsWhole}
+use Rattle.mn_join_run.specs.Ended.{Ended}
+use Rattle.mn_join_run.specs.Ended.TheVariants as ended
+use Rattle.mn_join_run.specs.Fault.{Fault}
+use Rattle.mn_join_run.specs.Fault.TheVariants as fault
+use Rattle.mn_join_run.specs.Faults.{SinkBlamed}
+use Rattle.mn_join_run.specs.Memory.{MemoryView, packets_at}
+use Rattle.mn_join_run.specs.Running.{is_stopped}
+use Rattle.mn_join_run.specs.Total.{total_text, PutsWhole}
 use Rattle.mn_run.specs.declared.generate.Made.{Made}
 use Rattle.mn_answer.specs.declared.outcome.Outcome.{Outcome}
 use Rattle.mn_answer.specs.declared.outcome.Outcome.TheVariants.{Done, TooLarge}

@@ -7,13 +7,13 @@ use Rattle.mn_script.specs.declared.command.Line.{Line}
 use Rattle.mn_capture.specs.Packets.{CaptureView, packets_in}
 use Rattle.mn_course.specs.Expansion.{expanded}
 use Rattle.mn_output.specs.Report as output
-use Rattle.mn_perform.specs.declared.ended.Ended.{Ended}
-use Rattle.mn_perform.specs.declared.ended.Ended.TheVariants as ended
-use Rattle.mn_perform.specs.declared.ended.Fault.{Fault}
-use Rattle.mn_perform.specs.declared.ended.Fault.TheVariants as fault
-use Rattle.mn_perform.specs.Faults.{Counts, Blamed}
-use Rattle.mn_perform.specs.Running.{notes_text}
-use Rattle.mn_perform.specs.Whole.{running, EndsAs, FilesOf, BegunAtRead, UntoldAtRead, TextOf, TellsLate}
+use Rattle.mn_join_run.specs.Ended.{Ended}
+use Rattle.mn_join_run.specs.Ended.TheVariants as ended
+use Rattle.mn_join_run.specs.Fault.{Fault}
+use Rattle.mn_join_run.specs.Fault.TheVariants as fault
+use Rattle.mn_join_run.specs.Faults.{Counts, Blamed}
+use Rattle.mn_join_run.specs.Running.{notes_text}
+use Rattle.mn_join_run.specs.Whole.{running, EndsAs, FilesOf, BegunAtRead, UntoldAtRead, TextOf, TellsLate}
 use Rattle.mn_answer.specs.declared.outcome.Outcome.TheVariants.{Done, Usage, TooLarge}
 use Rattle.mn_answer.specs.declared.outcome.Limit.TheVariants.{Steps}
 use Rattle.mn_run.specs.Answer.{run_done}

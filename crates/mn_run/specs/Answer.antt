@@ -10,9 +10,9 @@ use Rattle.mn_gen.specs.Capture.{capture_bytes}
 use Rattle.mn_lines.specs.Lines.{text}
 use Rattle.mn_output.specs.Report.{RunAnswer}
 use Rattle.mn_output.specs.Report as output
-use Rattle.mn_perform.specs.Running.{notes_text}
-use Rattle.mn_perform.specs.Whole.{running}
-use Rattle.mn_perform.specs.Total.{total_text}
+use Rattle.mn_join_run.specs.Running.{notes_text}
+use Rattle.mn_join_run.specs.Whole.{running}
+use Rattle.mn_join_run.specs.Total.{total_text}
 use Rattle.mn_script.specs.declared.command.Line.{Line}
 use Rattle.mn_script.specs.Script.{command_says}
 use Rattle.mn_topo.specs.Network.{Network}

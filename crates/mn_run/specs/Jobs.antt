@@ -5,10 +5,10 @@ use Rattle.std.specs.Option.{ForSome}
 use Rattle.mn_base.specs.Limits.{most_script_lines, most_steps}
 use Rattle.mn_edge.specs.Files.{Files, file}
 use Rattle.mn_capture.specs.Packets.{CaptureView, packets_in}
-use Rattle.mn_perform.specs.declared.ended.Ended.{Ended}
-use Rattle.mn_perform.specs.declared.ended.Ended.TheVariants as ended
-use Rattle.mn_perform.specs.declared.ended.Fault.{Fault}
-use Rattle.mn_perform.specs.declared.ended.Fault.TheVariants as fault
+use Rattle.mn_join_run.specs.Ended.{Ended}
+use Rattle.mn_join_run.specs.Ended.TheVariants as ended
+use Rattle.mn_join_run.specs.Fault.{Fault}
+use Rattle.mn_join_run.specs.Fault.TheVariants as fault
 use Rattle.mn_script.specs.declared.command.Line.{Line}
 use Rattle.mn_script.specs.Lines.{command_fits}
 use Rattle.mn_script.specs.Script.{command_says, script_of, AllFit}
@@ -22,7 +22,7 @@ use Rattle.mn_answer.specs.declared.outcome.Outcome.TheVariants.{Done, ReadFault
 use Rattle.mn_gen.specs.Topology.{topology_text}
 use Rattle.mn_gen.specs.Script.{script_text}
 use Rattle.mn_gen.specs.Capture.{capture_bytes}
-use Rattle.mn_perform.specs.Memory.{MemoryView, packets_at}
+use Rattle.mn_join_run.specs.Memory.{MemoryView, packets_at}
 use Rattle.mn_run.specs.declared.generate.Made.{Made}
 use Rattle.mn_answer.specs.Answer.{Answer, refusal_of, with_capture_bytes}
 use Rattle.mn_answer.specs.Inputs.{LinesAre, LinesFit}

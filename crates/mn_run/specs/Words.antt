@@ -2,7 +2,7 @@
 use Rattle.std.specs.Prelude.{◌≡◌, ◌≤◌, ℕ, Bool, true, false, not, if◌then◌else◌, Option, Some, None, ◌&&◌, ◌||◌, ◌==◌, nat_eq, List, [], length, slice_index_or, codes, ⊤}
 use lib.Pointwise.{pointwise}
 use Rattle.mn_text.specs.Numbers.{number_up_to}
-use Rattle.mn_perform.specs.Inside.{is_inside}
+use Rattle.mn_join_run.specs.Inside.{is_inside}
 use Rattle.mn_run.specs.declared.words.Job.{Job}
 use Rattle.mn_run.specs.declared.words.Job.TheVariants.{Run, Check, Flood, Reflect, Join, Generate, Nothing}
 

@@ -3,7 +3,7 @@ ghost use Rattle.std.specs.Prelude.{◌≡◌, ◌≢◌, ◌≤◌, IfOk, Some,
 ghost use Rattle.std.specs.Option.{ForSome};
 ghost use Rattle.mn_base.specs.Limits.{most_script_lines};
 ghost use Rattle.mn_script.specs.Script.{AllFit};
-ghost use Rattle.mn_perform.specs.Memory.{packets_at};
+ghost use Rattle.mn_join_run.specs.Memory.{packets_at};
 ghost use Rattle.mn_run.specs.Answer.{generated_line, generated_done, generated};
 ghost use Rattle.mn_answer.specs.Endings.{OutcomeIs, TextIs, CausedBy};
 ghost use Rattle.mn_run.specs.Headline.{IsGenerated};
@@ -13,7 +13,7 @@ use crate::top::outcome_of;
 use mn_answer::{Outcome, parse_lines, parse_topology, refuse};
 use mn_edge::Sink;
 use mn_gen::{capture_bytes, script_text, topology_text};
-use mn_perform::{MemoryCapture, tally};
+use mn_join_run::{MemoryCapture, tally};
 use mn_script::{Commands, Line};
 use mn_topo::Topology;
 use std::alloc::{AllocError, Global};

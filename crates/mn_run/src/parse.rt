@@ -4,8 +4,8 @@ ghost use Rattle.mn_answer.specs.Inputs.{IsSound};
 ghost use Rattle.mn_run.specs.Jobs.{HeldIs};
 
 use mn_answer::{Limit, MOST_CAPTURE_BYTES, MOST_CAPTURE_RECORDS, Outcome, too_large};
+use mn_join_run::MemoryCapture;
 use mn_pcap::{PcapBad, count_records};
-use mn_perform::MemoryCapture;
 use std::alloc::{AllocError, Global};
 
 /// Reads the bytes of a capture, or its refusal.

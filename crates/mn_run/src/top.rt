@@ -3,7 +3,7 @@ ghost use Rattle.std.specs.Prelude.{◌≡◌, ◌≢◌, ℕ, ◌≤◌, true, 
 ghost use Rattle.std.specs.Option.{ForSome};
 ghost use Rattle.mn_base.specs.Limits.{most_script_lines};
 ghost use Rattle.mn_edge.specs.Written.{texts};
-ghost use Rattle.mn_perform.specs.Inside.{is_inside};
+ghost use Rattle.mn_join_run.specs.Inside.{is_inside};
 ghost use Rattle.mn_script.specs.Script.{AllFit};
 ghost use Rattle.mn_answer.specs.Endings.{Answers, OutcomeIs, FilesAre, TextIs, CausedBy, UsageIff, Completes, IsLate, IsUnread};
 ghost use Rattle.mn_run.specs.Words.{is_run, is_check, is_flood, is_reflect, is_join, is_command, generator_number, job_of};
@@ -18,7 +18,7 @@ use crate::words::{Job, parse_job};
 use mn_answer::{Limit, Outcome, load_topology, put_line, refuse};
 use mn_base::MOST_STEPS;
 use mn_edge::{DeviceBad, Shelf, Sink};
-use mn_perform::{Ended, Fault, perform};
+use mn_join_run::{Ended, Fault, perform};
 use mn_topo::Topology;
 use std::alloc::Global;
 

@@ -1,7 +1,7 @@
 //! The words of the command line.
 ghost use Rattle.std.specs.Prelude.{◌≡◌, ◌≤◌, ◌||◌, IfSome};
 ghost use Rattle.mn_edge.specs.Written.{texts};
-ghost use Rattle.mn_perform.specs.Inside.{is_inside};
+ghost use Rattle.mn_join_run.specs.Inside.{is_inside};
 ghost use Rattle.mn_run.specs.Words.{is_run, is_check, is_flood, is_reflect, is_join, generator_number, job_of, IsForm};
 
 use mn_text::number_up_to;

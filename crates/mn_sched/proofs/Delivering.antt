@@ -10,7 +10,7 @@ use Rattle.mn_course.specs.declared.coming.Coming.{Coming}
 use Rattle.mn_course.specs.declared.coming.Ending.TheVariants as ending
 use Rattle.mn_course.specs.Coming.{next_arrival}
 use Rattle.mn_course.specs.Course.{Past, Course, ends, arrived, one_by_one, is_journal_full, inputs_of, next_now, deliver}
-use Rattle.mn_net_now.specs.Now.{NetNow, StandsFor}
+use Rattle.mn_net.specs.Now.{NetNow, StandsFor}
 use Rattle.mn_sched.specs.declared.line.Stopped.{Stopped}
 use Rattle.mn_sched.specs.declared.line.Stopped.TheVariants.{TooManySteps, Read, Write, NoMemory}
 use Rattle.mn_sched.specs.Playing.{past_of, IsFirstPart, Arrives}

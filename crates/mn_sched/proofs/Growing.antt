@@ -18,8 +18,8 @@ use Rattle.mn_entry.specs.Damages.{entry_for}
 use Rattle.mn_entry.specs.Entries.{entry_fits}
 use Rattle.mn_net.specs.declared.net.Done.{Done}
 use Rattle.mn_net.specs.Damaged.{IsDamaged}
-use Rattle.mn_net_now.specs.Now.{NetNow, StandsFor}
-use Rattle.mn_net_now.specs.Done.{IsLonger, Leaves, Answers}
+use Rattle.mn_net.specs.Now.{NetNow, StandsFor}
+use Rattle.mn_net.specs.Done.{IsLonger, Leaves, Answers}
 use Rattle.mn_sched.specs.declared.line.Played.{Played}
 use Rattle.mn_sched.specs.declared.line.Played.TheVariants as played
 use Rattle.mn_sched.specs.declared.line.Stopped.{Stopped}

@@ -9,7 +9,7 @@ use Rattle.mn_course.specs.Coming.{earlier}
 use Rattle.mn_course.specs.Next.{first_due}
 use Rattle.mn_course.proofs.Going.{Has, NoLater, earliest, no_later_first, no_later_last}
 use Rattle.mn_course.proofs.Nexts.{neither_comes}
-use Rattle.mn_net_now.specs.Now.{NetNow}
+use Rattle.mn_net.specs.Now.{NetNow}
 use Rattle.mn_sched.specs.Playing.{MayGoTo, GoesTo}
 use Rattle.mn_sched.proofs.Telling.{earlier_has}
 

@@ -33,9 +33,9 @@ use Rattle.mn_topo.specs.declared.steps.Damage.{Damage}
 use Rattle.mn_net.specs.declared.net.Done.{Done}
 use Rattle.mn_ledger.specs.OneMore.{added, with_packet}
 use Rattle.mn_laws.specs.Flight.{IsOpen}
-use Rattle.mn_net_now.specs.Now.{NetNow, StandsFor}
+use Rattle.mn_net.specs.Now.{NetNow, StandsFor}
 use Rattle.std.specs.Prelude.{IsErrOf}
-use Rattle.mn_net_now.specs.Done.{IsLonger, HasFailed, Leaves, Answers}
+use Rattle.mn_net.specs.Done.{IsLonger, HasFailed, Leaves, Answers}
 use Rattle.mn_sched.specs.declared.line.Played.{Played}
 use Rattle.mn_sched.specs.declared.line.Played.TheVariants as played
 use Rattle.mn_sched.specs.declared.line.Stopped.{Stopped}

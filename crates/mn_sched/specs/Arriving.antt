@@ -7,7 +7,7 @@ use Rattle.mn_course.specs.Course.{arrived, is_journal_full}
 use Rattle.mn_ledger.specs.declared.refused.Refused as why
 use Rattle.mn_ledger.specs.declared.refused.Refused.TheVariants as cause
 use Rattle.mn_net.specs.declared.net.Done.{Done}
-use Rattle.mn_net_now.specs.Now.{NetNow, StandsFor}
+use Rattle.mn_net.specs.Now.{NetNow, StandsFor}
 use Rattle.mn_sched.specs.Playing.{past_of}
 
 -- the item that comes next was delivered, and the network stands for the same packets

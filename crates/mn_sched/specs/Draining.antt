@@ -12,7 +12,7 @@ use Rattle.mn_course.specs.declared.coming.Ending.TheVariants as ending
 use Rattle.mn_course.specs.Course.{ends, inputs_of}
 use Rattle.mn_course.specs.Drains.{DrainsOn}
 use Rattle.mn_course.specs.Paced.{HaveArrived}
-use Rattle.mn_net_now.specs.Now.{NetNow}
+use Rattle.mn_net.specs.Now.{NetNow}
 use Rattle.mn_sched.specs.declared.line.Played.{Played}
 use Rattle.mn_sched.specs.declared.line.Played.TheVariants.{All}
 use Rattle.mn_sched.specs.declared.line.Stopped.{Stopped}

@@ -18,7 +18,7 @@ use Rattle.mn_ledger.specs.Time.{ticks_in}
 use Rattle.mn_ledger.specs.declared.refused.Refused as why
 use Rattle.mn_ledger.specs.declared.refused.Refused.TheVariants as cause
 use Rattle.mn_topo.specs.Network.{Network}
-use Rattle.mn_net_now.specs.Now.{NetNow, StandsFor}
+use Rattle.mn_net.specs.Now.{NetNow, StandsFor}
 use Rattle.mn_sched.specs.declared.line.Played.{Played}
 use Rattle.mn_sched.specs.declared.line.Played.TheVariants.{All, Refused, NoRecord}
 use Rattle.mn_sched.specs.declared.line.Stopped.{Stopped}

@@ -9,7 +9,7 @@ use Rattle.mn_topo.specs.declared.steps.JournalEntry.{JournalEntry}
 use Rattle.mn_course.specs.Course.{record_of, inputs_of}
 use Rattle.mn_ledger.specs.Items.{flight_of}
 use Rattle.mn_net.specs.declared.net.Done.{Done}
-use Rattle.mn_net_now.specs.Now.{NetNow, StandsFor}
+use Rattle.mn_net.specs.Now.{NetNow, StandsFor}
 use Rattle.mn_sched.specs.declared.watch.WatchBad.{WatchBad}
 use Rattle.mn_sched.specs.declared.watch.WatchBad.TheVariants.{Read, Write, NoMemory}
 

@@ -6,7 +6,7 @@ ghost use Rattle.mn_course.specs.Coming.{earlier, delivery, next_arrival, ever};
 ghost use Rattle.mn_course.specs.Course.{as_due, deliver, ends, one_by_one, is_journal_full};
 ghost use Rattle.mn_course.specs.declared.coming.Ending.TheVariants as ending;
 ghost use Rattle.mn_laws.specs.Flight.{IsOpen};
-ghost use Rattle.mn_net_now.specs.Now.{StandsFor};
+ghost use Rattle.mn_net.specs.Now.{StandsFor};
 ghost use Rattle.mn_sched.specs.Watching.{Together};
 ghost use Rattle.mn_sched.specs.Playing.{past_of, IsDelivery, Arrives, After, Caused, GoesTo, IsGone, IsFirstPart, IsOneLonger, IsPaced, limit_of};
 ghost use Rattle.mn_sched.specs.Arriving.{ArrivesNext};

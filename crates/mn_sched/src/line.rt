@@ -8,7 +8,7 @@ ghost use Rattle.mn_ledger.specs.Ledger.{injects};
 ghost use Rattle.mn_topo.specs.Steps.{fits};
 ghost use Rattle.mn_course.specs.declared.coming.Ending.TheVariants as ending;
 ghost use Rattle.mn_laws.specs.Flight.{IsOpen};
-ghost use Rattle.mn_net_now.specs.Now.{StandsFor};
+ghost use Rattle.mn_net.specs.Now.{StandsFor};
 ghost use Rattle.mn_sched.specs.Draining.{DrainsBy};
 ghost use Rattle.mn_sched.specs.Watching.{Together, Stood, MadeLast, LastFits};
 ghost use Rattle.mn_base.specs.declared.numbers.SiteNo.{SiteNo};

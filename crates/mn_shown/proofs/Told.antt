@@ -1,8 +1,7 @@
 -- A table that stands for the world does with every frame what is shown.
-use Rattle.std.proofs.Common.{ℕ, zero, suc, ◌≡◌, ◌+◌, ◌-◌, ◌<◌, ◌≤◌, Bool, true, false, List, [], ◌∷◌, length, refl, arith, sym, ◌∙◌, ap, Option, Some, None}
-use Rattle.std.specs.Prelude.{nat_le, nat_lt, if◌then◌else◌, slice_get}
-use Rattle.mn_base.proofs.Bools.{less_tells, not_less_tells}
-use Rattle.mn_base.proofs.Members.{contained_in}
+use Rattle.std.proofs.Common.{ℕ, ◌≡◌, ◌-◌, ◌<◌, ◌≤◌, List, [], ◌∷◌, length, refl, sym, ◌∙◌, ap, subst, Option, Some, None}
+use Rattle.std.specs.Prelude.{nat_le, if◌then◌else◌, unwrap_or}
+use Rattle.mn_base.proofs.Members.{in_contained}
 use Rattle.mn_drops.specs.declared.drops.Rule.TheVariants.{TtlExpired, NoEntry}
 use Rattle.mn_labels.specs.declared.meaning.Bind.{Bind}
 use Rattle.mn_labels.specs.declared.meaning.Bind.TheVariants.{Fec, Site}
@@ -15,41 +14,48 @@ use Rattle.mn_lfib.specs.Forwarding.{by_use, by_top, forwarded}
 use Rattle.mn_topo.specs.Network.{Network}
 use Rattle.mn_topo.specs.declared.steps.JournalEntry.{JournalEntry}
 use Rattle.mn_ledger.specs.Ledger.{world_of}
-use Rattle.mn_frames.specs.Given.{given, label_in}
+use Rattle.mn_labels.specs.declared.meaning.Given.{Given}
+use Rattle.mn_labels.specs.Labels.{Labels, label_now, Means, meaning_of}
+use Rattle.mn_frames.specs.Given.{given, label_in, HasLabel}
 use Rattle.mn_frames.specs.Tables.{TableStands}
 use Rattle.mn_shown.specs.Shown.{leads, use_at, shown, shown_by}
-use Rattle.mn_shown.proofs.Apart.{place_at, given_apart, in_place, fec_given}
-
-past_end : {A : Type 0} (xs : List A) (k : ℕ) → slice_get xs k ≡ None → length xs ≤ k
-past_end [] k h = omega arith
-past_end (x ∷ xs) zero h = cc
-past_end (x ∷ xs) (suc k) h = let rest = past_end xs k h in omega (arith, rest)
+use Rattle.mn_frames.proofs.Bridge.{given_fit}
+use Rattle.mn_frames.proofs.Labels.{is_meant, meant, has_means}
+use Rattle.mn_frames.proofs.Ranges.{given_inside, own_has_none}
+use Rattle.mn_shown.proofs.Apart.{has_its_label}
 
 module _ (t : Network) (es : List JournalEntry) (node : ℕ) (uses : List (ℕ × Use)) (there : node < length t.loopbacks)
     (h : TableStands t (given t es) (world_of t es) node uses) where
-  -- what was given at a place
-  by_bind : (k : ℕ) (bind : Bind) → slice_get (given t es node) k ≡ Some bind →
-      use_of uses (label_in (given t es node) bind) ≡ leads t (given t es) (world_of t es) node (Some bind)
-  by_bind k (Fec edge) at =
-      let named = fec_given t es node edge.0 (in_place (given t es node) k (Fec edge) at) in
-      h.fecs edge.0 named.0 named.1
-  by_bind k (Site site number) at = h.sites site.0 number (contained_in _ _ (in_place (given t es node) k (Site site number) at))
+  -- what a label means has that label
+  has_it : (label : ℕ) (thing : Bind) → Means (given t es node) label thing → HasLabel (given t es node) thing × (label_in (given t es node) thing ≡ label)
+  has_it label (Fec edge) means =
+      let is : label_in (given t es node) (Fec edge) ≡ label = ap (λ o. unwrap_or o 0) means in
+      (subst (λ n. 16 ≤ n) (sym is) ((given_fit t es node).reserved _ ((given_fit t es node).given edge.0 label means)), is)
+  has_it label (Site site number) means =
+      let i = in_contained (given t es node).given (record { label = label; what = Site site number }) means in
+      let is : label_in (given t es node) (Site site number) ≡ label = has_its_label t es node label site.0 number i in
+      (subst (λ n. 16 ≤ n) (sym is) ((given_fit t es node).reserved _ i), is)
 
-  at_place : (k : ℕ) (o : Option Bind) → slice_get (given t es node) k ≡ o → use_of uses (16 + k) ≡ leads t (given t es) (world_of t es) node o
-  at_place k None e = h.later (16 + k) (let end = past_end (given t es node) k e in omega (arith, end))
-  at_place k (Some bind) e =
-      ap (λ n. use_of uses (16 + n)) (sym (place_at (given t es node) k bind (given_apart t es node) e)) ∙ by_bind k bind e
-
-  used : (label : ℕ) (low : Bool) → nat_lt label 16 ≡ low →
-      use_of uses label ≡ leads t (given t es) (world_of t es) node (if low then None else slice_get (given t es node) (label - 16))
-  used label true e = h.reserved label (less_tells label 16 e)
-  used label false e =
-      let behind : 16 ≤ label = not_less_tells label 16 e in
-      ap (use_of uses) (let is : label ≡ 16 + (label - 16) = omega (arith, behind) in is)
-      ∙ at_place (label - 16) (slice_get (given t es node) (label - 16)) refl
+  by_bind : (label : ℕ) (thing : Bind) → Means (given t es node) label thing → HasLabel (given t es node) thing →
+      use_of uses (label_in (given t es node) thing) ≡ leads t (given t es) (world_of t es) node (Some thing)
+  by_bind label (Fec edge) means had =
+      h.fecs edge.0 (given_inside t es node edge.0 label means)
+      (λ e. own_has_none t es node label (subst (λ n. label_now (given t es node) n ≡ Some label) e means)) had
+  by_bind label (Site site number) means had = h.sites site.0 number had
 
   pub use_is : (label : ℕ) → use_of uses label ≡ use_at t es node label
-  use_is label = used label (nat_lt label 16) refl
+  use_is label = by (meaning_of (given t es node) label) refl
+    where
+      by : (o : Option Bind) → meaning_of (given t es node) label ≡ o → use_of uses label ≡ leads t (given t es) (world_of t es) node o
+      by None e = h.others label (λ thing had same. nobodys (sym e
+          ∙ is_meant (given t es node) (given_fit t es node) label thing (subst (λ n. Means (given t es node) n thing) same (has_means (given t es node) thing had))))
+        where
+          nobodys : {thing : Bind} → None ≡ Some thing → ⊥
+          nobodys q = cc
+      by (Some thing) e =
+          let means = meant (given t es node) label thing e in
+          let has = has_it label thing means in
+          ap (use_of uses) (sym has.1) ∙ by_bind label thing means has.0
 
   by_entries : (entries : List Entry) (frame : Labelled) →
       elim entries [ [] ↦ (Drop NoEntry, frame) | top ∷ below ↦ by_top top uses frame ] ≡ shown_by t es node entries frame

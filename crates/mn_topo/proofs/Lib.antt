@@ -6,3 +6,6 @@ pub mod Prefixes
 pub mod Targets
 pub mod Wirings
 pub mod Ends
+pub use Rattle.mn_prefix.proofs.Matches
+pub use Rattle.mn_wiring.proofs.Dist
+pub use Rattle.mn_wiring.proofs.Next

@@ -3,7 +3,7 @@ use Rattle.std.proofs.Common.{◌≡◌, ◌<◌, ◌≤◌, ◌-◌, ◌^◌, �
 use Rattle.std.proofs.lemmas.Bool.Decides.{nat_tests}
 use Rattle.std.proofs.lemmas.Bool.{and_parts}
 use Rattle.mn_prefix.specs.Prefix.{AddressBlock, IsPrefix}
-use Rattle.mn_base.proofs.Bools.{and_on, at_most_is, less_is}
+use Rattle.mn_wiring.proofs.Bools.{and_on, at_most_is, less_is}
 use Rattle.mn_topo.specs.SiteTable.{is_lawful_prefix}
 
 pub prefix_is : (p : AddressBlock) → is_lawful_prefix p ≡ true → IsPrefix p.address p.length

@@ -8,7 +8,7 @@ use Rattle.std.proofs.lemmas.Map.Keys.{apart_from_distinct}
 use Rattle.mn_wiring.specs.Wiring.{Wiring, link, is_end, across, JoinsNodes, EndsDiffer, JoinsOnce}
 use Rattle.mn_topo.specs.Links.{joins}
 use Rattle.mn_topo.specs.Lawful.{AreLinks, joins_two_of}
-use Rattle.mn_base.proofs.Bools.{never as false_here}
+use Rattle.mn_wiring.proofs.Bools.{never as false_here}
 
 -- what each of a list passes, one of them passes
 pub passes_at : {A : Type 0} (test : A → Bool) (xs : List A) (i : ℕ) (d : A) → list_all test xs ≡ true → i < length xs → test (slice_index_or xs i d) ≡ true

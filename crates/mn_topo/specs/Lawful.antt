@@ -2,11 +2,11 @@
 use Rattle.std.specs.Prelude.{◌≡◌, ◌≤◌, ℕ, Bool, true, not, ◌&&◌, nat_le, nat_lt, ◌==◌, List, length}
 use Rattle.std.specs.List.{list_all, IsDistinct, AllByRecursion}
 use Rattle.std.specs.Str.{bytes_eq}
-use Rattle.mn_base.specs.Limits.{most_static_routes, most_targets}
-use Rattle.mn_base.specs.Numbers.{has_rd_form, has_rt_form}
+use Rattle.mn_wiring.specs.Limits.{most_static_routes, most_targets}
+use Rattle.mn_wiring.specs.Numbers.{has_rd_form, has_rt_form}
 use Rattle.mn_wiring.specs.Wiring.{JoinsNodes, EndsDiffer, JoinsOnce}
 use Rattle.mn_wiring.specs.declared.links.LinkEnds.{LinkEnds}
-use Rattle.mn_base.specs.declared.numbers.Rt.{Rt}
+use Rattle.mn_wiring.specs.Rt.{Rt}
 use Rattle.mn_prefix.specs.Prefix.{same_prefix}
 use Rattle.mn_topo.specs.declared.vrfs.VrfDef.{VrfDef}
 use Rattle.mn_topo.specs.Tables.{is_name}

@@ -9,3 +9,8 @@ pub mod Parts
 pub mod Homes
 pub mod Steps
 pub mod Lawful
+pub use Rattle.mn_prefix.specs.Prefix
+pub use Rattle.mn_wiring.specs.Paths
+pub use Rattle.mn_wiring.specs.Wiring
+pub use Rattle.mn_wiring.specs.declared.links.Dir
+pub use Rattle.mn_wiring.specs.declared.links.LinkEnds

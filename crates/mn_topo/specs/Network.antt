@@ -4,10 +4,10 @@ use Rattle.mn_wiring.specs.Wiring.{Wiring, sender, receiver}
 use Rattle.mn_wiring.specs.declared.links.LinkEnds.{LinkEnds}
 use Rattle.mn_wiring.specs.declared.links.Dir.{Dir}
 use Rattle.mn_wiring.specs.declared.links.Dir.TheVariants.{Forth, Back}
-use Rattle.mn_base.specs.declared.numbers.NodeNo.{NodeNo}
-use Rattle.mn_base.specs.declared.numbers.LinkNo.{LinkNo}
-use Rattle.mn_base.specs.declared.numbers.VrfNo.{VrfNo}
-use Rattle.mn_base.specs.declared.numbers.SiteNo.{SiteNo}
+use Rattle.mn_wiring.specs.NodeNo.{NodeNo}
+use Rattle.mn_wiring.specs.LinkNo.{LinkNo}
+use Rattle.mn_wiring.specs.VrfNo.{VrfNo}
+use Rattle.mn_wiring.specs.SiteNo.{SiteNo}
 use Rattle.mn_topo.specs.declared.nodes.Node.{Node}
 use Rattle.mn_topo.specs.declared.vrfs.VrfDef.{VrfDef}
 use Rattle.mn_topo.specs.declared.sites.SiteDef.{SiteDef}

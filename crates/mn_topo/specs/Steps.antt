@@ -1,10 +1,10 @@
 -- Which steps a topology has room for.
 use Rattle.std.specs.Prelude.{Bool, not, ◌&&◌, ◌==◌, nat_lt, nat_le, length}
-use Rattle.mn_base.specs.Numbers.{has_rt_form}
-use Rattle.mn_base.specs.declared.numbers.NodeNo.{NodeNo}
-use Rattle.mn_base.specs.declared.numbers.LinkNo.{LinkNo}
-use Rattle.mn_base.specs.declared.numbers.VrfNo.{VrfNo}
-use Rattle.mn_base.specs.declared.numbers.SiteNo.{SiteNo}
+use Rattle.mn_wiring.specs.Numbers.{has_rt_form}
+use Rattle.mn_wiring.specs.NodeNo.{NodeNo}
+use Rattle.mn_wiring.specs.LinkNo.{LinkNo}
+use Rattle.mn_wiring.specs.VrfNo.{VrfNo}
+use Rattle.mn_wiring.specs.SiteNo.{SiteNo}
 use Rattle.mn_topo.specs.declared.steps.Step.{Step}
 use Rattle.mn_topo.specs.declared.steps.Step.TheVariants.{LinkUp, LinkDown, Learn, LdpAdmin, HearLdp, BgpUp, BgpDown, HearBgp, AddRoute, DelRoute, Import}
 use Rattle.mn_topo.specs.declared.steps.Step.TheVariants.{Export, Attach, Detach, Inject, Carry, Lose, Tick}

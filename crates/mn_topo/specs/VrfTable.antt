@@ -1,7 +1,7 @@
 -- VRFs in order, and which nodes have one.
 use Rattle.std.specs.Prelude.{ℕ, Bool, ◌==◌, if◌then◌else◌, List, [], ◌∷◌, ◌++◌, fold}
 use Rattle.std.specs.List.{list_any}
-use Rattle.mn_base.specs.declared.numbers.Rd.{Rd}
+use Rattle.mn_wiring.specs.Rd.{Rd}
 use Rattle.mn_topo.specs.declared.vrfs.VrfDef.{VrfDef}
 
 -- VRFs in order: their names, and what they are

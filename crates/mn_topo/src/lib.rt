@@ -27,6 +27,7 @@ mod vrfs;
 
 pub use laws::{lawful_prefixes, link_again, name_again};
 pub use links::Links;
+pub use mn_wiring::Dir;
 pub use names::Names;
 pub use nodes::{Node, Nodes};
 pub use sites::{SiteDef, Sites};

@@ -3,8 +3,8 @@ ghost use Rattle.std.specs.Prelude.{◌≡◌, ◌<◌, ◌^◌, ◌++◌, ◌�
 ghost use Rattle.mn_topo.specs.Names.{has_name};
 
 use crate::names::Names;
-use mn_base::{ListOf, VrfNo};
 use mn_prefix::Prefix;
+use mn_wiring::{ListOf, VrfNo};
 use std::alloc::{AllocError, Global};
 use std::marker::Model;
 

@@ -1,8 +1,7 @@
 //! The steps that a network is moved by.
 
-use mn_base::{LinkNo, NodeNo, Rt, SiteNo, VrfNo};
 use mn_prefix::Prefix;
-use mn_wiring::Dir;
+use mn_wiring::{Dir, LinkNo, NodeNo, Rt, SiteNo, VrfNo};
 
 /// A step of the network.
 #[derive(Clone, Copy, Debug, PartialEq, Eq)]

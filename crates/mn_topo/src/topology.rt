@@ -7,9 +7,8 @@ use crate::nodes::{Node, Nodes};
 use crate::sites::{SiteDef, Sites};
 use crate::steps::Step;
 use crate::vrfs::{VrfDef, Vrfs};
-use mn_base::{LinkNo, NodeNo, SiteNo, VrfNo};
 use mn_prefix::Prefix;
-use mn_wiring::{Dir, LinkEnds};
+use mn_wiring::{Dir, LinkEnds, LinkNo, NodeNo, SiteNo, VrfNo};
 use std::marker::Model;
 
 /// Ticks for which a step lets time go by.

@@ -4,7 +4,7 @@ ghost use Rattle.mn_topo.specs.Names.{has_name};
 
 use crate::names::Names;
 use indexmap::IndexSet;
-use mn_base::{ListOf, NodeNo, Rd, Rt};
+use mn_wiring::{ListOf, NodeNo, Rd, Rt};
 use std::alloc::{AllocError, Global};
 use std::marker::Model;
 

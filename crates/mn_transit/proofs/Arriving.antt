@@ -23,7 +23,7 @@ use Rattle.mn_ledger.specs.World.{World}
 use Rattle.mn_ledger.specs.Packets.{Token, Packets, channel, arrive, drop_at, deliver, stamped}
 use Rattle.mn_frames.specs.Given.{Labelling}
 use Rattle.mn_frames.specs.Frames.{IsFrameOf}
-use Rattle.mn_frames.specs.Tables.{TableStands}
+use Rattle.mn_frames.specs.Tables.{AreMapped, TableStands}
 use Rattle.mn_frames.specs.Arrivals.{sent, hopped, Becomes}
 use Rattle.mn_frames.proofs.Forwarding.{forwarded_as_told, top_of}
 use Rattle.mn_transit.specs.declared.flown.Flown.{Flown}
@@ -36,6 +36,7 @@ record Comes (t : Network) (g : Labelling) (w : World) (m : Moving) (k : Packets
     (answer : Forwarded) (after : Labelled) : Type 0 where
   lawful : IsLawful t
   there : y < length t.loopbacks
+  mapped : AreMapped t g w
   table : TableStands t g w y uses
   stands : StandsFor t g m k
   flies : IsFlown t g y flown token
@@ -46,18 +47,19 @@ becomes : (t : Network) (g : Labelling) (w : World) (m : Moving) (k : Packets) (
     Comes t g w m k token y uses flown answer after → Becomes t g k token y (arrive t w k token y) answer after
 becomes t g w m k token y uses flown answer after h =
     subst (λ (p : Forwarded × Labelled). Becomes t g k token y (arrive t w k token y) p.0 p.1) (sym h.forwards)
-    (forwarded_as_told t g w k token y uses flown.frame h.lawful h.there h.table h.flies.sound h.flies.frame)
+    (forwarded_as_told t g w k token y uses flown.frame h.lawful h.there h.mapped h.table h.flies.sound h.flies.frame)
 
 pub stands_dropped : (t : Network) (g : Labelling) (w : World) (m new : Moving) (k : Packets) (token : Token) (y : NodeNo) (uses : List (ℕ × Use))
     (flown : Flown) (cause : Rule) (after : Labelled) →
     IsLawful t → y.0 < length t.loopbacks →
     (Drop cause, after) ≡ forwarded uses flown.frame → new ≡ record m { verdicts = slice_set m.verdicts flown.packet (Dropped cause y) } →
-    TableStands t g w y.0 uses → StandsFor t g m k → IsFlown t g y.0 flown token → StandsFor t g new (arrive t w k token y.0)
-stands_dropped t g w m new k token y uses flown cause after lawful there forwards is table stands flies =
+    AreMapped t g w → TableStands t g w y.0 uses → StandsFor t g m k → IsFlown t g y.0 flown token → StandsFor t g new (arrive t w k token y.0)
+stands_dropped t g w m new k token y uses flown cause after lawful there forwards is mapped table stands flies =
     let told : arrive t w k token y.0 ≡ drop_at k token.packet cause y.0 =
     becomes t g w m k token y.0 uses flown (Drop cause) after (record {
       lawful = lawful;
       there = there;
+      mapped = mapped;
       table = table;
       stands = stands;
       flies =
@@ -91,12 +93,13 @@ pub stands_delivered : (t : Network) (g : Labelling) (w : World) (m new : Moving
     (flown : Flown) (site : SiteNo) (after : Labelled) (top : Entry) (ttl : ℕ) →
     IsLawful t → y < length t.loopbacks → (Site site, after) ≡ forwarded uses flown.frame → slice_get flown.frame.entries 0 ≡ Some top → ttl ≡ top.ttl - 1 →
     new ≡ record m { verdicts = slice_set m.verdicts flown.packet (Delivered site ttl (m.copies + 1)); copies = m.copies + 1; delivered = Some after.packet } →
-    TableStands t g w y uses → StandsFor t g m k → IsFlown t g y flown token → StandsFor t g new (arrive t w k token y)
-stands_delivered t g w m new k token y uses flown site after top ttl lawful there forwards is_top lower is table stands flies =
+    AreMapped t g w → TableStands t g w y uses → StandsFor t g m k → IsFlown t g y flown token → StandsFor t g new (arrive t w k token y)
+stands_delivered t g w m new k token y uses flown site after top ttl lawful there forwards is_top lower is mapped table stands flies =
     let told =
     becomes t g w m k token y uses flown (Site site) after (record {
       lawful = lawful;
       there = there;
+      mapped = mapped;
       table = table;
       stands = stands;
       flies =
@@ -170,7 +173,7 @@ flown_stamped t g k to flown token flies = record {
     pushed = flies.sound.pushed;
     packet = flies.sound.packet;
   };
-  frame = record { stack = flies.frame.stack; packet = flies.frame.packet };
+  frame = record { stack = flies.frame.stack; packet = flies.frame.packet; outer = flies.frame.outer };
 }
 
 pub stands_hopped : (t : Network) (g : Labelling) (w : World) (m new : Moving) (k : Packets) (token : Token) (y next : NodeNo) (uses : List (ℕ × Use))
@@ -179,12 +182,13 @@ pub stands_hopped : (t : Network) (g : Labelling) (w : World) (m new : Moving) (
     ((g : Labelling) (k : Packets) (token : Token) → StandsFor t g m k → IsFlown t g next.0 (record { packet = flown.packet; frame = after }) token →
     are_joined t.links y.0 next.0 ≡ true →
     (link : ℕ) × (dir : Dir) × Leads t y.0 next.0 link dir × StandsFor t g new (sent k token link dir)) →
-    TableStands t g w y.0 uses → StandsFor t g m k → IsFlown t g y.0 flown token → StandsFor t g new (arrive t w k token y.0)
-stands_hopped t g w m new k token y next uses flown after lawful there forwards goes table stands flies =
+    AreMapped t g w → TableStands t g w y.0 uses → StandsFor t g m k → IsFlown t g y.0 flown token → StandsFor t g new (arrive t w k token y.0)
+stands_hopped t g w m new k token y next uses flown after lawful there forwards goes mapped table stands flies =
     let told =
     becomes t g w m k token y.0 uses flown (Next next) after (record {
       lawful = lawful;
       there = there;
+      mapped = mapped;
       table = table;
       stands = stands;
       flies =

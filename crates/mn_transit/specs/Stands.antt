@@ -1,5 +1,6 @@
 -- Which of the ledger's packets the packets in transit stand for.
 use Rattle.std.specs.Prelude.{◌≡◌, ◌+◌, ℕ, Bool, true, false, List, [], ◌∷◌, ◌++◌, map, ⊤}
+use Rattle.std.specs.List.{Contains}
 use Rattle.mn_wiring.specs.Wiring.{link, receiver}
 use Rattle.mn_wiring.specs.declared.links.Dir.{Dir}
 use Rattle.mn_flight.specs.declared.Item.{Item}
@@ -8,6 +9,7 @@ use Rattle.mn_topo.specs.Network.{Network, wiring_of}
 use Rattle.mn_ledger.specs.Packets.{Token, Packets, channel, flying_on}
 use Rattle.mn_frames.specs.Given.{Labelling}
 use Rattle.mn_frames.specs.Frames.{IsFrameOf, IsSound}
+use Rattle.mn_frames.specs.Laws.{KeepsBoth}
 use Rattle.mn_transit.specs.declared.flown.Flown.{Flown}
 use Rattle.mn_transit.specs.Moving.{Moving}
 
@@ -32,6 +34,11 @@ pub record StandsFor (topology : Network) (given : Labelling) (moving : Moving) 
   pub copies : moving.copies ≡ packets.copies
   pub delivered : moving.delivered ≡ packets.delivered
   pub frames : (l : ℕ) (dir : Dir) → AreFlown topology given (receiver (wiring_of topology) l dir) (on_channel (channel l dir) moving.flying) (flying_on packets l dir)
+
+-- each packet on its way keeps both labels of its frame
+abbrev pub AllAreKept : Network → Labelling → Labelling → Packets → Type 0
+AllAreKept topology earlier later packets = (l : ℕ) (dir : Dir) (token : Token) → Contains (flying_on packets l dir) token →
+    KeepsBoth earlier later token (receiver (wiring_of topology) l dir)
 
 -- What a step makes: nothing, or one frame, the last in flight, with this number and due when it has crossed its link.
 abbrev pub Makes : Network → ℕ → ℕ → List (Item Flown) → List (Item Flown) → Bool → Type 0

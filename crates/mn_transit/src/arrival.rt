@@ -12,7 +12,7 @@ ghost use Rattle.mn_ledger.specs.Packets.{channel, Token, Packets, arrive, packe
 ghost use Rattle.mn_ledger.specs.World.{World};
 ghost use Rattle.mn_frames.specs.Arrivals.{sent};
 ghost use Rattle.mn_frames.specs.Given.{Labelling};
-ghost use Rattle.mn_frames.specs.Tables.{TableStands};
+ghost use Rattle.mn_frames.specs.Tables.{AreMapped, TableStands};
 ghost use Rattle.mn_transit.specs.Moving.{bytes_in, HoldsHops, CountsOn};
 ghost use Rattle.mn_transit.specs.Stands.{IsFlown, StandsFor, Makes};
 ghost use Rattle.mn_paths.specs.Visits.{path_of};
@@ -80,7 +80,8 @@ impl Transit {
         requires entry { 0 < length flown.frame.entries }
         requires copies { self.old.copies + 1 < 2 ^ 32 }
         ensures stands { (given : Labelling) (world : World) (packets : Packets) (token : Token) →
-            TableStands topology.now given world node.0 table.now → StandsFor topology.now given self.old packets → IsFlown topology.now given node.0 flown token →
+            AreMapped topology.now given world → TableStands topology.now given world node.0 table.now → StandsFor topology.now given self.old packets →
+            IsFlown topology.now given node.0 flown token →
             StandsFor topology.now given self.new (arrive topology.now world packets token node.0) }
         ensures made { Makes topology.now clock.tick clock.number self.old.flying self.new.flying result }
         ensures counts { CountsOn self.old self.new 0 1 (length flown.frame.packet) }
@@ -124,8 +125,8 @@ impl Transit {
         requires bytes { bytes_in self.old.flying < 2 ^ 32 }
         requires copies { self.old.copies + 1 < 2 ^ 32 }
         ensures moved { (given : Labelling) (world : World) (packets : Packets) (bytes : List ℕ) →
-            TableStands topology.now given world (receiver (wiring_of topology.now) link.0 dir) table.now → StandsFor topology.now given self.old packets →
-            StandsFor topology.now given self.new (packets_after topology.now world packets (Step.Carry link dir place) bytes) }
+            AreMapped topology.now given world → TableStands topology.now given world (receiver (wiring_of topology.now) link.0 dir) table.now →
+            StandsFor topology.now given self.old packets → StandsFor topology.now given self.new (packets_after topology.now world packets (Step.Carry link dir place) bytes) }
         ensures made { Makes topology.now clock.tick clock.number (without (slice_get (on_channel (channel link.0 dir) self.old.flying) place) self.old.flying) self.new.flying result }
         ensures counts { CountsOn self.old self.new 0 1 0 }
     {

@@ -14,6 +14,7 @@ ghost use Rattle.mn_ledger.specs.World.{World};
 ghost use Rattle.mn_frames.specs.Departures.{with_outer};
 ghost use Rattle.mn_frames.specs.Entries.{IsPushed, outer_for};
 ghost use Rattle.mn_frames.specs.Given.{Labelling};
+ghost use Rattle.mn_frames.specs.Tables.{AreMapped};
 ghost use Rattle.mn_pe.specs.Entries.{IsItsFate};
 ghost use Rattle.mn_transit.specs.Entering.{IsWayOut, HasRoom, IsLabel, OuterFits, IfTunnel, size_of};
 ghost use Rattle.mn_transit.specs.Moving.{bytes_in, HoldsHops, CountsOn};
@@ -93,7 +94,7 @@ impl Transit {
         requires push { 0 < flown.frame.room }
         requires label { OuterFits outer }
         ensures stands { (given : Labelling) (world : World) (packets : Packets) (route : HeldRoute) (bytes : List ℕ) →
-            node.0 < length topology.now.loopbacks → node.0 ≢ route.edge → outer ≡ outer_for topology.now given world node.0 route.edge → IsPushed topology.now given route bytes flown.frame →
+            node.0 < length topology.now.loopbacks → node.0 ≢ route.edge → AreMapped topology.now given world → outer ≡ outer_for topology.now given world node.0 route.edge → IsPushed topology.now given route bytes flown.frame →
             StandsFor topology.now given self.old packets →
             StandsFor topology.now given self.new (hop_on topology.now world packets (bound flown.packet route bytes) node.0 Rule.NoLsp) }
         ensures made { Makes topology.now clock.tick clock.number self.old.flying self.new.flying result }
@@ -133,7 +134,7 @@ impl Transit {
         requires room { HasRoom entered }
         requires label { OuterFits outer }
         ensures moved { OnOk result ((given : Labelling) (world : World) (packets : Packets) (site : SiteNo) (number : ℕ) (bytes : List ℕ) →
-            node.0 ≡ home_of topology.now site.0 → IsItsFate topology.now given world site.0 bytes entered → IsWayOut topology.now given world node.0 entered outer →
+            node.0 ≡ home_of topology.now site.0 → AreMapped topology.now given world → IsItsFate topology.now given world site.0 bytes entered → IsWayOut topology.now given world node.0 entered outer →
             StandsFor topology.now given self.old packets →
             StandsFor topology.now given self.new (packets_after topology.now world packets (Step.Inject site number) bytes)) }
         ensures made { IfOk result (λ made. Makes topology.now clock.tick clock.number self.old.flying self.new.flying made) }

@@ -34,5 +34,5 @@ mod tell;
 mod transit;
 
 pub use flown::Flown;
-pub use laws::stands_as_labels_are_given;
+pub use laws::{stands_by_the_labels_after, stands_where_labels_are_kept};
 pub use transit::Transit;

@@ -1,5 +1,5 @@
 -- A node says little in a step, so that the numbers of items fit in 64 bits.
-use Rattle.std.proofs.Common.{ℕ, suc, ◌≡◌, ◌+◌, ◌≤◌, List, [], ◌∷◌, ◌++◌, length, refl, arith, ap, subst, length-append, Bool, true, false, Option, Some, None, map, get_or}
+use Rattle.std.proofs.Common.{ℕ, suc, ◌≡◌, ◌∙◌, ◌+◌, ◌≤◌, List, [], ◌∷◌, ◌++◌, length, refl, arith, ap, subst, length-append, Bool, true, false, Option, Some, None, map, get_or}
 use Rattle.std.specs.Prelude.{if◌then◌else◌, Ok}
 use Rattle.mn_wiring.specs.Wiring.{Wiring, receiver}
 use Rattle.mn_wiring.specs.declared.links.Dir.{Dir}
@@ -9,7 +9,10 @@ use Rattle.mn_node.specs.Ldp.{Message, Initialization, Said, said_on, answer, ne
 use Rattle.mn_node.specs.Node.{Session, Node, session_at, knowledge_in}
 use Rattle.mn_node.specs.Machine.{Event, Learns, Opens, Closes, Hears, answer_in, answers, said, changed, speaks_first}
 use Rattle.mn_ldp_session.specs.Spelling.{pdus, one_said}
+use Rattle.mn_labels.specs.Labels.{Labels, own_labels}
 use Rattle.mn_made.proofs.Steps.{few_answers, few_news}
+use Rattle.mn_lsr.specs.Turns.{Kept}
+use Rattle.mn_lsr.specs.Turns.{kept_in, labels_then}
 use Rattle.mn_lsr.specs.Said.{pdu_of}
 use Rattle.mn_lsr.specs.Standing.{Standing, HasNumbers}
 use Rattle.mn_lsr.specs.declared.said.Said.{Said as Spoken}
@@ -18,9 +21,9 @@ use Rattle.mn_transport_model.specs.Carried.{Carried}
 use Rattle.mn_transport_model.specs.Sending.{pdus_in, put_pdus, released_by}
 use Rattle.mn_transport_model.specs.Acting.{MayAct, MayHear, Becomes, Acts}
 
-as_many : (w : Wiring) (label : ℕ) (n : Node) (xs : List Said) → length (pdus w label n xs) ≡ length xs
-as_many w label n [] = refl
-as_many w label n (x ∷ xs) = ap suc (as_many w label (one_said n x.link) xs)
+as_many : (w : Wiring) (own : ℕ → ℕ) (label : ℕ) (n : Node) (xs : List Said) → length (pdus w own label n xs) ≡ length xs
+as_many w own label n [] = refl
+as_many w own label n (x ∷ xs) = ap suc (as_many w own label (one_said n x.link) xs)
 
 said_length : (l n : ℕ) (ms : List Message) → length (said_on l n ms) ≡ length ms
 said_length l n [] = refl
@@ -41,11 +44,14 @@ answers_few w n (Opens l) = either (speaks_first w l n.me)
 answers_few w n (Hears l message label) =
     omega (arith, said_length l n.me (answer_in (session_at n l) message), two_answers (session_at n l) message)
 
-few_pdus : (w : Wiring) (n : Node) (event : Event) → length w.ends ≤ 1024 → length w.loopbacks ≤ 256 → length (pdus_in w n event) ≤ 67108866
-few_pdus w n event links nodes =
+few_pdus : (w : Wiring) (tick : ℕ) (kept : Kept) (event : Event) → length w.ends ≤ 1024 → length w.loopbacks ≤ 256 →
+    length (pdus_in w tick kept event) ≤ 67108866
+few_pdus w tick kept event links nodes =
+    let n : Node = kept.node in
     let first : List Said = answers w n event in
     let rest : List Said = news w (knowledge_in n) (knowledge_in (changed w n event)) n.me in
-    both (length first) (length rest) (length (first ++ rest)) (length (pdus_in w n event)) (as_many w (released_by event) (changed w n event) (first ++ rest))
+    both (length first) (length rest) (length (first ++ rest)) (length (pdus_in w tick kept event))
+    (as_many w (own_labels n.me (labels_then w tick kept event)) (released_by event) (changed w n event) (first ++ rest))
     (length-append first rest) (answers_few w n event) (few_news w (knowledge_in n) (knowledge_in (changed w n event)) n.me links nodes)
   where
     both : (a b c d : ℕ) → d ≡ c → c ≡ a + b → a ≤ 2 → b ≤ 67108864 → d ≤ 67108866
@@ -55,18 +61,26 @@ few_pdus w n event links nodes =
 pub few_acted : (t : Network) (tick number node : ℕ) (event : Event) (old new : Carried) (next : ℕ) → IsLawful t →
     Acts t tick number node event old new next → next ≤ number + 67108866
 few_acted t tick number node event old new next lawful acts =
-    let some : length (pdus_in (wiring_of t) acts.was.node event) ≤ 67108866 =
-    few_pdus (wiring_of t) acts.was.node event lawful.few_links lawful.few_nodes in
+    let some : length (pdus_in (wiring_of t) tick (kept_in acts.was) event) ≤ 67108866 =
+    few_pdus (wiring_of t) tick (kept_in acts.was) event lawful.few_links lawful.few_nodes in
     omega (arith, acts.next_is, some)
 
 -- what the node at this index says
 pub few_out : (t : Network) (old seen : Carried) (view_is : old ≡ seen) (node : ℕ) (event : Event) (may : MayAct t seen node event)
-    (index : ℕ) (at : index ≡ node) (was : Standing) (value : was ≡ get_or old.nodes index was) (now : Standing) (out : List Spoken) → IsLawful t →
-    Becomes event was now → map pdu_of out ≡ pdus_in was.wiring was.node event → length out ≤ 67108866
-few_out t old seen view_is node event may index at was value now out lawful becomes says =
-    let acts = acted t old seen view_is node event may index at was value {E = ℕ} 0 0 now out
-    (old.messages ++ put_pdus (wiring_of t) node 0 0 (map pdu_of out)) (Ok (length out)) becomes says refl (omega arith) in
-    omega (arith, few_acted t 0 0 node event seen _ (length out) lawful acts)
+    (index : ℕ) (at : index ≡ node) (was : Standing) (value : was ≡ get_or old.nodes index was) (tick : ℕ) (now : Standing) (out : List Spoken) → IsLawful t →
+    Becomes tick event was now → map pdu_of out ≡ pdus_in was.wiring tick (kept_in was) event → length out ≤ 67108866
+few_out t old seen view_is node event may index at was value tick now out lawful becomes says =
+    let acts = acted t old seen view_is node event may index at was value {E = ℕ} tick 0 now out
+    (old.messages ++ put_pdus (wiring_of t) node tick 0 (map pdu_of out)) (Ok (length out)) becomes says refl (omega arith) in
+    omega (arith, few_acted t tick 0 node event seen _ (length out) lawful acts)
+
+-- in the labels that its FECs have then
+pub said_in : (tick : ℕ) (event : Event) (was now : Standing) (out : List Spoken) → now.labels ≡ labels_then was.wiring tick (kept_in was) event →
+    map pdu_of out ≡ pdus was.wiring (own_labels was.node.me now.labels) (released_by event) (changed was.wiring was.node event) (said was.wiring was.node event) →
+    map pdu_of out ≡ pdus_in was.wiring tick (kept_in was) event
+said_in tick event was now out labels says =
+    says
+    ∙ ap (λ (ls : Labels). pdus was.wiring (own_labels was.node.me ls) (released_by event) (changed was.wiring was.node event) (said was.wiring was.node event)) labels
 
 -- a node to which something may happen has numbers for what it says then
 pub has_numbers : (t : Network) (old seen : Carried) (view_is : old ≡ seen) (node : ℕ) (event : Event) (may : MayAct t seen node event)

@@ -1,21 +1,25 @@
 //! The labels of attachments, and the transport of a network at its start.
-ghost use Rattle.std.specs.Prelude.{◌≡◌, ◌<◌, ◌+◌, ℕ, List, [], true, false, length, map, slice_get, IfOk, OnOk, IsErrOf, Err, Some, ◌↔◌};
+ghost use Rattle.std.specs.Prelude.{◌≡◌, ◌<◌, ◌+◌, ◌^◌, if◌then◌else◌, ℕ, List, [], true, false, length, map, slice_get, IfOk, OnOk, IsErrOf, Err, Some, ◌↔◌};
 ghost use Rattle.std.specs.List.{range_with_len};
 ghost use Rattle.mn_base.specs.Limits.{most_labels};
+ghost use Rattle.mn_labels.specs.Labels.{greatest, attachments_in};
 ghost use Rattle.mn_labels.specs.declared.refusal.LabelBad.TheVariants as bad;
+ghost use Rattle.mn_wiring.specs.Wiring.{link as link_of, is_end, links_at};
+ghost use Rattle.mn_topo.specs.Network.{wiring_of};
 ghost use Rattle.mn_topo.specs.declared.steps.Step.TheVariants as step;
 ghost use Rattle.mn_topo.specs.declared.steps.JournalEntry.{JournalEntry};
 ghost use Rattle.mn_ledger.specs.Ledger.{world_of};
 ghost use Rattle.mn_ledger.specs.Places.{home_of};
+ghost use Rattle.mn_reuse.specs.Labels.{longest_life};
 ghost use Rattle.mn_frames.specs.Given.{given, label_at};
 ghost use Rattle.mn_timetable.specs.Steps.{pushed};
 ghost use Rattle.mn_lsr.specs.Standing.{Standing};
 ghost use Rattle.mn_transport_model.specs.Stands.{IsTransport};
 ghost use Rattle.mn_transport_model.specs.Starting.{first_label, AreFirst};
-ghost use Rattle.mn_transport_model.specs.Steps.{IsTurn, MayDo};
+ghost use Rattle.mn_transport_model.specs.Steps.{HasTurn, MayDo};
 
 use crate::flying::{Messages, Notices};
-use crate::transport::Transport;
+use crate::transport::{Transport, labels_fit};
 use mn_base::{NodeNo, SiteNo};
 use mn_labels::LabelBad;
 use mn_linkdb::LinkDb;
@@ -34,6 +38,32 @@ fn loopbacks_of(alloc: Global, nodes: &[Node]) -> Result<Vec<u32>, AllocError>
     Ok(loopbacks)
 }
 
+/// For how long a frame may be on a link that a node is an end of; not at all on another one.
+fn life_at(topology: &Topology, link: usize, node: NodeNo) -> u32
+    requires { link < length topology.now.links }
+    ensures { result ≡ (if is_end (wiring_of topology.now) link node.0 then (link_of (wiring_of topology.now) link).life else 0) }
+{
+    let link = &topology.links()[link];
+    if link.a.0 == node.0 || link.b.0 == node.0 {
+        link.life
+    } else {
+        0
+    }
+}
+
+/// For how long a frame may be on one of a node's links at most.
+fn longest_life(topology: &Topology, node: NodeNo) -> u32
+    ensures { result ≡ longest_life topology.now (links_at (wiring_of topology.now) node.0) }
+{
+    let links = topology.links();
+    let mut longest = 0;
+    for number in 0..links.len() {
+        let life = life_at(topology, number, node);
+        longest = life.max(longest);
+    }
+    longest
+}
+
 /// The nodes at the start, before any site has a label.
 fn first_nodes(alloc: Global, topology: &Topology) -> Result<Vec<Lsr>, AllocError>
     ensures { IfOk result (λ nodes. AreFirst topology.now 0 nodes.items) }
@@ -44,7 +74,8 @@ fn first_nodes(alloc: Global, topology: &Topology) -> Result<Vec<Lsr>, AllocErro
     let mut nodes = Vec::new(alloc);
     for number in 0..loopbacks.len() {
         let me = NodeNo(number as u16);
-        nodes.push(Lsr::new(alloc, me, &loopbacks, ends)?)?;
+        let life = longest_life(topology, me);
+        nodes.push(Lsr::new(alloc, me, &loopbacks, ends, life)?)?;
     }
     Ok(nodes)
 }
@@ -64,8 +95,12 @@ fn first_labels(
     for number in 0..topology.sites().len() {
         let site = SiteNo(number as u16);
         let home = topology.home_of(site);
-        match nodes[usize::from(home.0)].attach(site) {
-            Ok(label) => labels.push(label)?,
+        let edge = &mut nodes[usize::from(home.0)];
+        match edge.attach(site) {
+            Ok(label) => {
+                labels_fit(edge);
+                labels.push(label)?;
+            }
             Err(_) => return Err(AllocError),
         }
     }
@@ -101,18 +136,18 @@ impl Transport {
 
     /// A site is attached anew at its edge, which gives the next label to the attachment.
     ///
-    /// It is `Spent` exactly where the edge has given all labels, and changes nothing then. After want of memory this and each
+    /// It is `Spent` exactly where the edge has a label for each FEC and attachment that 20 bits allow, and changes nothing then. After want of memory this and each
     /// later step answer so.
     pub fn attach(&mut self, topology: &Topology, site: SiteNo) -> Result<u32, LabelBad>
         requires may { self.old.failed ≡ false → MayDo topology.now (step.Attach site) self.old }
-        ensures goes { OnOk result ((journal : List JournalEntry) (tick : ℕ) → IsTransport topology.now journal self.old → IsTurn topology.now (world_of topology.now journal) (step.Attach site) →
+        ensures goes { OnOk result ((journal : List JournalEntry) (tick : ℕ) → IsTransport topology.now journal self.old → HasTurn topology.now journal (step.Attach site) →
             IsTransport topology.now (pushed journal tick (step.Attach site)) self.new) }
-        ensures label { IfOk result (λ label. (journal : List JournalEntry) (tick : ℕ) → IsTransport topology.now journal self.old → IsTurn topology.now (world_of topology.now journal) (step.Attach site) →
+        ensures label { IfOk result (λ label. (journal : List JournalEntry) (tick : ℕ) → IsTransport topology.now journal self.old → HasTurn topology.now journal (step.Attach site) →
             label ≡ label_at (given topology.now (pushed journal tick (step.Attach site))) (home_of topology.now site.0) site.0 ((world_of topology.now journal).config.attaches site.0 + 2)) }
-        ensures next { IfOk result (λ label. (journal : List JournalEntry) → IsTransport topology.now journal self.old → IsTurn topology.now (world_of topology.now journal) (step.Attach site) →
-            label ≡ 16 + length (given topology.now journal (home_of topology.now site.0))) }
+        ensures next { IfOk result (λ label. (journal : List JournalEntry) → IsTransport topology.now journal self.old → HasTurn topology.now journal (step.Attach site) →
+            label ≡ greatest (given topology.now journal (home_of topology.now site.0)).given + 1) }
         ensures spent { self.old.failed ≡ false → (standing : Standing) → slice_get self.old.nodes (home_of topology.now site.0) ≡ Some standing →
-            IsErrOf result bad.Spent ↔ (length standing.given.given ≡ most_labels) }
+            IsErrOf result bad.Spent ↔ (attachments_in standing.labels.given + length topology.now.loopbacks ≡ most_labels + 1) }
         ensures notices { self.new.notices ≡ self.old.notices }
         ensures messages { self.new.messages ≡ self.old.messages }
         ensures unchanged { result ≡ Err bad.Spent → self.new.failed ≡ self.old.failed }
@@ -125,8 +160,10 @@ impl Transport {
         }
         topology.laws();
         let home = topology.home_of(site);
-        match self.nodes[usize::from(home.0)].attach(site) {
+        let edge = &mut self.nodes[usize::from(home.0)];
+        match edge.attach(site) {
             Ok(label) => {
+                labels_fit(edge);
                 self.labels[usize::from(site.0)] = label;
                 Ok(label)
             }
@@ -141,7 +178,7 @@ impl Transport {
     /// A site is detached: its label leads nowhere from now on. It takes no memory.
     pub fn detach(&mut self, topology: &Topology, site: SiteNo)
         requires may { self.old.failed ≡ false → MayDo topology.now (step.Detach site) self.old }
-        ensures goes { (journal : List JournalEntry) (tick : ℕ) → IsTransport topology.now journal self.old → IsTurn topology.now (world_of topology.now journal) (step.Detach site) →
+        ensures goes { (journal : List JournalEntry) (tick : ℕ) → IsTransport topology.now journal self.old → HasTurn topology.now journal (step.Detach site) →
             IsTransport topology.now (pushed journal tick (step.Detach site)) self.new }
         ensures notices { self.new.notices ≡ self.old.notices }
         ensures messages { self.new.messages ≡ self.old.messages }

@@ -14,7 +14,7 @@ ghost use Rattle.mn_transport_model.specs.Doing.{TurnsEnds, MayBoth, MayTurn, Tu
 ghost use Rattle.mn_transport_model.specs.Steps.{MayDo, Did};
 
 use crate::flying::{cut, send, tell_all};
-use crate::transport::Transport;
+use crate::transport::{Transport, labels_fit};
 use mn_base::{LinkNo, NodeNo};
 use mn_flight::{Clock, Flight};
 use mn_lsr::LsrBad;
@@ -69,7 +69,9 @@ impl Transport {
         ensures number { IfOk result (λ next. All (λ item. item.number < next) self.new.messages) }
     {
         topology.laws();
-        let out = self.nodes[usize::from(end.0)].close(link)?;
+        let node = &mut self.nodes[usize::from(end.0)];
+        let out = node.close(link, clock.tick)?;
+        labels_fit(node);
         send(&mut self.messages, topology, end, out, clock)
     }
 
@@ -209,12 +211,14 @@ impl Transport {
     {
         topology.laws();
         let _ = self.notices.take(channel_to(topology, link, node), 0);
-        let out = match self.nodes[usize::from(node.0)].learn(&self.changes, link) {
+        let learner = &mut self.nodes[usize::from(node.0)];
+        let out = match learner.learn(&self.changes, link, clock.tick) {
             Ok(out) => out,
             // There is a change to learn.
             Err(LsrBad::Empty) => unreachable!(),
             Err(_) => return Err(AllocError),
         };
+        labels_fit(learner);
         send(&mut self.messages, topology, node, out, clock)
     }
 
@@ -241,12 +245,14 @@ impl Transport {
         let Some(pdu) = self.messages.take(channel_of(link, dir), 0) else {
             unreachable!();
         };
-        let out = match self.nodes[usize::from(node.0)].hear_ldp(link, pdu.item.as_slice()) {
+        let hearer = &mut self.nodes[usize::from(node.0)];
+        let out = match hearer.hear_ldp(link, pdu.item.as_slice(), clock.tick) {
             Ok(out) => out,
             Err(LsrBad::NoMemory) => return Err(AllocError),
             // What flies is what was said, and comes in turn.
             Err(_) => unreachable!(),
         };
+        labels_fit(hearer);
         send(&mut self.messages, topology, node, out, clock)
     }
 

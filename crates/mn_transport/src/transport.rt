@@ -1,5 +1,6 @@
 //! The transport, and what its nodes and sessions are.
-ghost use Rattle.std.specs.Prelude.{◌≡◌, ◌≢◌, ◌<◌, List, length, slice_get, slice_index, Some};
+ghost use Rattle.std.specs.Prelude.{◌≡◌, ◌≢◌, ◌<◌, ◌^◌, List, length, slice_get, slice_index, Some};
+ghost use Rattle.mn_labels.specs.Labels.{greatest};
 ghost use Rattle.mn_linkdb.specs.Changes.{is_link_up};
 ghost use Rattle.mn_topo.specs.declared.steps.JournalEntry.{JournalEntry};
 ghost use Rattle.mn_ledger.specs.Ledger.{world_of};
@@ -57,6 +58,13 @@ impl Model for Transport {
       messages = t.messages.items;
       failed = t.failed;
     }) t.notices.channels t.messages.channels };
+}
+
+/// A node's labels have 20 bits each. It does nothing.
+pub(crate) fn labels_fit(node: &Lsr)
+    ensures { greatest node.now.labels.given < 2 ^ 20 }
+{
+    let _given = node.labels().given();
 }
 
 impl Transport {

@@ -1,5 +1,5 @@
 -- What the code does with one node, and with both ends of a link, in the words of what a step may do.
-use Rattle.std.proofs.Common.{ℕ, ◌≡◌, ◌≢◌, ◌+◌, ◌*◌, ◌<◌, Bool, true, false, List, ◌++◌, length, map, get_or, sym, ◌∙◌, ap, subst, Option, Some}
+use Rattle.std.proofs.Common.{ℕ, ◌≡◌, ◌≢◌, ◌+◌, ◌*◌, ◌<◌, ◌^◌, Bool, true, false, List, ◌++◌, length, map, get_or, sym, ◌∙◌, ap, subst, Option, Some}
 use Rattle.std.specs.Prelude.{slice_get, slice_set, Result, Ok, Err, IfOk, OnOk}
 use Rattle.std.specs.List.{AllByRecursion}
 use Rattle.std.proofs.lemmas.List.{length-map}
@@ -12,6 +12,8 @@ use Rattle.mn_topo.specs.Network.{Network, wiring_of}
 use Rattle.mn_node.specs.Node.{Session, Node, session_at}
 use Rattle.mn_node.specs.Machine.{Event, Learns, Opens, Closes, Hears, changed, said, after_event}
 use Rattle.mn_ledger.specs.Packets.{channel}
+use Rattle.mn_labels.specs.Labels.{Labels, greatest, own_labels}
+use Rattle.mn_lsr.specs.Turns.{kept_in, labels_then, resting_then, kept_then}
 use Rattle.mn_lsr.specs.Hearing.{Heard, after_bytes}
 use Rattle.mn_lsr.specs.declared.refusal.LsrBad.{LsrBad}
 use Rattle.mn_lsr.specs.Said.{pdu_of}
@@ -44,23 +46,30 @@ here-of t old node (Hears l message label) may = (
 )
 
 -- from what a call of the node's ensures
-pub becomes-open : (event : Event) (was now : Standing) → now ≡ record was { node = after_event was.wiring was.node event } → TableStands now →
-    Becomes event was now
-becomes-open event was now after stands = record {
+pub becomes-open : (tick : ℕ) (event : Event) (was now : Standing) → now ≡ record was { node = after_event was.wiring was.node event } →
+    now.labels ≡ labels_then was.wiring tick (kept_in was) event → now.resting ≡ resting_then was.wiring tick (kept_in was) event → TableStands now →
+    Becomes tick event was now
+becomes-open tick event was now after labels resting stands = record {
   wiring = ap (λ (x : Standing). x.wiring) after;
   node_is = ap (λ (x : Standing). x.node) after;
-  given_is = ap (λ (x : Standing). x.given) after;
+  labels_are = labels;
+  in_range = subst (λ (l : Labels). greatest l.given < 2 ^ 20) (sym (ap (λ (x : Standing). x.labels) after));
+  resting_is = resting;
   works = ap (λ (x : Standing). x.failed) after;
   table = stands;
   sites = λ label there. ap (λ (x : Standing). use_of x.uses label) after;
 }
 
-pub becomes-by : (event : Event) (was now : Standing) → now ≡ record was { node = after_event was.wiring was.node event; uses = now.uses } →
-    TableStands now → SitesKeep was now → Becomes event was now
-becomes-by event was now after stands keeps = record {
+pub becomes-by : (tick : ℕ) (event : Event) (was now : Standing) →
+    now ≡ record was { node = after_event was.wiring was.node event; labels = now.labels; resting = now.resting; uses = now.uses } →
+    now.labels ≡ labels_then was.wiring tick (kept_in was) event → now.resting ≡ resting_then was.wiring tick (kept_in was) event →
+    greatest now.labels.given < 2 ^ 20 → TableStands now → SitesKeep was now → Becomes tick event was now
+becomes-by tick event was now after labels resting few stands keeps = record {
   wiring = ap (λ (x : Standing). x.wiring) after;
   node_is = ap (λ (x : Standing). x.node) after;
-  given_is = ap (λ (x : Standing). x.given) after;
+  labels_are = labels;
+  in_range = λ was_few. few;
+  resting_is = resting;
   works = ap (λ (x : Standing). x.failed) after;
   table = stands;
   sites = keeps;
@@ -82,23 +91,24 @@ module _ (t : Network) (old seen : Carried) (view_is : old ≡ seen) (node : ℕ
   wiring = subst (λ (x : Standing). x.wiring ≡ wiring_of t) same may.wiring
 
   -- what it says goes out on links that are there
-  pub out-on-links : (out : List Said) → map pdu_of out ≡ pdus_in was.wiring was.node event → AllByRecursion (λ (x : Said). x.link.0 < length t.links) out
-  out-on-links out says =
+  pub out-on-links : (tick : ℕ) (out : List Said) → map pdu_of out ≡ pdus_in was.wiring tick (kept_in was) event → AllByRecursion (λ (x : Said). x.link.0 < length t.links) out
+  out-on-links tick out says =
       subst (λ (w : Wiring). AllByRecursion (λ (x : Said). x.link.0 < length w.ends) out) wiring
-      (links-out was.wiring (changed was.wiring was.node event) (changed was.wiring was.node event) (released_by event) was.node.me
+      (links-out was.wiring (changed was.wiring was.node event) (changed was.wiring was.node event)
+      (own_labels was.node.me (labels_then was.wiring tick (kept_in was) event)) (released_by event) was.node.me
       (said was.wiring was.node event) out
       (own-event was.wiring was.node event (subst (λ (x : Standing). IsHere x.wiring x.node event) same (here-of t seen node event may))) says)
 
   -- and with that in flight it has acted
   pub acted : {E : Type 0} (tick number : ℕ) (now : Standing) (out : List Said) (items : List (Item (List ℕ))) (r : Result ℕ E)
-      → Becomes event was now
-      → map pdu_of out ≡ pdus_in was.wiring was.node event
+      → Becomes tick event was now
+      → map pdu_of out ≡ pdus_in was.wiring tick (kept_in was) event
       → OnOk r (items ≡ old.messages ++ put_pdus (wiring_of t) node tick number (map pdu_of out))
       → IfOk r (λ next. next ≡ number + length out)
       → IfOk r (λ next. Acts t tick number node event seen (record old { nodes = slice_set old.nodes index now; messages = items }) next)
   acted tick number now out items (Err e) becomes says sent counted = tt
   acted tick number now out items (Ok next) becomes says sent counted =
-      let spoken : map pdu_of out ≡ pdus_in (wiring_of t) was.node event = says ∙ ap (λ (w : Wiring). pdus_in w was.node event) wiring in
+      let spoken : map pdu_of out ≡ pdus_in (wiring_of t) tick (kept_in was) event = says ∙ ap (λ (w : Wiring). pdus_in w tick (kept_in was) event) wiring in
       record {
         was = was;
         now = now;
@@ -110,13 +120,13 @@ module _ (t : Network) (old seen : Carried) (view_is : old ≡ seen) (node : ℕ
             record old {
               nodes = slice_set old.nodes k now;
               messages =
-                  old.messages ++ put_pdus (wiring_of t) node tick number (pdus_in (wiring_of t) was.node event);
+                  old.messages ++ put_pdus (wiring_of t) node tick number (pdus_in (wiring_of t) tick (kept_in was) event);
             } in c) at
             ∙ ap (λ (o : Carried). let c : Carried =
             record o {
               nodes = slice_set o.nodes node now;
               messages =
-                  o.messages ++ put_pdus (wiring_of t) node tick number (pdus_in (wiring_of t) was.node event);
+                  o.messages ++ put_pdus (wiring_of t) node tick number (pdus_in (wiring_of t) tick (kept_in was) event);
             } in c) view_is;
         next_is = counted ∙ ap (λ n. number + n) (sym (length-map out pdu_of) ∙ ap length spoken);
       }
@@ -226,63 +236,64 @@ module _ (t : Network) (old seen : Carried) (view_is : old ≡ seen) (l : ℕ) (
       first ∙ ap (λ k. slice_get (on_channel k old.messages) 0) is ∙ ap (λ (c : Carried). slice_get (on_channel (channel l dir) c.messages) 0) view_is
       ∙ may.flies
 
-  pub heard-so : (pdu : Item (List ℕ)) (bytes : List ℕ) → Some pdu ≡ Some may.pdu → bytes ≡ pdu.item
-      → after_bytes was.wiring l was.node may.session bytes ≡ Ok (record {
-        node = after_event was.wiring was.node event;
-        said =
-            pdus_in was.wiring was.node event;
+  pub heard-so : (tick : ℕ) (pdu : Item (List ℕ)) (bytes : List ℕ) → Some pdu ≡ Some may.pdu → bytes ≡ pdu.item
+      → after_bytes was.wiring tick l (kept_in was) may.session bytes ≡ Ok (record {
+        kept = kept_then was.wiring tick (kept_in was) event;
+        said = pdus_in was.wiring tick (kept_in was) event;
       })
-  heard-so pdu bytes next is =
-      subst (λ (x : Standing). after_bytes x.wiring l x.node may.session bytes ≡ Ok (record {
-        node = after_event x.wiring x.node event;
-        said =
-            pdus_in x.wiring x.node event;
+  heard-so tick pdu bytes next is =
+      subst (λ (x : Standing). after_bytes x.wiring tick l (kept_in x) may.session bytes ≡ Ok (record {
+        kept = kept_then x.wiring tick (kept_in x) event;
+        said = pdus_in x.wiring tick (kept_in x) event;
       })) hearer
-      (ap (after_bytes may.may.was.wiring l may.may.was.node may.session) (is ∙ ap (λ (x : Item (List ℕ)). x.item) (same_Some pdu may.pdu next)) ∙ may.heard)
+      (ap (after_bytes may.may.was.wiring tick l (kept_in may.may.was) may.session) (is ∙ ap (λ (x : Item (List ℕ)). x.item) (same_Some pdu may.pdu next))
+      ∙ may.heard tick)
 
-  spoken : (pdu : Item (List ℕ)) (bytes : List ℕ) (now : Standing) (out : List Said) → Some pdu ≡ Some may.pdu → bytes ≡ pdu.item
+  spoken : (tick : ℕ) (pdu : Item (List ℕ)) (bytes : List ℕ) (now : Standing) (out : List Said) → Some pdu ≡ Some may.pdu → bytes ≡ pdu.item
       → ((session : Session) → session_at was.node l ≡ Some session →
-      after_bytes was.wiring l was.node session bytes ≡ Ok (record { node = now.node; said = map pdu_of out }))
-      → (let h : Heard = record { node = now.node; said = map pdu_of out } in h) ≡ record {
-        node = after_event was.wiring was.node event;
-        said =
-            pdus_in was.wiring was.node event;
+      after_bytes was.wiring tick l (kept_in was) session bytes ≡ Ok (record { kept = kept_in now; said = map pdu_of out }))
+      → (let h : Heard = record { kept = kept_in now; said = map pdu_of out } in h) ≡ record {
+        kept = kept_then was.wiring tick (kept_in was) event;
+        said = pdus_in was.wiring tick (kept_in was) event;
       }
-  spoken pdu bytes now out next is hears = one_result _ _ _ (hears may.session session-lives) (heard-so pdu bytes next is)
+  spoken tick pdu bytes now out next is hears = one_result _ _ _ (hears may.session session-lives) (heard-so tick pdu bytes next is)
     where
       one_result : (a b : Heard) (r : Result Heard LsrBad) → r ≡ Ok a → r ≡ Ok b → a ≡ b
       one_result a b r e f = cc
 
   -- what is left in flight, what was taken, and what the node has become and says
-  module _ (on : ℕ) (flown : Option (Item (List ℕ))) (left : List (Item (List ℕ))) (pdu : Item (List ℕ)) (bytes : List ℕ) (now : Standing) (out : List Said)
+  module _ (tick on : ℕ) (flown : Option (Item (List ℕ))) (left : List (Item (List ℕ))) (pdu : Item (List ℕ)) (bytes : List ℕ) (now : Standing) (out : List Said)
       (on_is : on ≡ channel l dir) (first : flown ≡ slice_get (on_channel on old.messages) 0) (left_is : left ≡ without flown old.messages)
       (flown_is : flown ≡ Some pdu) (bytes_are : bytes ≡ pdu.item)
       (hears : (session : Session) → session_at was.node l ≡ Some session →
-      after_bytes was.wiring l was.node session bytes ≡ Ok (record { node = now.node; said = map pdu_of out })) where
-    change : (let h : Heard = record { node = now.node; said = map pdu_of out } in h) ≡ record {
-      node = after_event was.wiring was.node event;
-      said =
-          pdus_in was.wiring was.node event;
+      after_bytes was.wiring tick l (kept_in was) session bytes ≡ Ok (record { kept = kept_in now; said = map pdu_of out })) where
+    change : (let h : Heard = record { kept = kept_in now; said = map pdu_of out } in h) ≡ record {
+      kept = kept_then was.wiring tick (kept_in was) event;
+      said = pdus_in was.wiring tick (kept_in was) event;
     }
-    change = spoken pdu bytes now out (sym flown_is ∙ flies-next on flown on_is first) bytes_are hears
+    change = spoken tick pdu bytes now out (sym flown_is ∙ flies-next on flown on_is first) bytes_are hears
 
-    says : map pdu_of out ≡ pdus_in was.wiring was.node event
+    says : map pdu_of out ≡ pdus_in was.wiring tick (kept_in was) event
     says = ap (λ (h : Heard). h.said) change
 
     pub hears-on-links : AllByRecursion (λ (x : Said). x.link.0 < length t.links) out
-    hears-on-links = out-on-links t old seen view_is (receiver (wiring_of t) l dir) event may.may index at was value out says
+    hears-on-links = out-on-links t old seen view_is (receiver (wiring_of t) l dir) event may.may index at was value tick out says
 
-    pub hears-acts : {E : Type 0} (tick number me : ℕ) (items : List (Item (List ℕ))) (r : Result ℕ E) → me ≡ receiver (wiring_of t) l dir
-        → now ≡ record was { node = now.node; uses = now.uses } → TableStands now → SitesKeep was now
+    pub hears-acts : {E : Type 0} (number me : ℕ) (items : List (Item (List ℕ))) (r : Result ℕ E) → me ≡ receiver (wiring_of t) l dir
+        → now ≡ record was { node = now.node; labels = now.labels; resting = now.resting; uses = now.uses } → greatest now.labels.given < 2 ^ 20
+        → TableStands now → SitesKeep was now
         → OnOk r (items ≡ left ++ put_pdus (wiring_of t) me tick number (map pdu_of out)) → IfOk r (λ next. next ≡ number + length out)
         → IfOk r (λ next. Acts t tick number (receiver (wiring_of t) l dir) event (taken l dir seen) (record old {
           nodes =
               slice_set old.nodes index now;
           messages = items;
         }) next)
-    hears-acts tick number me items r me_is after stands keeps sent counted =
+    hears-acts number me items r me_is after few stands keeps sent counted =
         acted t (record old { messages = left }) (taken l dir seen) (taken-is old seen l on dir left flown view_is on_is first left_is)
         (receiver (wiring_of t) l dir) event
         (may-taken t seen (receiver (wiring_of t) l dir) l dir event may.may) index at was value tick number now out items r
-        (becomes-by event was now (after ∙ ap (λ (h : Heard). let s : Standing = record was { node = h.node; uses = now.uses } in s) change) stands keeps) says
+        (becomes-by tick event was now
+        (after ∙ ap (λ (h : Heard). let s : Standing =
+        record was { node = h.kept.node; labels = now.labels; resting = now.resting; uses = now.uses } in s) change)
+        (ap (λ (h : Heard). h.kept.labels) change) (ap (λ (h : Heard). h.kept.resting) change) few stands keeps) says
         (subst (λ n. OnOk r (items ≡ left ++ put_pdus (wiring_of t) n tick number (map pdu_of out))) me_is sent) counted

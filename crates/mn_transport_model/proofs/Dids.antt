@@ -14,11 +14,15 @@ use Rattle.mn_topo.specs.declared.steps.Step.{Step}
 use Rattle.mn_topo.specs.declared.steps.Step.TheVariants as step
 use Rattle.mn_topo.specs.declared.steps.JournalEntry.{JournalEntry}
 use Rattle.mn_ledger.specs.Transport.{is_transport}
-use Rattle.mn_ledger.specs.Ledger.{world_of, after}
+use Rattle.mn_ledger.specs.Ledger.{world_of, after, no_packets}
+use Rattle.mn_ledger.specs.Lawful.{IsLawfulJournal}
+use Rattle.mn_slice.proofs.Nodes.{by_nodes}
+use Rattle.mn_reuse.specs.Resting.{rested_of}
+use Rattle.mn_reuse.specs.Relabelled.{event_with, labels_at}
 use Rattle.mn_ledger.specs.Items.{Channel, Load, Notices, Notice as ANotice, message_of, numbered}
 use Rattle.mn_slice.specs.Slice.{node_at, turned, acting}
 use Rattle.mn_slice.specs.Steps.{node_says}
-use Rattle.mn_frames.specs.Given.{given, given_in}
+use Rattle.mn_frames.specs.Given.{given}
 use Rattle.mn_timetable.specs.Keys.{keys_in, keys_on, of_notices, of_messages, messages_leave}
 use Rattle.mn_timetable.specs.Steps.{pushed, messages_now}
 use Rattle.mn_timetable.proofs.Keys.{keys_put}
@@ -28,28 +32,26 @@ use Rattle.mn_transport_model.specs.Acting.{turned_by}
 use Rattle.mn_transport_model.specs.Doing.{TurnsIf, TurnsLink, Switches, told, switched}
 use Rattle.mn_transport_model.specs.Stands.{StandsFor, IsTransport}
 use Rattle.mn_transport_model.specs.Steps.{IsTurn, Did}
-use Rattle.mn_transport_model.proofs.Others.{world-then, given-same}
-use Rattle.mn_transport_model.proofs.Flown.{nodes-by}
+use Rattle.mn_transport_model.proofs.Others.{world-then}
 use Rattle.mn_transport_model.proofs.Puts.{Puts, keys-told, keys-cut}
 use Rattle.mn_transport_model.proofs.Own.{IsHere}
-use Rattle.mn_transport_model.proofs.Releases.{IsBrought}
 use Rattle.mn_transport_model.proofs.Events.{not_off, no_end, an_end, no_event, switch_turns, happens-up, happens-down, happens-switch}
 use Rattle.mn_transport_model.proofs.Ends.{turned-puts, quiet-puts}
 use Rattle.mn_transport_model.proofs.Ready.{switch-at, up-at}
 use Rattle.mn_transport_model.proofs.Goes.{Rest, act-rest, both-rest, same-rest, goes-up, goes-down, goes-switch}
 
 -- what stands for the world after the step is the transport after the journal with this entry more
-pub then-stands : (t : Network) (es : List JournalEntry) (tick : ℕ) (s : Step) (new : Carried) → ((node : ℕ) → given_in t node (world_of t es).config s ≡ [])
-    → StandsFor t (given t es) (after t (world_of t es) s) new → IsTransport t (pushed es tick s) new
-then-stands t es tick s new none stands =
-    subst (λ v. StandsFor t (given t (pushed es tick s)) v new) (sym (world-then t es tick s))
-    (subst (λ g. StandsFor t g (after t (world_of t es) s) new) (sym (given-same t es tick s none)) stands)
+pub then-stands : (t : Network) (es : List JournalEntry) (tick : ℕ) (s : Step) (new : Carried) →
+    StandsFor t (given t (pushed es tick s)) (rested_of t (pushed es tick s)) (after t (world_of t es) s) new → IsTransport t (pushed es tick s) new
+then-stands t es tick s new stands =
+    subst (λ v. StandsFor t (given t (pushed es tick s)) (rested_of t (pushed es tick s)) v new) (sym (world-then t es tick s)) stands
 
 -- what is said in the step is what the acting nodes say
 pub messages-are : (t : Network) (es : List JournalEntry) (lawful : IsLawful t) (s : Step) → IsTurn t (world_of t es) s → is_transport s ≡ true
     → messages_now t es s ≡ map message_of (flat_map (node_says t (world_of t es) s) (acting t s))
 messages-are t es lawful s turn moves =
-    if_so (is_transport s) moves _ ∙ ap (map message_of) ((nodes-by t lawful (world_of t es) s turn moves).order moves)
+    if_so (is_transport s) moves _
+    ∙ ap (map message_of) ((by_nodes t (world_of t es) no_packets s lawful turn.turn turn.fitting turn.changes turn.there).order moves)
   where
     if_so : (b : Bool) → b ≡ true → (xs : List (Channel × Load)) → (if b then xs else []) ≡ xs
     if_so true e xs = refl
@@ -75,13 +77,13 @@ module _ (t : Network) (lawful : IsLawful t) (tick number next : ℕ) (old new :
       (n : ℕ) → is_end (wiring_of t) l.0 n ≡ true → IsHere (wiring_of t) (node_at t (world_of t es) n) (Opens l.0)
   here-up es l there n at = (there, at, subst (λ k. l.0 < k) (sym (length-map-range_with_len _ 0 (length t.links))) there)
 
-  puts-up : (es : List JournalEntry) (l : LinkNo) → IsTransport t es old → IsTurn t (world_of t es) (step.LinkUp l) →
+  puts-up : (es : List JournalEntry) (ps : List (List ℕ)) → IsLawfulJournal t es ps → (l : LinkNo) → IsTransport t es old → IsTurn t (world_of t es) (step.LinkUp l) →
       TurnsLink t tick number l.0 true old new next
       → Puts t tick (number + length t.loopbacks) (messages_now t es (step.LinkUp l)) (told t tick number l.0 old).messages new.messages next
-  puts-up es l stands turn did =
+  puts-up es ps journal l stands turn did =
       subst (λ xs. Puts t tick (number + length t.loopbacks) xs (told t tick number l.0 old).messages new.messages next)
       (sym (messages-are t es lawful (step.LinkUp l) turn refl))
-      (by did.on (switch-at t lawful (given t es) (world_of t es) old stands l.0 did.on there did.switch) did.session)
+      (by did.on (switch-at t lawful (given t es) (rested_of t es) (world_of t es) old stands l.0 did.on there did.switch) did.session)
     where
       there : l.0 < length t.links
       there = less_tells l.0 (length t.links) turn.fitting
@@ -91,22 +93,22 @@ module _ (t : Network) (lawful : IsLawful t) (tick number next : ℕ) (old new :
           → Puts t tick (number + length t.loopbacks) (map message_of (flat_map (node_says t (world_of t es) (step.LinkUp l)) (acting t (step.LinkUp l))))
           (told t tick number l.0 old).messages new.messages next
       by true e ends =
-          turned-puts t es lawful (world_of t es) (step.LinkUp l) turn refl l.0 there refl refl (λ site. refl) (Opens l.0)
+          turned-puts t lawful es ps journal tick (step.LinkUp l) turn refl l.0 there refl refl (λ site. refl) (Opens l.0)
           (λ n at. happens-up t (world_of t es) l turn.changes true e n ∙ an_end (is_end (wiring_of t) l.0 n) (Some (Opens l.0)) at)
           (λ n at. happens-up t (world_of t es) l turn.changes true e n ∙ no_end (is_end (wiring_of t) l.0 n) (Some (Opens l.0)) at)
-          (here-up es l there) (λ n. tt) tick (number + length t.loopbacks) next (told t tick number l.0 old) new ends stands.each stands.nodes
+          (here-up es l there) (λ n. refl) (number + length t.loopbacks) next (told t tick number l.0 old) new ends stands.each stands.nodes
       by false e same =
-          quiet-puts t es lawful (world_of t es) (step.LinkUp l) turn refl l.0 there refl refl (λ site. refl)
+          quiet-puts t lawful es ps journal tick (step.LinkUp l) turn refl l.0 there refl refl (λ site. refl)
           (λ n. happens-up t (world_of t es) l turn.changes false e n ∙ no_event (is_end (wiring_of t) l.0 n))
-          tick (number + length t.loopbacks) next (told t tick number l.0 old).messages new.messages (ap (λ (c : Carried). c.messages) same.0) same.1
+          (number + length t.loopbacks) next (told t tick number l.0 old).messages new.messages (ap (λ (c : Carried). c.messages) same.0) same.1
 
-  puts-down : (es : List JournalEntry) (l : LinkNo) → IsTransport t es old → IsTurn t (world_of t es) (step.LinkDown l) →
+  puts-down : (es : List JournalEntry) (ps : List (List ℕ)) → IsLawfulJournal t es ps → (l : LinkNo) → IsTransport t es old → IsTurn t (world_of t es) (step.LinkDown l) →
       TurnsLink t tick number l.0 false old new next
       → Puts t tick (number + length t.loopbacks) (messages_now t es (step.LinkDown l)) (told t tick number l.0 old).messages new.messages next
-  puts-down es l stands turn did =
+  puts-down es ps journal l stands turn did =
       subst (λ xs. Puts t tick (number + length t.loopbacks) xs (told t tick number l.0 old).messages new.messages next)
       (sym (messages-are t es lawful (step.LinkDown l) turn refl))
-      (by did.on (switch-at t lawful (given t es) (world_of t es) old stands l.0 did.on there did.switch) did.session)
+      (by did.on (switch-at t lawful (given t es) (rested_of t es) (world_of t es) old stands l.0 did.on there did.switch) did.session)
     where
       there : l.0 < length t.links
       there = less_tells l.0 (length t.links) turn.fitting
@@ -120,21 +122,21 @@ module _ (t : Network) (lawful : IsLawful t) (tick number next : ℕ) (old new :
           (map message_of (flat_map (node_says t (world_of t es) (step.LinkDown l)) (acting t (step.LinkDown l))))
           (told t tick number l.0 old).messages new.messages next
       by true e ends =
-          turned-puts t es lawful (world_of t es) (step.LinkDown l) turn refl l.0 there refl refl (λ site. refl) (Closes l.0)
+          turned-puts t lawful es ps journal tick (step.LinkDown l) turn refl l.0 there refl refl (λ site. refl) (Closes l.0)
           (λ n at. happens-down t (world_of t es) l was true e n ∙ an_end (is_end (wiring_of t) l.0 n) (Some (Closes l.0)) at)
           (λ n at. happens-down t (world_of t es) l was true e n ∙ no_end (is_end (wiring_of t) l.0 n) (Some (Closes l.0)) at)
-          (λ n at. tt) (λ n. tt) tick (number + length t.loopbacks) next (told t tick number l.0 old) new ends stands.each stands.nodes
+          (λ n at. tt) (λ n. refl) (number + length t.loopbacks) next (told t tick number l.0 old) new ends stands.each stands.nodes
       by false e same =
-          quiet-puts t es lawful (world_of t es) (step.LinkDown l) turn refl l.0 there refl refl (λ site. refl)
+          quiet-puts t lawful es ps journal tick (step.LinkDown l) turn refl l.0 there refl refl (λ site. refl)
           (λ n. happens-down t (world_of t es) l was false e n ∙ no_event (is_end (wiring_of t) l.0 n))
-          tick (number + length t.loopbacks) next (told t tick number l.0 old).messages new.messages (ap (λ (c : Carried). c.messages) same.0) same.1
+          (number + length t.loopbacks) next (told t tick number l.0 old).messages new.messages (ap (λ (c : Carried). c.messages) same.0) same.1
 
-  puts-switch : (es : List JournalEntry) (l : LinkNo) (on : Bool) → IsTransport t es old → IsTurn t (world_of t es) (step.LdpAdmin l on) →
+  puts-switch : (es : List JournalEntry) (ps : List (List ℕ)) → IsLawfulJournal t es ps → (l : LinkNo) (on : Bool) → IsTransport t es old → IsTurn t (world_of t es) (step.LdpAdmin l on) →
       Switches t tick number l.0 on old new next
       → Puts t tick number (messages_now t es (step.LdpAdmin l on)) (switched l.0 on old).messages new.messages next
-  puts-switch es l on stands turn did =
+  puts-switch es ps journal l on stands turn did =
       subst (λ xs. Puts t tick number xs (switched l.0 on old).messages new.messages next) (sym (messages-are t es lawful (step.LdpAdmin l on) turn refl))
-      (by (is_link_up old.changes l.0) (up-at t lawful (given t es) (world_of t es) old stands l.0 there) did)
+      (by (is_link_up old.changes l.0) (up-at t lawful (given t es) (rested_of t es) (world_of t es) old stands l.0 there) did)
     where
       there : l.0 < length t.links
       there = less_tells l.0 (length t.links) turn.fitting
@@ -143,24 +145,24 @@ module _ (t : Network) (lawful : IsLawful t) (tick number next : ℕ) (old new :
       here true n at = here-up es l there n at
       here false n at = tt
 
-      brought : (on : Bool) (n : ℕ) → IsBrought (wiring_of t) (node_at t (world_of t es) n) (turned_by on l.0)
-      brought true n = tt
-      brought false n = tt
+      plain : (b : Bool) (n : ℕ) → event_with (wiring_of t) (labels_at t (pushed es tick (step.LdpAdmin l on))) n (turned_by b l.0) ≡ turned_by b l.0
+      plain true n = refl
+      plain false n = refl
 
       by : (up : Bool) → up ≡ (world_of t es).config.is_up l.0 → TurnsIf up t tick number l.0 (turned_by on l.0) (switched l.0 on old) new next
           → Puts t tick number (map message_of (flat_map (node_says t (world_of t es) (step.LdpAdmin l on)) (acting t (step.LdpAdmin l on))))
           (switched l.0 on old).messages new.messages next
       by true e ends =
-          turned-puts t es lawful (world_of t es) (step.LdpAdmin l on) turn refl l.0 there refl refl (λ site. refl) (turned_by on l.0)
+          turned-puts t lawful es ps journal tick (step.LdpAdmin l on) turn refl l.0 there refl refl (λ site. refl) (turned_by on l.0)
           (λ n at. happens-switch t (world_of t es) l on true e n
           ∙ an_end (is_end (wiring_of t) l.0 n) (turned l.0 ((world_of t es).config.ldp_on l.0) on) at
           ∙ switch_turns l.0 on ((world_of t es).config.ldp_on l.0) turn.changes)
           (λ n at. happens-switch t (world_of t es) l on true e n ∙ no_end (is_end (wiring_of t) l.0 n) (turned l.0 ((world_of t es).config.ldp_on l.0) on) at)
-          (here on) (brought on) tick number next (switched l.0 on old) new ends stands.each stands.nodes
+          (here on) (plain on) number next (switched l.0 on old) new ends stands.each stands.nodes
       by false e same =
-          quiet-puts t es lawful (world_of t es) (step.LdpAdmin l on) turn refl l.0 there refl refl (λ site. refl)
+          quiet-puts t lawful es ps journal tick (step.LdpAdmin l on) turn refl l.0 there refl refl (λ site. refl)
           (λ n. happens-switch t (world_of t es) l on false e n ∙ no_event (is_end (wiring_of t) l.0 n))
-          tick number next (switched l.0 on old).messages new.messages (ap (λ (c : Carried). c.messages) same.0) same.1
+          number next (switched l.0 on old).messages new.messages (ap (λ (c : Carried). c.messages) same.0) same.1
 
   link-rest : (l : ℕ) (up : Bool) → TurnsLink t tick number l up old new next → Rest (told t tick number l old) new
   link-rest l up did = by did.on did.session
@@ -186,31 +188,31 @@ module _ (t : Network) (lawful : IsLawful t) (tick number next : ℕ) (old new :
 
   pub did-up : (l : LinkNo) → TurnsLink t tick number l.0 true old new next → Did t tick number (step.LinkUp l) old new (next - number)
   did-up l did = record {
-    goes = λ es stands turn. then-stands t es tick (step.LinkUp l) new (λ node. refl)
-        (goes-up t es lawful (world_of t es) old stands l tick number new next turn did);
+    goes = λ es stands turn. then-stands t es tick (step.LinkUp l) new
+        (goes-up t lawful es turn.inputs turn.lawful tick old stands l number new next turn.turn did);
     notices = notices-are t l.0 tick number old new (link-rest l.0 true did).notices;
     messages = λ es stands turn.
-        (puts-up es l stands turn did).keys
+        (puts-up es turn.inputs turn.lawful l stands turn.turn did).keys
         ∙ ap (λ ks. ks ++ keys_on (of_messages t) (numbered t tick (number + length t.loopbacks) (messages_now t es (step.LinkUp l))))
         (keys-cut l.0 old.messages)
         ∙ ap (λ n. messages_leave (step.LinkUp l) (keys_in old.messages) ++ keys_on (of_messages t)
         (numbered t tick (number + n) (messages_now t es (step.LinkUp l)))) (sym (length-notices l.0));
-    count = λ es stands turn. made-is (length t.loopbacks) (messages_now t es (step.LinkUp l)) (puts-up es l stands turn did).next_is
+    count = λ es stands turn. made-is (length t.loopbacks) (messages_now t es (step.LinkUp l)) (puts-up es turn.inputs turn.lawful l stands turn.turn did).next_is
         ∙ ap (λ n. n + length (messages_now t es (step.LinkUp l))) (sym (length-notices l.0));
   }
 
   pub did-down : (l : LinkNo) → TurnsLink t tick number l.0 false old new next → Did t tick number (step.LinkDown l) old new (next - number)
   did-down l did = record {
-    goes = λ es stands turn. then-stands t es tick (step.LinkDown l) new (λ node. refl)
-        (goes-down t es lawful (world_of t es) old stands l tick number new next turn did);
+    goes = λ es stands turn. then-stands t es tick (step.LinkDown l) new
+        (goes-down t lawful es turn.inputs turn.lawful tick old stands l number new next turn.turn did);
     notices = notices-are t l.0 tick number old new (link-rest l.0 false did).notices;
     messages = λ es stands turn.
-        (puts-down es l stands turn did).keys
+        (puts-down es turn.inputs turn.lawful l stands turn.turn did).keys
         ∙ ap (λ ks. ks ++ keys_on (of_messages t) (numbered t tick (number + length t.loopbacks) (messages_now t es (step.LinkDown l))))
         (keys-cut l.0 old.messages)
         ∙ ap (λ n. messages_leave (step.LinkDown l) (keys_in old.messages) ++ keys_on (of_messages t)
         (numbered t tick (number + n) (messages_now t es (step.LinkDown l)))) (sym (length-notices l.0));
-    count = λ es stands turn. made-is (length t.loopbacks) (messages_now t es (step.LinkDown l)) (puts-down es l stands turn did).next_is
+    count = λ es stands turn. made-is (length t.loopbacks) (messages_now t es (step.LinkDown l)) (puts-down es turn.inputs turn.lawful l stands turn.turn did).next_is
         ∙ ap (λ n. n + length (messages_now t es (step.LinkDown l))) (sym (length-notices l.0));
   }
 
@@ -219,13 +221,13 @@ module _ (t : Network) (lawful : IsLawful t) (tick number next : ℕ) (old new :
 
   pub did-switch : (l : LinkNo) (on : Bool) → Switches t tick number l.0 on old new next → Did t tick number (step.LdpAdmin l on) old new (next - number)
   did-switch l on did = record {
-    goes = λ es stands turn. then-stands t es tick (step.LdpAdmin l on) new (λ node. refl)
-        (goes-switch t es lawful (world_of t es) old stands l on tick number new next turn did);
+    goes = λ es stands turn. then-stands t es tick (step.LdpAdmin l on) new
+        (goes-switch t lawful es turn.inputs turn.lawful tick old stands l on number new next turn.turn did);
     notices = ap keys_in (switch-rest l.0 on did).notices ∙ sym (append-nil (keys_in old.notices));
     messages = λ es stands turn.
-        (puts-switch es l on stands turn did).keys
+        (puts-switch es turn.inputs turn.lawful l on stands turn.turn did).keys
         ∙ ap (λ ks. ks ++ keys_on (of_messages t) (numbered t tick number (messages_now t es (step.LdpAdmin l on)))) (keys-cut l.0 old.messages)
         ∙ ap (λ n. messages_leave (step.LdpAdmin l on) (keys_in old.messages) ++ keys_on (of_messages t)
         (numbered t tick n (messages_now t es (step.LdpAdmin l on)))) (no-more number);
-    count = λ es stands turn. let n = (puts-switch es l on stands turn did).next_is in omega (arith, n);
+    count = λ es stands turn. let n = (puts-switch es turn.inputs turn.lawful l on stands turn.turn did).next_is in omega (arith, n);
   }

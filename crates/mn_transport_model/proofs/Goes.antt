@@ -20,7 +20,14 @@ use Rattle.mn_node.specs.Machine.{Event, Opens, Closes}
 use Rattle.mn_node.proofs.Lists.{map-put}
 use Rattle.mn_ledger.specs.Tables.{put}
 use Rattle.mn_ledger.specs.World.{World}
-use Rattle.mn_ledger.specs.Ledger.{after}
+use Rattle.mn_ledger.specs.Ledger.{after, world_of}
+use Rattle.mn_ledger.specs.Lawful.{IsLawfulJournal}
+use Rattle.mn_ledger.specs.Transport.{is_transport}
+use Rattle.mn_ledger.specs.Places.{home_of}
+use Rattle.mn_reuse.specs.Resting.{rested_of}
+use Rattle.mn_reuse.specs.Relabelled.{event_with, labels_at}
+use Rattle.mn_timetable.specs.Steps.{pushed}
+use Rattle.mn_lsr.specs.Standing.{Standing}
 use Rattle.mn_ledger.proofs.GoingBy.{put_here, put_off}
 use Rattle.mn_slice.specs.Slice.{node_at, event_of, turned}
 use Rattle.mn_frames.specs.Given.{given}
@@ -29,12 +36,13 @@ use Rattle.mn_transport_model.specs.Carried.{Carried}
 use Rattle.mn_transport_model.specs.Sending.{notices_to}
 use Rattle.mn_transport_model.specs.Acting.{turned_by, Acts}
 use Rattle.mn_transport_model.specs.Doing.{TurnsEnds, TurnsIf, TurnsLink, Switches, told, switched}
-use Rattle.mn_transport_model.specs.Stands.{IsNode, StandsFor}
+use Rattle.mn_transport_model.specs.Stands.{own_of, IsNode, StandsFor, IsTransport}
 use Rattle.mn_transport_model.specs.Steps.{IsTurn}
 use Rattle.mn_transport_model.proofs.Events.{not_off, no_end, an_end, no_event, switch_turns, happens-up, happens-down, happens-switch}
 use Rattle.mn_transport_model.proofs.Lists.{Each}
 use Rattle.mn_transport_model.proofs.Own.{IsHere}
-use Rattle.mn_transport_model.proofs.Releases.{IsBrought}
+use Rattle.mn_transport_model.proofs.Nodes.{own-is, site-stays}
+use Rattle.mn_transport_model.proofs.Flown.{flies-before}
 use Rattle.mn_transport_model.proofs.Spelled.{FliesAs}
 use Rattle.mn_transport_model.proofs.Noticed.{count-append, told-here, told-off}
 use Rattle.mn_transport_model.proofs.Ends.{cut-anew, quiet-flies, quiet-nodes, turned-nodes, turned-each, turned-flies}
@@ -83,17 +91,40 @@ odd_turns (suc (suc count)) =
     ap (λ n. n == 1) (let e : (suc (suc count) + 1) % 2 ≡ (count + 1) % 2 = omega arith in e) ∙ odd_turns count
     ∙ ap (λ n. not (n == 1)) (let e : count % 2 ≡ suc (suc count) % 2 = omega arith in e)
 
-module _ (t : Network) (es : List JournalEntry) (lawful : IsLawful t) (w : World) (old : Carried) (stands : StandsFor t (given t es) w old) where
-  are : Each (λ n x. IsNode t (given t es) w n x) old.nodes
+module _ (t : Network) (lawful : IsLawful t) (es : List JournalEntry) (ps : List (List ℕ)) (journal : IsLawfulJournal t es ps) (tick : ℕ) (old : Carried)
+    (stands : IsTransport t es old) where
+  abbrev w : World
+  w = world_of t es
+
+  -- the step is done, and the transport stands for the journal with one entry more
+  abbrev IsDone : Step → Carried → Type 0
+  IsDone s new = StandsFor t (given t (pushed es tick s)) (rested_of t (pushed es tick s)) (after t (world_of t es) s) new
+
+  abbrev NodesThen : Step → List Standing → Type 0
+  NodesThen s nodes = Each (λ n x. IsNode t (given t (pushed es tick s)) (rested_of t (pushed es tick s)) (after t (world_of t es) s) n x) nodes
+
+  -- all that flies then is spelled by the labels of after
+  abbrev FliesThen : Step → Carried → ℕ → Dir → Type 0
+  FliesThen s new k dir = FliesAs (wiring_of t) (labels_at t (pushed es tick s)) k dir ((after t (world_of t es) s).sessions.heard k (receiver (wiring_of t) k dir))
+      ((after t (world_of t es) s).sessions.said k (sender (wiring_of t) k dir)) new.messages
+
+  pub by-labels : (s : Step) (new : Carried) (k : ℕ) (dir : Dir) → FliesThen s new k dir →
+      FliesAs (wiring_of t) (own_of (given t (pushed es tick s))) k dir ((after t (world_of t es) s).sessions.heard k (receiver (wiring_of t) k dir))
+      ((after t (world_of t es) s).sessions.said k (sender (wiring_of t) k dir)) new.messages
+  by-labels s new k dir =
+      subst (λ g. FliesAs (wiring_of t) g k dir ((after t w s).sessions.heard k (receiver (wiring_of t) k dir)) ((after t w s).sessions.said k (sender (wiring_of t) k dir)) new.messages)
+      (sym (own-is t (pushed es tick s)))
+
+  are : Each (λ n x. IsNode t (given t es) (rested_of t es) w n x) old.nodes
   are n x is = stands.nodes n x is
 
   -- 2. A link comes up or goes down
 
-  module _ (s : Step) (l : ℕ) (there : l < length t.links) (up : Bool)
+  module _ (s : Step) (moves : is_transport s ≡ true) (l : ℕ) (there : l < length t.links) (up : Bool)
       (changes : (after t w s).views.changes ≡ put w.views.changes l (w.views.changes l + 1)) (learned : (after t w s).views.learned ≡ w.views.learned)
       (ups : (after t w s).config.is_up ≡ put w.config.is_up l up) (was : w.config.is_up l ≡ not up) (ldp : (after t w s).config.ldp_on ≡ w.config.ldp_on)
       (attached : (site : ℕ) → (after t w s).config.attached site ≡ w.config.attached site)
-      (tick number : ℕ) (new : Carried) (rest : Rest (told t tick number l old) new) where
+      (number : ℕ) (new : Carried) (rest : Rest (told t tick number l old) new) where
     changed : new.changes ≡ map (after t w s).views.changes (links_of (wiring_of t))
     changed =
         rest.changes ∙ ap (λ xs. slice_set xs l (slice_index xs l + 1)) stands.changes
@@ -141,11 +172,7 @@ module _ (t : Network) (es : List JournalEntry) (lawful : IsLawful t) (w : World
               omega (arith, more, before, same, none, then_is))
         ]
 
-    link-stands : length new.nodes ≡ length t.loopbacks → Each (λ n x. IsNode t (given t es) (after t w s) n x) new.nodes
-        → ((k : ℕ) (dir : Dir) → k < length t.links
-        → FliesAs (wiring_of t) k dir ((after t w s).sessions.heard k (receiver (wiring_of t) k dir))
-        ((after t w s).sessions.said k (sender (wiring_of t) k dir)) new.messages)
-        → StandsFor t (given t es) (after t w s) new
+    link-stands : length new.nodes ≡ length t.loopbacks → NodesThen s new.nodes → ((k : ℕ) (dir : Dir) → k < length t.links → FliesThen s new k dir) → IsDone s new
     link-stands each nodes flies = record {
       works = rest.failed ∙ stands.works;
       each = each;
@@ -154,28 +181,29 @@ module _ (t : Network) (es : List JournalEntry) (lawful : IsLawful t) (w : World
       up = is_up;
       switches = rest.switches ∙ stands.switches ∙ ap (λ f. map f (links_of (wiring_of t))) (sym ldp);
       each_site = ap length rest.labels ∙ stands.each_site;
-      sites = λ site attachment h at. ap (λ xs. slice_index xs site) rest.labels ∙ stands.sites site attachment h (sym (attached site) ∙ at);
+      sites = λ site attachment h at. ap (λ xs. slice_index xs site) rest.labels ∙ stands.sites site attachment h (sym (attached site) ∙ at)
+          ∙ sym (site-stays t es tick s (home_of t site) site attachment moves);
       notices = notified;
-      messages = flies;
+      messages = λ k dir h. by-labels s new k dir (flies k dir h);
     }
 
-  ends-rest : (tick number l : ℕ) (e : Event) (c new : Carried) (next : ℕ) → TurnsEnds t tick number l e c new next → Rest c new
-  ends-rest tick number l e c new next did =
+  ends-rest : (number l : ℕ) (e : Event) (c new : Carried) (next : ℕ) → TurnsEnds t tick number l e c new next → Rest c new
+  ends-rest number l e c new next did =
       both-rest c did.middle new (act-rest t tick number (link (wiring_of t) l).a.0 e c did.middle did.second_number did.first)
       (act-rest t tick did.second_number (link (wiring_of t) l).b.0 e did.middle new next did.second)
 
   length-sessions : (n : ℕ) → length (node_at t w n).sessions ≡ length t.links
   length-sessions n = length-map-range_with_len _ 0 (length t.links)
 
-  pub goes-up : (l : LinkNo) (tick number : ℕ) (new : Carried) (next : ℕ) → IsTurn t w (step.LinkUp l) → TurnsLink t tick number l.0 true old new next →
-      StandsFor t (given t es) (after t w (step.LinkUp l)) new
-  goes-up l tick number new next turn did = by did.on (switch-at t lawful (given t es) w old stands l.0 did.on there did.switch) did.session
+  pub goes-up : (l : LinkNo) (number : ℕ) (new : Carried) (next : ℕ) → IsTurn t w (step.LinkUp l) → TurnsLink t tick number l.0 true old new next →
+      IsDone (step.LinkUp l) new
+  goes-up l number new next turn did = by did.on (switch-at t lawful (given t es) (rested_of t es) w old stands l.0 did.on there did.switch) did.session
     where
       there : l.0 < length t.links
       there = less_tells l.0 (length t.links) turn.fitting
 
       by : (on : Bool) → on ≡ w.config.ldp_on l.0 → TurnsIf on t tick (number + length t.loopbacks) l.0 (Opens l.0) (told t tick number l.0 old) new next →
-          StandsFor t (given t es) (after t w (step.LinkUp l)) new
+          IsDone (step.LinkUp l) new
       by true e ends =
           let on_end : (n : ℕ) → is_end (wiring_of t) l.0 n ≡ true → event_of t w (step.LinkUp l) n ≡ Some (Opens l.0) =
           λ n at. happens-up t w l turn.changes true e n ∙ an_end (is_end (wiring_of t) l.0 n) (Some (Opens l.0)) at in
@@ -183,29 +211,28 @@ module _ (t : Network) (es : List JournalEntry) (lawful : IsLawful t) (w : World
           λ n at. happens-up t w l turn.changes true e n ∙ no_end (is_end (wiring_of t) l.0 n) (Some (Opens l.0)) at in
           let here : (n : ℕ) → is_end (wiring_of t) l.0 n ≡ true → IsHere (wiring_of t) (node_at t w n) (Opens l.0) =
           λ n at. (there, at, subst (λ k. l.0 < k) (sym (length-sessions n)) there) in
-          link-stands (step.LinkUp l) l.0 there true refl refl refl turn.changes refl (λ site. refl) tick number new
-          (ends-rest tick (number + length t.loopbacks) l.0 (Opens l.0) (told t tick number l.0 old) new next ends)
-          (turned-each t es lawful w (step.LinkUp l) turn refl l.0 there refl refl (λ site. refl) (Opens l.0) on_end off_end here (λ n. tt) tick
+          link-stands (step.LinkUp l) refl l.0 there true refl refl refl turn.changes refl (λ site. refl) number new
+          (ends-rest (number + length t.loopbacks) l.0 (Opens l.0) (told t tick number l.0 old) new next ends)
+          (turned-each t lawful es ps journal tick (step.LinkUp l) turn refl l.0 there refl refl (λ site. refl) (Opens l.0) on_end off_end here (λ n. refl)
           (number + length t.loopbacks) next (told t tick number l.0 old) new ends stands.each are)
-          (turned-nodes t es lawful w (step.LinkUp l) turn refl l.0 there refl refl (λ site. refl) (Opens l.0) on_end off_end here (λ n. tt) tick
+          (turned-nodes t lawful es ps journal tick (step.LinkUp l) turn refl l.0 there refl refl (λ site. refl) (Opens l.0) on_end off_end here (λ n. refl)
           (number + length t.loopbacks) next (told t tick number l.0 old) new ends stands.each are)
-          (λ k dir h. turned-flies t es lawful w (step.LinkUp l) turn refl l.0 there refl refl (λ site. refl) (Opens l.0) on_end off_end here (λ n. tt) tick
+          (λ k dir h. turned-flies t lawful es ps journal tick (step.LinkUp l) turn refl l.0 there refl refl (λ site. refl) (Opens l.0) on_end off_end here (λ n. refl)
           (number + length t.loopbacks) next (told t tick number l.0 old) new ends stands.each are k dir h
-          (cut-anew (wiring_of t) w.sessions l.0 k dir old.messages (stands.messages k dir h)))
+          (cut-anew (wiring_of t) (labels_at t (pushed es tick (step.LinkUp l))) w.sessions l.0 k dir old.messages (flies-before t lawful es ps journal tick (step.LinkUp l) turn refl old stands k dir h)))
       by false e same =
           let none : (n : ℕ) → event_of t w (step.LinkUp l) n ≡ None = λ n. happens-up t w l turn.changes false e n ∙ no_event (is_end (wiring_of t) l.0 n) in
-          link-stands (step.LinkUp l) l.0 there true refl refl refl turn.changes refl (λ site. refl) tick number new
+          link-stands (step.LinkUp l) refl l.0 there true refl refl refl turn.changes refl (λ site. refl) number new
           (same-rest (told t tick number l.0 old) new same.0)
           (ap (λ (c : Carried). length c.nodes) same.0 ∙ stands.each)
-          (subst (Each (λ n x. IsNode t (given t es) (after t w (step.LinkUp l)) n x)) (sym (ap (λ (c : Carried). c.nodes) same.0))
-          (quiet-nodes t es lawful w (step.LinkUp l) turn refl l.0 there refl refl (λ site. refl) none old.nodes stands.each are))
-          (λ k dir h. subst (λ (c : Carried). FliesAs (wiring_of t) k dir ((after t w (step.LinkUp l)).sessions.heard k (receiver (wiring_of t) k dir))
-          ((after t w (step.LinkUp l)).sessions.said k (sender (wiring_of t) k dir)) c.messages) (sym same.0)
-          (quiet-flies t es lawful w (step.LinkUp l) turn refl l.0 there refl refl (λ site. refl) none k dir old.messages (stands.messages k dir h)))
+          (subst (NodesThen (step.LinkUp l)) (sym (ap (λ (c : Carried). c.nodes) same.0))
+          (quiet-nodes t lawful es ps journal tick (step.LinkUp l) turn refl l.0 there refl refl (λ site. refl) none old.nodes stands.each are))
+          (λ k dir h. subst (λ (c : Carried). FliesThen (step.LinkUp l) c k dir) (sym same.0)
+          (quiet-flies t lawful es ps journal tick (step.LinkUp l) turn refl l.0 there refl refl (λ site. refl) none k dir old.messages (flies-before t lawful es ps journal tick (step.LinkUp l) turn refl old stands k dir h)))
 
-  pub goes-down : (l : LinkNo) (tick number : ℕ) (new : Carried) (next : ℕ) → IsTurn t w (step.LinkDown l) →
-      TurnsLink t tick number l.0 false old new next → StandsFor t (given t es) (after t w (step.LinkDown l)) new
-  goes-down l tick number new next turn did = by did.on (switch-at t lawful (given t es) w old stands l.0 did.on there did.switch) did.session
+  pub goes-down : (l : LinkNo) (number : ℕ) (new : Carried) (next : ℕ) → IsTurn t w (step.LinkDown l) →
+      TurnsLink t tick number l.0 false old new next → IsDone (step.LinkDown l) new
+  goes-down l number new next turn did = by did.on (switch-at t lawful (given t es) (rested_of t es) w old stands l.0 did.on there did.switch) did.session
     where
       there : l.0 < length t.links
       there = less_tells l.0 (length t.links) turn.fitting
@@ -214,40 +241,36 @@ module _ (t : Network) (es : List JournalEntry) (lawful : IsLawful t) (w : World
       was = not_off (w.config.is_up l.0) turn.changes
 
       by : (on : Bool) → on ≡ w.config.ldp_on l.0 → TurnsIf on t tick (number + length t.loopbacks) l.0 (Closes l.0) (told t tick number l.0 old) new next →
-          StandsFor t (given t es) (after t w (step.LinkDown l)) new
+          IsDone (step.LinkDown l) new
       by true e ends =
           let on_end : (n : ℕ) → is_end (wiring_of t) l.0 n ≡ true → event_of t w (step.LinkDown l) n ≡ Some (Closes l.0) =
           λ n at. happens-down t w l was true e n ∙ an_end (is_end (wiring_of t) l.0 n) (Some (Closes l.0)) at in
           let off_end : (n : ℕ) → is_end (wiring_of t) l.0 n ≡ false → event_of t w (step.LinkDown l) n ≡ None =
           λ n at. happens-down t w l was true e n ∙ no_end (is_end (wiring_of t) l.0 n) (Some (Closes l.0)) at in
-          link-stands (step.LinkDown l) l.0 there false refl refl refl was refl (λ site. refl) tick number new
-          (ends-rest tick (number + length t.loopbacks) l.0 (Closes l.0) (told t tick number l.0 old) new next ends)
-          (turned-each t es lawful w (step.LinkDown l) turn refl l.0 there refl refl (λ site. refl) (Closes l.0) on_end off_end (λ n at. tt) (λ n. tt) tick
+          link-stands (step.LinkDown l) refl l.0 there false refl refl refl was refl (λ site. refl) number new
+          (ends-rest (number + length t.loopbacks) l.0 (Closes l.0) (told t tick number l.0 old) new next ends)
+          (turned-each t lawful es ps journal tick (step.LinkDown l) turn refl l.0 there refl refl (λ site. refl) (Closes l.0) on_end off_end (λ n at. tt) (λ n. refl)
           (number + length t.loopbacks) next (told t tick number l.0 old) new ends stands.each are)
-          (turned-nodes t es lawful w (step.LinkDown l) turn refl l.0 there refl refl (λ site. refl) (Closes l.0) on_end off_end (λ n at. tt) (λ n. tt) tick
+          (turned-nodes t lawful es ps journal tick (step.LinkDown l) turn refl l.0 there refl refl (λ site. refl) (Closes l.0) on_end off_end (λ n at. tt) (λ n. refl)
           (number + length t.loopbacks) next (told t tick number l.0 old) new ends stands.each are)
-          (λ k dir h. turned-flies t es lawful w (step.LinkDown l) turn refl l.0 there refl refl (λ site. refl) (Closes l.0) on_end off_end (λ n at. tt)
-          (λ n. tt) tick (number + length t.loopbacks) next (told t tick number l.0 old) new ends stands.each are k dir h
-          (cut-anew (wiring_of t) w.sessions l.0 k dir old.messages (stands.messages k dir h)))
+          (λ k dir h. turned-flies t lawful es ps journal tick (step.LinkDown l) turn refl l.0 there refl refl (λ site. refl) (Closes l.0) on_end off_end (λ n at. tt)
+          (λ n. refl) (number + length t.loopbacks) next (told t tick number l.0 old) new ends stands.each are k dir h
+          (cut-anew (wiring_of t) (labels_at t (pushed es tick (step.LinkDown l))) w.sessions l.0 k dir old.messages (flies-before t lawful es ps journal tick (step.LinkDown l) turn refl old stands k dir h)))
       by false e same =
           let none : (n : ℕ) → event_of t w (step.LinkDown l) n ≡ None = λ n. happens-down t w l was false e n ∙ no_event (is_end (wiring_of t) l.0 n) in
-          link-stands (step.LinkDown l) l.0 there false refl refl refl was refl (λ site. refl) tick number new
+          link-stands (step.LinkDown l) refl l.0 there false refl refl refl was refl (λ site. refl) number new
           (same-rest (told t tick number l.0 old) new same.0)
           (ap (λ (c : Carried). length c.nodes) same.0 ∙ stands.each)
-          (subst (Each (λ n x. IsNode t (given t es) (after t w (step.LinkDown l)) n x)) (sym (ap (λ (c : Carried). c.nodes) same.0))
-          (quiet-nodes t es lawful w (step.LinkDown l) turn refl l.0 there refl refl (λ site. refl) none old.nodes stands.each are))
-          (λ k dir h. subst (λ (c : Carried). FliesAs (wiring_of t) k dir ((after t w (step.LinkDown l)).sessions.heard k (receiver (wiring_of t) k dir))
-          ((after t w (step.LinkDown l)).sessions.said k (sender (wiring_of t) k dir)) c.messages) (sym same.0)
-          (quiet-flies t es lawful w (step.LinkDown l) turn refl l.0 there refl refl (λ site. refl) none k dir old.messages (stands.messages k dir h)))
+          (subst (NodesThen (step.LinkDown l)) (sym (ap (λ (c : Carried). c.nodes) same.0))
+          (quiet-nodes t lawful es ps journal tick (step.LinkDown l) turn refl l.0 there refl refl (λ site. refl) none old.nodes stands.each are))
+          (λ k dir h. subst (λ (c : Carried). FliesThen (step.LinkDown l) c k dir) (sym same.0)
+          (quiet-flies t lawful es ps journal tick (step.LinkDown l) turn refl l.0 there refl refl (λ site. refl) none k dir old.messages (flies-before t lawful es ps journal tick (step.LinkDown l) turn refl old stands k dir h)))
 
   -- 3. LDP is switched on or off for a link
 
   module _ (l : LinkNo) (there : l.0 < length t.links) (on : Bool) (new : Carried) (rest : Rest (switched l.0 on old) new) where
-    switch-stands : length new.nodes ≡ length t.loopbacks → Each (λ n x. IsNode t (given t es) (after t w (step.LdpAdmin l on)) n x) new.nodes
-        → ((k : ℕ) (dir : Dir) → k < length t.links
-        → FliesAs (wiring_of t) k dir ((after t w (step.LdpAdmin l on)).sessions.heard k (receiver (wiring_of t) k dir))
-        ((after t w (step.LdpAdmin l on)).sessions.said k (sender (wiring_of t) k dir)) new.messages)
-        → StandsFor t (given t es) (after t w (step.LdpAdmin l on)) new
+    switch-stands : length new.nodes ≡ length t.loopbacks → NodesThen (step.LdpAdmin l on) new.nodes →
+        ((k : ℕ) (dir : Dir) → k < length t.links → FliesThen (step.LdpAdmin l on) new k dir) → IsDone (step.LdpAdmin l on) new
     switch-stands each nodes flies = record {
       works = rest.failed ∙ stands.works;
       each = each;
@@ -258,16 +281,17 @@ module _ (t : Network) (es : List JournalEntry) (lawful : IsLawful t) (w : World
           ∙ map-put w.config.ldp_on (put w.config.ldp_on l.0 on) (length t.links) l.0 on false (put_here w.config.ldp_on l.0 on)
           (λ k below d. put_off w.config.ldp_on l.0 on k d);
       each_site = ap length rest.labels ∙ stands.each_site;
-      sites = λ site attachment h at. ap (λ xs. slice_index xs site) rest.labels ∙ stands.sites site attachment h at;
+      sites = λ site attachment h at. ap (λ xs. slice_index xs site) rest.labels ∙ stands.sites site attachment h at
+          ∙ sym (site-stays t es tick (step.LdpAdmin l on) (home_of t site) site attachment refl);
       notices =
           λ k node h below. ap (λ xs. w.views.learned node k + length (on_channel (k * length t.loopbacks + node) xs)) rest.notices
           ∙ stands.notices k node h below;
-      messages = flies;
+      messages = λ k dir h. by-labels (step.LdpAdmin l on) new k dir (flies k dir h);
     }
 
-  pub goes-switch : (l : LinkNo) (on : Bool) (tick number : ℕ) (new : Carried) (next : ℕ) → IsTurn t w (step.LdpAdmin l on) →
-      Switches t tick number l.0 on old new next → StandsFor t (given t es) (after t w (step.LdpAdmin l on)) new
-  goes-switch l on tick number new next turn did = by (is_link_up old.changes l.0) (up-at t lawful (given t es) w old stands l.0 there) did
+  pub goes-switch : (l : LinkNo) (on : Bool) (number : ℕ) (new : Carried) (next : ℕ) → IsTurn t w (step.LdpAdmin l on) →
+      Switches t tick number l.0 on old new next → IsDone (step.LdpAdmin l on) new
+  goes-switch l on number new next turn did = by (is_link_up old.changes l.0) (up-at t lawful (given t es) (rested_of t es) w old stands l.0 there) did
     where
       there : l.0 < length t.links
       there = less_tells l.0 (length t.links) turn.fitting
@@ -276,32 +300,31 @@ module _ (t : Network) (es : List JournalEntry) (lawful : IsLawful t) (w : World
       here true n at = (there, at, subst (λ k. l.0 < k) (sym (length-sessions n)) there)
       here false n at = tt
 
-      brought : (on : Bool) (n : ℕ) → IsBrought (wiring_of t) (node_at t w n) (turned_by on l.0)
-      brought true n = tt
-      brought false n = tt
+      plain : (b : Bool) (n : ℕ) → event_with (wiring_of t) (labels_at t (pushed es tick (step.LdpAdmin l on))) n (turned_by b l.0) ≡ turned_by b l.0
+      plain true n = refl
+      plain false n = refl
 
       by : (up : Bool) → up ≡ w.config.is_up l.0 → TurnsIf up t tick number l.0 (turned_by on l.0) (switched l.0 on old) new next →
-          StandsFor t (given t es) (after t w (step.LdpAdmin l on)) new
+          IsDone (step.LdpAdmin l on) new
       by true e ends =
           let on_end : (n : ℕ) → is_end (wiring_of t) l.0 n ≡ true → event_of t w (step.LdpAdmin l on) n ≡ Some (turned_by on l.0) =
           λ n at. happens-switch t w l on true e n ∙ an_end (is_end (wiring_of t) l.0 n) (turned l.0 (w.config.ldp_on l.0) on) at
           ∙ switch_turns l.0 on (w.config.ldp_on l.0) turn.changes in
           let off_end : (n : ℕ) → is_end (wiring_of t) l.0 n ≡ false → event_of t w (step.LdpAdmin l on) n ≡ None =
           λ n at. happens-switch t w l on true e n ∙ no_end (is_end (wiring_of t) l.0 n) (turned l.0 (w.config.ldp_on l.0) on) at in
-          switch-stands l there on new (ends-rest tick number l.0 (turned_by on l.0) (switched l.0 on old) new next ends)
-          (turned-each t es lawful w (step.LdpAdmin l on) turn refl l.0 there refl refl (λ site. refl) (turned_by on l.0) on_end off_end (here on)
-          (brought on) tick number next (switched l.0 on old) new ends stands.each are)
-          (turned-nodes t es lawful w (step.LdpAdmin l on) turn refl l.0 there refl refl (λ site. refl) (turned_by on l.0) on_end off_end (here on)
-          (brought on) tick number next (switched l.0 on old) new ends stands.each are)
-          (λ k dir h. turned-flies t es lawful w (step.LdpAdmin l on) turn refl l.0 there refl refl (λ site. refl) (turned_by on l.0) on_end off_end
-          (here on) (brought on) tick number next (switched l.0 on old) new ends stands.each are k dir h
-          (cut-anew (wiring_of t) w.sessions l.0 k dir old.messages (stands.messages k dir h)))
+          switch-stands l there on new (ends-rest number l.0 (turned_by on l.0) (switched l.0 on old) new next ends)
+          (turned-each t lawful es ps journal tick (step.LdpAdmin l on) turn refl l.0 there refl refl (λ site. refl) (turned_by on l.0) on_end off_end (here on)
+          (plain on) number next (switched l.0 on old) new ends stands.each are)
+          (turned-nodes t lawful es ps journal tick (step.LdpAdmin l on) turn refl l.0 there refl refl (λ site. refl) (turned_by on l.0) on_end off_end (here on)
+          (plain on) number next (switched l.0 on old) new ends stands.each are)
+          (λ k dir h. turned-flies t lawful es ps journal tick (step.LdpAdmin l on) turn refl l.0 there refl refl (λ site. refl) (turned_by on l.0) on_end off_end
+          (here on) (plain on) number next (switched l.0 on old) new ends stands.each are k dir h
+          (cut-anew (wiring_of t) (labels_at t (pushed es tick (step.LdpAdmin l on))) w.sessions l.0 k dir old.messages (flies-before t lawful es ps journal tick (step.LdpAdmin l on) turn refl old stands k dir h)))
       by false e same =
           let none : (n : ℕ) → event_of t w (step.LdpAdmin l on) n ≡ None = λ n. happens-switch t w l on false e n ∙ no_event (is_end (wiring_of t) l.0 n) in
           switch-stands l there on new (same-rest (switched l.0 on old) new same.0)
           (ap (λ (c : Carried). length c.nodes) same.0 ∙ stands.each)
-          (subst (Each (λ n x. IsNode t (given t es) (after t w (step.LdpAdmin l on)) n x)) (sym (ap (λ (c : Carried). c.nodes) same.0))
-          (quiet-nodes t es lawful w (step.LdpAdmin l on) turn refl l.0 there refl refl (λ site. refl) none old.nodes stands.each are))
-          (λ k dir h. subst (λ (c : Carried). FliesAs (wiring_of t) k dir ((after t w (step.LdpAdmin l on)).sessions.heard k (receiver (wiring_of t) k dir))
-          ((after t w (step.LdpAdmin l on)).sessions.said k (sender (wiring_of t) k dir)) c.messages) (sym same.0)
-          (quiet-flies t es lawful w (step.LdpAdmin l on) turn refl l.0 there refl refl (λ site. refl) none k dir old.messages (stands.messages k dir h)))
+          (subst (NodesThen (step.LdpAdmin l on)) (sym (ap (λ (c : Carried). c.nodes) same.0))
+          (quiet-nodes t lawful es ps journal tick (step.LdpAdmin l on) turn refl l.0 there refl refl (λ site. refl) none old.nodes stands.each are))
+          (λ k dir h. subst (λ (c : Carried). FliesThen (step.LdpAdmin l on) c k dir) (sym same.0)
+          (quiet-flies t lawful es ps journal tick (step.LdpAdmin l on) turn refl l.0 there refl refl (λ site. refl) none k dir old.messages (flies-before t lawful es ps journal tick (step.LdpAdmin l on) turn refl old stands k dir h)))

@@ -10,16 +10,16 @@ use Rattle.mn_timetable.specs.Keys.{Key, keys_in, keys_on, channel_from, of_mess
 use Rattle.mn_transport_model.specs.Sending.{put_pdus}
 use Rattle.mn_node.proofs.News.{EachBy}
 
-pub keys-sent : (t : Network) (me tick number wd : ℕ) (n : Node) (xs : List Said) → EachBy me xs
-    → keys_in (put_pdus (wiring_of t) me tick number (pdus (wiring_of t) wd n xs)) ≡ keys_on (of_messages t) (numbered t tick number (map message_of xs))
-keys-sent t me tick number wd n [] h = refl
-keys-sent t me tick number wd n (x ∷ xs) h =
+pub keys-sent : (t : Network) (me tick number : ℕ) (own : ℕ → ℕ) (wd : ℕ) (n : Node) (xs : List Said) → EachBy me xs
+    → keys_in (put_pdus (wiring_of t) me tick number (pdus (wiring_of t) own wd n xs)) ≡ keys_on (of_messages t) (numbered t tick number (map message_of xs))
+keys-sent t me tick number own wd n [] h = refl
+keys-sent t me tick number own wd n (x ∷ xs) h =
     ap (λ end. let k : Key = record { channel = channel_from (wiring_of t) x.link end; due = tick + (link (wiring_of t) x.link).delay; number = number } in
-    k ∷ keys_in (put_pdus (wiring_of t) me tick (number + 1) (pdus (wiring_of t) wd (one_said n x.link) xs))) (sym h.0)
+    k ∷ keys_in (put_pdus (wiring_of t) me tick (number + 1) (pdus (wiring_of t) own wd (one_said n x.link) xs))) (sym h.0)
     ∙ ap (λ ks. (let k : Key =
     record { channel = channel_from (wiring_of t) x.link x.end; due = tick + (link (wiring_of t) x.link).delay; number = number } in k) ∷ ks)
-    (keys-sent t me tick (number + 1) wd (one_said n x.link) xs h.1)
+    (keys-sent t me tick (number + 1) own wd (one_said n x.link) xs h.1)
 
-pub length-pdus : (w : Wiring) (wd : ℕ) (n : Node) (xs : List Said) → length (pdus w wd n xs) ≡ length xs
-length-pdus w wd n [] = refl
-length-pdus w wd n (x ∷ xs) = ap suc (length-pdus w wd (one_said n x.link) xs)
+pub length-pdus : (w : Wiring) (own : ℕ → ℕ) (wd : ℕ) (n : Node) (xs : List Said) → length (pdus w own wd n xs) ≡ length xs
+length-pdus w own wd n [] = refl
+length-pdus w own wd n (x ∷ xs) = ap suc (length-pdus w own wd (one_said n x.link) xs)

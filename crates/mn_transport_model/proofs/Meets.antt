@@ -14,6 +14,7 @@ use Rattle.mn_topo.specs.declared.steps.Step.TheVariants as step
 use Rattle.mn_node.specs.Machine.{Event, Learns}
 use Rattle.mn_ledger.specs.Ledger.{world_of}
 use Rattle.mn_frames.specs.Given.{given}
+use Rattle.mn_reuse.specs.Resting.{rested_of}
 use Rattle.mn_transport_model.specs.Carried.{Carried}
 use Rattle.mn_transport_model.specs.Acting.{MayAct, MayHear}
 use Rattle.mn_transport_model.specs.Doing.{MayTurn, MaySwitch, Switches, LearnsNext, noticed, CanHear, HearsNext, taken}
@@ -28,26 +29,26 @@ use Rattle.mn_transport_model.proofs.Turned.{below-more, below-made, below-witho
 module _ (t : Network) (lawful : IsLawful t) (old : Carried) (works : old.failed ≡ false) where
   -- it works, so there is a journal for which it stands
   pub can-up : (l : LinkNo) → (old.failed ≡ false → MayDo t (step.LinkUp l) old) → MayTurn t old l.0 true
-  can-up l may = let m = may works in may-up t lawful (given t m.journal) (world_of t m.journal) old m.stands l m.turn
+  can-up l may = let m = may works in may-up t lawful (given t m.journal) (rested_of t m.journal) (world_of t m.journal) old m.stands l m.turn.turn
 
   pub can-down : (l : LinkNo) → (old.failed ≡ false → MayDo t (step.LinkDown l) old) → MayTurn t old l.0 false
-  can-down l may = let m = may works in may-down t lawful (given t m.journal) (world_of t m.journal) old m.stands l m.turn
+  can-down l may = let m = may works in may-down t lawful (given t m.journal) (rested_of t m.journal) (world_of t m.journal) old m.stands l m.turn.turn
 
   pub can-switch : (l : LinkNo) (on : Bool) → (old.failed ≡ false → MayDo t (step.LdpAdmin l on) old) → MaySwitch t old l.0 on
-  can-switch l on may = let m = may works in may-switch t lawful (given t m.journal) (world_of t m.journal) old m.stands l on m.turn
+  can-switch l on may = let m = may works in may-switch t lawful (given t m.journal) (rested_of t m.journal) (world_of t m.journal) old m.stands l on m.turn.turn
 
   pub can-learn : (node : NodeNo) (l : LinkNo) → (old.failed ≡ false → MayDo t (step.Learn node l) old) → MayAct t old node.0 (Learns l.0)
-  can-learn node l may = let m = may works in may-learn t lawful (given t m.journal) (world_of t m.journal) old m.stands node l m.turn
+  can-learn node l may = let m = may works in may-learn t lawful (given t m.journal) (rested_of t m.journal) (world_of t m.journal) old m.stands node l m.turn.turn
 
   pub learner-there : (node : NodeNo) (l : LinkNo) → (old.failed ≡ false → MayDo t (step.Learn node l) old) → node.0 < length t.loopbacks
   learner-there node l may =
-      let m = may works in less_tells node.0 (length t.loopbacks) (and_left (nat_lt node.0 (length t.loopbacks)) (nat_lt l.0 (length t.links)) m.turn.fitting)
+      let m = may works in less_tells node.0 (length t.loopbacks) (and_left (nat_lt node.0 (length t.loopbacks)) (nat_lt l.0 (length t.links)) m.turn.turn.fitting)
 
   pub can-hear-next : (l : LinkNo) (dir : Dir) → (old.failed ≡ false → MayDo t (step.HearLdp l dir) old) → CanHear t old l.0 dir
-  can-hear-next l dir may = let m = may works in can-hear t lawful (given t m.journal) (world_of t m.journal) old m.stands l dir m.turn
+  can-hear-next l dir may = let m = may works in can-hear t lawful m.journal m.turn.inputs m.turn.lawful 0 old m.stands l dir m.turn.turn
 
   pub heard-there : (l : LinkNo) (dir : Dir) → (old.failed ≡ false → MayDo t (step.HearLdp l dir) old) → l.0 < length t.links
-  heard-there l dir may = let m = may works in less_tells l.0 (length t.links) m.turn.fitting
+  heard-there l dir may = let m = may works in less_tells l.0 (length t.links) m.turn.turn.fitting
 
   module _ (tick number next : ℕ) (new : Carried) where
     pub meets-learn : (node : NodeNo) (l : LinkNo) → (old.failed ≡ false → MayDo t (step.Learn node l) old) → (channels : ℕ) × IsFlight channels old.notices

@@ -9,14 +9,16 @@ use Rattle.mn_flight.specs.Flying.{off_channel}
 use Rattle.mn_topo.specs.Network.{Network, wiring_of}
 use Rattle.mn_node.specs.Ldp.{Said}
 use Rattle.mn_node.specs.Node.{Node}
-use Rattle.mn_node.specs.Machine.{Event, changed, said}
+use Rattle.mn_node.specs.Machine.{Event}
+use Rattle.mn_ldp_session.specs.Spelling.{pdus}
+use Rattle.mn_lsr.specs.Turns.{kept_in}
 use Rattle.mn_node.proofs.News.{EachBy}
 use Rattle.mn_ledger.specs.Packets.{channel}
 use Rattle.mn_ledger.specs.Items.{Channel, Notices, Load, Notice as ANotice, message_of, numbered}
 use Rattle.mn_timetable.specs.Keys.{Key, keys_in, keys_on, of_notices, of_messages, but_two, keys_by}
 use Rattle.mn_timetable.proofs.Keys.{keys_put, keys_dropped, keys_more, numbered-append}
 use Rattle.mn_transport_model.specs.Carried.{Carried}
-use Rattle.mn_transport_model.specs.Sending.{notices_to, put_pdus, pdus_in, released_by, off_link}
+use Rattle.mn_transport_model.specs.Sending.{notices_to, put_pdus, pdus_in, off_link}
 use Rattle.mn_transport_model.specs.Acting.{Acts}
 use Rattle.mn_transport_model.proofs.Own.{AllOwn}
 use Rattle.mn_transport_model.proofs.Keyed.{keys-sent, length-pdus}
@@ -44,17 +46,16 @@ pub record Puts (t : Network) (tick number : ℕ) (xs : List (Channel × Load)) 
   pub keys : keys_in new ≡ keys_in old ++ keys_on (of_messages t) (numbered t tick number xs)
   pub next_is : next ≡ number + length xs
 
-pub puts-act : (t : Network) (tick number m next : ℕ) (e : Event) (old new : Carried) (acts : Acts t tick number m e old new next) (n : Node) →
-    acts.was.node ≡ n → EachBy m (said (wiring_of t) n e)
-    → Puts t tick number (map message_of (said (wiring_of t) n e)) old.messages new.messages next
-puts-act t tick number m next e old new acts n is by = record {
+pub puts-act : (t : Network) (tick number m next : ℕ) (e : Event) (old new : Carried) (acts : Acts t tick number m e old new next) (own : ℕ → ℕ) (wd : ℕ) (n : Node)
+    (xs : List Said) → pdus_in (wiring_of t) tick (kept_in acts.was) e ≡ pdus (wiring_of t) own wd n xs → EachBy m xs
+    → Puts t tick number (map message_of xs) old.messages new.messages next
+puts-act t tick number m next e old new acts own wd n xs is by = record {
   keys = ap (λ (c : Carried). keys_in c.messages) acts.new_is
-      ∙ ap (λ (x : Node). keys_in (old.messages ++ put_pdus (wiring_of t) m tick number (pdus_in (wiring_of t) x e))) is
-      ∙ keys_put old.messages (put_pdus (wiring_of t) m tick number (pdus_in (wiring_of t) n e))
-      ∙ ap (λ ks. keys_in old.messages ++ ks) (keys-sent t m tick number (released_by e) (changed (wiring_of t) n e) (said (wiring_of t) n e) by);
-  next_is = acts.next_is ∙ ap (λ (x : Node). number + length (pdus_in (wiring_of t) x e)) is
-      ∙ ap (λ k. number + k) (length-pdus (wiring_of t) (released_by e) (changed (wiring_of t) n e) (said (wiring_of t) n e)
-      ∙ sym (length-map (said (wiring_of t) n e) message_of));
+      ∙ ap (λ ps. keys_in (old.messages ++ put_pdus (wiring_of t) m tick number ps)) is
+      ∙ keys_put old.messages (put_pdus (wiring_of t) m tick number (pdus (wiring_of t) own wd n xs))
+      ∙ ap (λ ks. keys_in old.messages ++ ks) (keys-sent t m tick number own wd n xs by);
+  next_is = acts.next_is ∙ ap (λ ps. number + length ps) is
+      ∙ ap (λ k. number + k) (length-pdus (wiring_of t) own wd n xs ∙ sym (length-map xs message_of));
 }
 
 pub puts-both : (t : Network) (tick number middle next : ℕ) (xs ys : List (Channel × Load)) (a b c : List (Item (List ℕ))) →

@@ -1,18 +1,18 @@
 -- Where the transport stands for a world in which a step has its turn, its nodes may act.
-use Rattle.std.proofs.Common.{ℕ, zero, suc, ◌≡◌, ◌≢◌, ◌<◌, ◌≤◌, ◌^◌, Bool, true, false, List, [], ◌∷◌, length, refl, arith, sym, ◌∙◌, ap, subst, Option, None, Some}
+use Rattle.std.proofs.Common.{ℕ, zero, suc, ◌≡◌, ◌≢◌, ◌+◌, ◌<◌, ◌≤◌, ◌^◌, Bool, true, false, List, [], ◌∷◌, length, refl, arith, sym, ◌∙◌, ap, subst, Option, None, Some}
 use Rattle.std.proofs.Common.{get_or}
-use Rattle.std.specs.Prelude.{◌&&◌, not, nat_lt, slice_get, slice_index, if◌then◌else◌}
+use Rattle.std.specs.Prelude.{◌&&◌, not, nat_lt, slice_get, slice_index, option_map, if◌then◌else◌}
 use Rattle.std.proofs.lemmas.List.FromFn.{length-map-range_with_len, get_or-map-range_with_len}
 use Rattle.std.proofs.lemmas.List.{get_or_past}
 use Rattle.std.proofs.lemmas.Option.{get_or_from_slice_get}
 use Rattle.mn_base.proofs.Bools.{and_left, and_right, and_false, less_tells, not_less_tells, not_at_most_tells, clash, no}
-use Rattle.mn_wiring.specs.Wiring.{link, is_end}
+use Rattle.mn_wiring.specs.Wiring.{Wiring, link, is_end, across}
 use Rattle.mn_linkdb.specs.Changes.{is_odd, is_link_up}
 use Rattle.mn_topo.specs.Network.{Network, wiring_of}
 use Rattle.mn_topo.specs.Lawful.{IsLawful}
 use Rattle.mn_topo.specs.declared.steps.Step.TheVariants as step
-use Rattle.mn_node.specs.Node.{Session, session_at}
-use Rattle.mn_node.specs.Machine.{Event, Learns, Opens, Closes}
+use Rattle.mn_node.specs.Node.{Session, Node, session_at}
+use Rattle.mn_node.specs.Machine.{Event, Learns, Opens, Closes, Hears}
 use Rattle.mn_ledger.specs.World.{World}
 use Rattle.mn_ledger.specs.Transport.{lives}
 use Rattle.mn_ledger.specs.Refusal.{agree}
@@ -25,8 +25,12 @@ use Rattle.mn_lsr.specs.Standing.{Standing, HasNumbers}
 use Rattle.mn_transport_model.specs.Carried.{Carried}
 use Rattle.mn_transport_model.specs.Acting.{turned_by, link_in, IsReady, IsAtEnd, MayAct}
 use Rattle.mn_transport_model.specs.Doing.{MayBoth, MayTurn, MaySwitch}
-use Rattle.mn_transport_model.specs.Stands.{IsNode, StandsFor}
+use Rattle.mn_reuse.specs.Relabelled.{sessions_with, node_with}
+use Rattle.mn_reuse.specs.Relabelled.{session_with as session_with_labels}
+use Rattle.mn_transport_model.specs.Stands.{own_of, IsNode, StandsFor}
 use Rattle.mn_transport_model.specs.Steps.{IsTurn}
+use Rattle.mn_transport_model.proofs.Goings.{session-with}
+use Rattle.mn_transport_model.proofs.Flown.{count-with}
 
 pub there : {A : Type 0} (xs : List A) (k : ℕ) → k < length xs → (x : A) × (slice_get xs k ≡ Some x)
 there [] k h = absurd (let none : k < 0 → ⊥ = (λ p. omega (arith, p)) in none h)
@@ -45,7 +49,32 @@ some_if false c s e f = cc
 some_not_none : (s : Session) (o : Option Session) → o ≡ Some s → o ≢ None
 some_not_none s o e none = cc
 
-module _ (t : Network) (lawful : IsLawful t) (g : Labelling) (w : World) (carried : Carried) (stands : StandsFor t g w carried) where
+-- a node with other labels has the same sessions, and is as ready
+length-with : (w : Wiring) (own : ℕ → ℕ → ℕ) (me l : ℕ) (ss : List (Option Session)) → length (sessions_with w own me l ss) ≡ length ss
+length-with w own me l [] = refl
+length-with w own me l (s ∷ ss) = ap suc (length-with w own me (l + 1) ss)
+
+none-with : (w : Wiring) (own : ℕ → ℕ → ℕ) (n : Node) (l : ℕ) → session_at n l ≡ None → session_at (node_with w own n) l ≡ None
+none-with w own n l e = session-with w own n l ∙ ap (option_map (session_with_labels (own (across w l n.me)))) e
+
+some-with : (w : Wiring) (own : ℕ → ℕ → ℕ) (n : Node) (l : ℕ) → session_at n l ≢ None → session_at (node_with w own n) l ≢ None
+some-with w own n l d e = alive (session_at n l) d (sym (session-with w own n l) ∙ e)
+  where
+    alive : (o : Option Session) → o ≢ None → option_map (session_with_labels (own (across w l n.me))) o ≡ None → ⊥
+    alive None h f = h refl
+    alive (Some session) h f = cc
+
+ready-with : (w : Wiring) (own : ℕ → ℕ → ℕ) (changes : List ℕ) (n : Node) (e : Event) → IsReady changes n e → IsReady changes (node_with w own n) e
+ready-with w own changes n (Learns l) h = h
+ready-with w own changes n (Opens l) h = none-with w own n l h
+ready-with w own changes n (Closes l) h = some-with w own n l h
+ready-with w own changes n (Hears l message label) h = some-with w own n l h
+
+numbers-with : (w : Wiring) (own : ℕ → ℕ → ℕ) (n : Node) → HasNumbers n → HasNumbers (node_with w own n)
+numbers-with w own n h l =
+    subst (λ k. k ≤ 2 ^ 62) (sym (ap count_of (session-with w own n l) ∙ count-with (own (across w l n.me)) (session_at n l))) (h l)
+
+module _ (t : Network) (lawful : IsLawful t) (g : Labelling) (rested : ℕ → ℕ → ℕ) (w : World) (carried : Carried) (stands : StandsFor t g rested w carried) where
   -- no session lives on the link, or one does
   pub closed-at : (node l : ℕ) → l < length t.links → lives w.config l ≡ false → session_at (node_at t w node) l ≡ None
   closed-at node l h dead = session_at-is t w.config w.views w.sessions node l h ∙ none_if (lives w.config l) (is_end (wiring_of t) l node) _ dead
@@ -95,18 +124,18 @@ module _ (t : Network) (lawful : IsLawful t) (g : Labelling) (w : World) (carrie
       → MayAct t carried node event
   may-act few node event below link_there at_end ready =
       let found : (s : Standing) × (slice_get carried.nodes node ≡ Some s) = there carried.nodes node (subst (λ k. node < k) (sym stands.each) below) in
-      let is : IsNode t g w node found.0 = stands.nodes node found.0 found.1 in
+      let is : IsNode t g rested w node found.0 = stands.nodes node found.0 found.1 in
       record {
         was = found.0;
         there = found.1;
         wiring = is.wiring;
         me = ap (λ n. n.me) is.node_is;
         links = links-are;
-        sessions = ap (λ n. length n.sessions) is.node_is ∙ length-map-range_with_len _ 0 (length t.links);
+        sessions = ap (λ n. length n.sessions) is.node_is ∙ length-with (wiring_of t) (own_of g) node 0 (node_at t w node).sessions ∙ length-map-range_with_len _ 0 (length t.links);
         link = link_there;
         at_end = at_end;
-        ready = subst (λ n. IsReady carried.changes n event) (sym is.node_is) ready;
-        numbers = subst HasNumbers (sym is.node_is) (few-at few node);
+        ready = subst (λ n. IsReady carried.changes n event) (sym is.node_is) (ready-with (wiring_of t) (own_of g) carried.changes (node_at t w node) event ready);
+        numbers = subst HasNumbers (sym is.node_is) (numbers-with (wiring_of t) (own_of g) (node_at t w node) (few-at few node));
       }
 
   -- both ends of a link whose session doesn't live may open it, and of one whose session lives may close it

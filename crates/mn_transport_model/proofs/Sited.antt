@@ -4,8 +4,7 @@ use Rattle.std.specs.Prelude.{slice_get, slice_set, slice_index}
 use Rattle.std.proofs.lemmas.Option.{same_Some, slice_get_read, get_or_from_slice_get}
 use Rattle.mn_base.specs.declared.numbers.SiteNo.{SiteNo}
 use Rattle.mn_base.proofs.Bools.{less_tells}
-use Rattle.mn_labels.specs.declared.meaning.Bind.{Bind}
-use Rattle.mn_labels.specs.Labels.{meaning_of}
+use Rattle.mn_labels.specs.Labels.{Labels, greatest, meaning_of}
 use Rattle.mn_topo.specs.Network.{Network}
 use Rattle.mn_topo.specs.Lawful.{IsLawful}
 use Rattle.mn_topo.specs.declared.steps.Step.TheVariants as step
@@ -18,7 +17,7 @@ use Rattle.mn_lsr.specs.Standing.{Standing, IsAttachment}
 use Rattle.mn_transport_model.specs.Carried.{Carried}
 use Rattle.mn_transport_model.specs.Stands.{IsTransport}
 use Rattle.mn_transport_model.specs.Starting.{first_label, AreFirst}
-use Rattle.mn_transport_model.specs.Steps.{IsTurn, MayDo}
+use Rattle.mn_transport_model.specs.Steps.{HasTurn, MayDo}
 use Rattle.mn_transport_model.proofs.Attaching.{IsAttached, IsSpent, attach-goes, attach-next, attach-label, spent-stays}
 use Rattle.mn_transport_model.proofs.Detaching.{IsDetached, may-detach, detach-goes}
 use Rattle.mn_transport_model.proofs.Starts.{attach-first, label-first}
@@ -39,9 +38,9 @@ module _ (t : Network) (lawful : IsLawful t) (old seen : Carried) (view_is : old
   -- 1. Attached
 
   module _ (now : Standing) (label place : ℕ) (to : place ≡ s.0) (did : IsAttached s x now label) (es : List JournalEntry) (stands : IsTransport t es seen)
-      (turn : IsTurn t (world_of t es) (step.Attach s)) where
+      (turn : HasTurn t es (step.Attach s)) where
     there : s.0 < length t.sites
-    there = less_tells s.0 (length t.sites) turn.fitting
+    there = less_tells s.0 (length t.sites) turn.turn.fitting
 
     pub attached-goes : (tick : ℕ) →
         IsTransport t (pushed es tick (step.Attach s)) (record old { nodes = slice_set old.nodes index now; labels = slice_set old.labels place label })
@@ -56,21 +55,21 @@ module _ (t : Network) (lawful : IsLawful t) (old seen : Carried) (view_is : old
           labels =
               slice_set old.labels s.0 label;
         })) (sym (from ∙ home))
-        (attach-goes t lawful es tick s old x now label (stands-old es stands) there turn.changes (here es stands) did))
+        (attach-goes t lawful es turn.inputs turn.lawful tick s old x now label (stands-old es stands) there turn.turn.changes (here es stands) did))
 
     pub attached-label : (tick : ℕ) → label ≡ label_at (given t (pushed es tick (step.Attach s))) (home_of t s.0) s.0 ((world_of t es).config.attaches s.0 + 2)
-    attached-label tick = attach-label t lawful es tick s old x now label (stands-old es stands) there turn.changes (here es stands) did
+    attached-label tick = attach-label t lawful es turn.inputs turn.lawful tick s old x now label (stands-old es stands) there turn.turn.changes (here es stands) did
 
-    pub attached-next : label ≡ 16 + length (given t es (home_of t s.0))
-    attached-next = attach-next t lawful es 0 s old x now label (stands-old es stands) there turn.changes (here es stands) did
+    pub attached-next : label ≡ greatest (given t es (home_of t s.0)).given + 1
+    attached-next = attach-next t lawful es turn.inputs turn.lawful 0 s old x now label (stands-old es stands) there turn.turn.changes (here es stands) did
 
   -- what holds of the labels that it gave, if it has wanted no memory
-  pub of-edge : MayDo t (step.Attach s) seen → (R : List Bind → Type 0) → (x.failed ≡ false → R x.given.given) →
-      (standing : Standing) → slice_get seen.nodes (home_of t s.0) ≡ Some standing → R standing.given.given
+  pub of-edge : MayDo t (step.Attach s) seen → (R : Labels → Type 0) → (x.failed ≡ false → R x.labels) →
+      (standing : Standing) → slice_get seen.nodes (home_of t s.0) ≡ Some standing → R standing.labels
   of-edge may R holds standing at =
       let stands = stands-old may.journal may.stands in
       let read = here may.journal may.stands in
-      subst (λ (y : Standing). R y.given.given) (same_Some x standing (sym read ∙ ap (λ (c : Carried). slice_get c.nodes (home_of t s.0)) view_is ∙ at))
+      subst (λ (y : Standing). R y.labels) (same_Some x standing (sym read ∙ ap (λ (c : Carried). slice_get c.nodes (home_of t s.0)) view_is ∙ at))
       (holds (stands.nodes (home_of t s.0) x read).works)
 
   pub still-stands : (now : Standing) → IsSpent x now →
@@ -82,9 +81,9 @@ module _ (t : Network) (lawful : IsLawful t) (old seen : Carried) (view_is : old
   -- 2. Detached
 
   module _ (place : ℕ) (to : place ≡ s.0) (label : ℕ) (is : label ≡ get_or old.labels place label) (es : List JournalEntry) (stands : IsTransport t es seen)
-      (turn : IsTurn t (world_of t es) (step.Detach s)) where
+      (turn : HasTurn t es (step.Detach s)) where
     site-there : s.0 < length t.sites
-    site-there = less_tells s.0 (length t.sites) turn.fitting
+    site-there = less_tells s.0 (length t.sites) turn.turn.fitting
 
     label-is : label ≡ slice_index old.labels s.0
     label-is =
@@ -93,16 +92,16 @@ module _ (t : Network) (lawful : IsLawful t) (old seen : Carried) (view_is : old
         sym (get_or_from_slice_get old.labels place label 0 (slice_get_read old.labels (length old.labels) place label refl within is))
         ∙ ap (slice_index old.labels) to
 
-    pub may-end : IsAttachment (meaning_of x.given.given label)
+    pub may-end : IsAttachment (meaning_of x.labels label)
     may-end =
-        subst (λ n. IsAttachment (meaning_of x.given.given n)) (sym label-is)
-        (may-detach t lawful es 0 s old (stands-old es stands) site-there turn.changes x (here es stands))
+        subst (λ n. IsAttachment (meaning_of x.labels n)) (sym label-is)
+        (may-detach t lawful es turn.inputs turn.lawful 0 s old (stands-old es stands) site-there turn.turn.changes x (here es stands))
 
     pub detached-goes : (now : Standing) → IsDetached x now label →
         (tick : ℕ) → IsTransport t (pushed es tick (step.Detach s)) (record old { nodes = slice_set old.nodes index now })
     detached-goes now did tick =
         subst (λ k. IsTransport t (pushed es tick (step.Detach s)) (record old { nodes = slice_set old.nodes k now })) (sym (from ∙ home))
-        (detach-goes t lawful es tick s old (stands-old es stands) site-there turn.changes x (here es stands) now (subst (IsDetached x now) label-is did))
+        (detach-goes t lawful es turn.inputs turn.lawful tick s old (stands-old es stands) site-there turn.turn.changes x (here es stands) now (subst (IsDetached x now) label-is did))
 
   -- where it has wanted no memory
   pub edge-works : (es : List JournalEntry) → IsTransport t es seen → x.failed ≡ false

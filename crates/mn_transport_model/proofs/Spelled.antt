@@ -11,7 +11,7 @@ use Rattle.mn_wiring.specs.declared.links.Dir.TheVariants.{Forth, Back}
 use Rattle.mn_flight.specs.declared.Item.{Item}
 use Rattle.mn_flight.specs.Flying.{on_channel}
 use Rattle.mn_node.specs.Ldp.{Message, Initialization, KeepAlive, Address, Mapping, Withdraw, Release, Said, is_by, messages_of}
-use Rattle.mn_node.specs.Node.{Session, Node, session_at, label_of}
+use Rattle.mn_node.specs.Node.{Session, Node, session_at}
 use Rattle.mn_node.specs.Machine.{with_count}
 use Rattle.mn_ldp_session.specs.Spelling.{Pdu, pdu, pdu_in_network, count_of, one_said, pdus}
 use Rattle.mn_ledger.specs.Packets.{channel}
@@ -58,21 +58,22 @@ other-link w k l me dir d = numbers_apart k l (me == (link w k).a.0) dir d
 -- 2. A Release brings the label that is withdrawn
 
 -- each Release is of the label that the far end gave
-abbrev pub IsReleaseOf : Wiring → ℕ → ℕ → ℕ → Message → Type 0
-IsReleaseOf w me l wd (Release fec) = label_of (across w l me) fec ≡ wd
-IsReleaseOf w me l wd _ = ⊤
+abbrev pub IsReleaseOf : Wiring → (ℕ → ℕ → ℕ) → ℕ → ℕ → ℕ → Message → Type 0
+IsReleaseOf w g me l wd (Release fec) = g (across w l me) fec ≡ wd
+IsReleaseOf w g me l wd _ = ⊤
 
-abbrev pub AllReleases : Wiring → ℕ → ℕ → List Said → Type 0
-AllReleases w me wd [] = ⊤
-AllReleases w me wd (x ∷ xs) = IsReleaseOf w me x.link wd x.message × AllReleases w me wd xs
+abbrev pub AllReleases : Wiring → (ℕ → ℕ → ℕ) → ℕ → ℕ → List Said → Type 0
+AllReleases w g me wd [] = ⊤
+AllReleases w g me wd (x ∷ xs) = IsReleaseOf w g me x.link wd x.message × AllReleases w g me wd xs
 
-pdu-is : (w : Wiring) (l me wd id : ℕ) (m : Message) → IsReleaseOf w me l wd m → pdu w l me wd id m ≡ pdu_in_network w l me id m
-pdu-is w l me wd id Initialization h = refl
-pdu-is w l me wd id KeepAlive h = refl
-pdu-is w l me wd id Address h = refl
-pdu-is w l me wd id (Mapping fec) h = refl
-pdu-is w l me wd id (Withdraw fec) h = refl
-pdu-is w l me wd id (Release fec) h = ap (λ label. pdu w l me label id (Release fec)) (sym h)
+pdu-is : (w : Wiring) (g : ℕ → ℕ → ℕ) (l me wd id : ℕ) (m : Message) → IsReleaseOf w g me l wd m →
+    pdu w l me (g me) wd id m ≡ pdu_in_network w l me (g me) (g (across w l me)) id m
+pdu-is w g l me wd id Initialization h = refl
+pdu-is w g l me wd id KeepAlive h = refl
+pdu-is w g l me wd id Address h = refl
+pdu-is w g l me wd id (Mapping fec) h = refl
+pdu-is w g l me wd id (Withdraw fec) h = refl
+pdu-is w g l me wd id (Release fec) h = ap (λ label. pdu w l me (g me) label id (Release fec)) (sym h)
 
 -- 3. Counts
 
@@ -137,80 +138,80 @@ by-me : (x : Said) (me : ℕ) → x.end ≡ me → is_by x.link me x ≡ true
 by-me x me e = ap (λ b. b && (x.end == me)) (same_test x.link) ∙ ap (λ m. m == me) e ∙ same_test me
 
 -- a node's message on a link stands behind those that it said there
-mine-here : (w : Wiring) (me : ℕ) (dir : Dir) (tick number wd : ℕ) (n : Node) (x : Said) (xs : List Said) → n.me ≡ me →
+mine-here : (w : Wiring) (g : ℕ → ℕ → ℕ) (me : ℕ) (dir : Dir) (tick number wd : ℕ) (n : Node) (x : Said) (xs : List Said) → n.me ≡ me →
     (link w x.link).a.0 ≢ (link w x.link).b.0 → sender w x.link dir ≡ me
-    → IsOwn w n me x → IsReleaseOf w me x.link wd x.message
-    → bytes_on (channel x.link dir) (put_pdus w me tick (number + 1) (pdus w wd (one_said n x.link) xs)) ≡ spelled w x.link me
+    → IsOwn w n me x → IsReleaseOf w g me x.link wd x.message
+    → bytes_on (channel x.link dir) (put_pdus w me tick (number + 1) (pdus w (g me) wd (one_said n x.link) xs)) ≡ spelled w g x.link me
     (count_of (session_at (one_said n x.link) x.link) + 1) (messages_of x.link me xs)
-    → bytes_on (channel x.link dir) (put_pdus w me tick number (pdus w wd n (x ∷ xs))) ≡ spelled w x.link me (count_of (session_at n x.link) + 1)
+    → bytes_on (channel x.link dir) (put_pdus w me tick number (pdus w (g me) wd n (x ∷ xs))) ≡ spelled w g x.link me (count_of (session_at n x.link) + 1)
     (messages_of x.link me (x ∷ xs))
-mine-here w me dir tick number wd n x xs mine differ sends own rel rest =
+mine-here w g me dir tick number wd n x xs mine differ sends own rel rest =
     let c : ℕ = channel x.link dir in
     let id : ℕ = count_of (session_at n x.link) + 1 in
-    let others : List (Item (List ℕ)) = put_pdus w me tick (number + 1) (pdus w wd (one_said n x.link) xs) in
+    let others : List (Item (List ℕ)) = put_pdus w me tick (number + 1) (pdus w (g me) wd (one_said n x.link) xs) in
     bytes-here c (record {
       channel = channel_from w x.link me;
       due = tick + (link w x.link).delay;
       number = number;
       item =
-          (pdu w x.link n.me wd id x.message).bytes;
+          (pdu w x.link n.me (g me) wd id x.message).bytes;
     }) others (sends-here w x.link me dir differ sends)
-    ∙ ap (λ (p : Pdu). p.bytes ∷ bytes_on c others) (ap (λ m. pdu w x.link m wd id x.message) mine ∙ pdu-is w x.link me wd id x.message rel)
-    ∙ ap (λ bs. (pdu_in_network w x.link me id x.message).bytes ∷ bs)
-    (rest ∙ ap (λ k. spelled w x.link me (k + 1) (messages_of x.link me xs)) (said-here n x.link own.lives))
-    ∙ sym (ap (spelled w x.link me id) (messages-here x.link me x xs (by-me x me own.by)))
+    ∙ ap (λ (p : Pdu). p.bytes ∷ bytes_on c others) (ap (λ m. pdu w x.link m (g me) wd id x.message) mine ∙ pdu-is w g x.link me wd id x.message rel)
+    ∙ ap (λ bs. (pdu_in_network w x.link me (g me) (g (across w x.link me)) id x.message).bytes ∷ bs)
+    (rest ∙ ap (λ k. spelled w g x.link me (k + 1) (messages_of x.link me xs)) (said-here n x.link own.lives))
+    ∙ sym (ap (spelled w g x.link me id) (messages-here x.link me x xs (by-me x me own.by)))
 
-mine-off : (w : Wiring) (l me : ℕ) (dir : Dir) (tick number wd : ℕ) (n : Node) (x : Said) (xs : List Said) → x.link ≢ l
-    → bytes_on (channel l dir) (put_pdus w me tick (number + 1) (pdus w wd (one_said n x.link) xs)) ≡ spelled w l me
+mine-off : (w : Wiring) (g : ℕ → ℕ → ℕ) (l me : ℕ) (dir : Dir) (tick number wd : ℕ) (n : Node) (x : Said) (xs : List Said) → x.link ≢ l
+    → bytes_on (channel l dir) (put_pdus w me tick (number + 1) (pdus w (g me) wd (one_said n x.link) xs)) ≡ spelled w g l me
     (count_of (session_at (one_said n x.link) l) + 1) (messages_of l me xs)
-    → bytes_on (channel l dir) (put_pdus w me tick number (pdus w wd n (x ∷ xs))) ≡ spelled w l me (count_of (session_at n l) + 1) (messages_of l me (x ∷ xs))
-mine-off w l me dir tick number wd n x xs d rest =
+    → bytes_on (channel l dir) (put_pdus w me tick number (pdus w (g me) wd n (x ∷ xs))) ≡ spelled w g l me (count_of (session_at n l) + 1) (messages_of l me (x ∷ xs))
+mine-off w g l me dir tick number wd n x xs d rest =
     bytes-off (channel l dir) (record {
       channel = channel_from w x.link me;
       due = tick + (link w x.link).delay;
       number = number;
       item =
-          (pdu w x.link n.me wd (count_of (session_at n x.link) + 1) x.message).bytes;
+          (pdu w x.link n.me (g me) wd (count_of (session_at n x.link) + 1) x.message).bytes;
     })
-    (put_pdus w me tick (number + 1) (pdus w wd (one_said n x.link) xs)) (other-link w x.link l me dir d)
+    (put_pdus w me tick (number + 1) (pdus w (g me) wd (one_said n x.link) xs)) (other-link w x.link l me dir d)
     ∙ rest
-    ∙ ap (λ (o : Option Session). spelled w l me (count_of o + 1) (messages_of l me xs)) (said-off n x.link l d)
-    ∙ sym (ap (spelled w l me (count_of (session_at n l) + 1)) (messages-off l me x xs (ap (λ b. b && (x.end == me)) (other_test x.link l d))))
+    ∙ ap (λ (o : Option Session). spelled w g l me (count_of o + 1) (messages_of l me xs)) (said-off n x.link l d)
+    ∙ sym (ap (spelled w g l me (count_of (session_at n l) + 1)) (messages-off l me x xs (ap (λ b. b && (x.end == me)) (other_test x.link l d))))
 
 -- where the node is the one that sends there, what it says on the link
-pub spelled-mine : (w : Wiring) (l me : ℕ) (dir : Dir) (tick number wd : ℕ) (n : Node) (xs : List Said) → n.me ≡ me → EndsDiffer w → sender w l dir ≡ me
-    → AllOwn w n me xs → AllReleases w me wd xs
-    → bytes_on (channel l dir) (put_pdus w me tick number (pdus w wd n xs)) ≡ spelled w l me (count_of (session_at n l) + 1) (messages_of l me xs)
-spelled-mine w l me dir tick number wd n [] mine differ sends own rel = refl
-spelled-mine w l me dir tick number wd n (x ∷ xs) mine differ sends own rel =
+pub spelled-mine : (w : Wiring) (g : ℕ → ℕ → ℕ) (l me : ℕ) (dir : Dir) (tick number wd : ℕ) (n : Node) (xs : List Said) → n.me ≡ me → EndsDiffer w → sender w l dir ≡ me
+    → AllOwn w n me xs → AllReleases w g me wd xs
+    → bytes_on (channel l dir) (put_pdus w me tick number (pdus w (g me) wd n xs)) ≡ spelled w g l me (count_of (session_at n l) + 1) (messages_of l me xs)
+spelled-mine w g l me dir tick number wd n [] mine differ sends own rel = refl
+spelled-mine w g l me dir tick number wd n (x ∷ xs) mine differ sends own rel =
     elim (eqb_tells x.link l) [
       | inl p ↦ subst (λ k. sender w k dir ≡ me →
-          bytes_on (channel k dir) (put_pdus w me tick number (pdus w wd n (x ∷ xs))) ≡ spelled w k me (count_of (session_at n k) + 1)
+          bytes_on (channel k dir) (put_pdus w me tick number (pdus w (g me) wd n (x ∷ xs))) ≡ spelled w g k me (count_of (session_at n k) + 1)
           (messages_of k me (x ∷ xs))) p.1
-          (λ at. mine-here w me dir tick number wd n x xs mine (differ x.link own.0.there) at own.0 rel.0
-          (spelled-mine w x.link me dir tick (number + 1) wd (one_said n x.link) xs mine differ at (own-still w n me x.link xs own.0.lives own.1) rel.1)) sends
-      | inr p ↦ mine-off w l me dir tick number wd n x xs p.1
-          (spelled-mine w l me dir tick (number + 1) wd (one_said n x.link) xs mine differ sends (own-still w n me x.link xs own.0.lives own.1) rel.1)
+          (λ at. mine-here w g me dir tick number wd n x xs mine (differ x.link own.0.there) at own.0 rel.0
+          (spelled-mine w g x.link me dir tick (number + 1) wd (one_said n x.link) xs mine differ at (own-still w n me x.link xs own.0.lives own.1) rel.1)) sends
+      | inr p ↦ mine-off w g l me dir tick number wd n x xs p.1
+          (spelled-mine w g l me dir tick (number + 1) wd (one_said n x.link) xs mine differ sends (own-still w n me x.link xs own.0.lives own.1) rel.1)
     ]
 
 -- and else nothing
-pub spelled-not : (w : Wiring) (l me : ℕ) (dir : Dir) (tick number wd : ℕ) (n : Node) (xs : List Said) → sender w l dir ≢ me → AllOwn w n me xs
-    → bytes_on (channel l dir) (put_pdus w me tick number (pdus w wd n xs)) ≡ []
-spelled-not w l me dir tick number wd n [] d own = refl
-spelled-not w l me dir tick number wd n (x ∷ xs) d own =
+pub spelled-not : (w : Wiring) (g : ℕ → ℕ → ℕ) (l me : ℕ) (dir : Dir) (tick number wd : ℕ) (n : Node) (xs : List Said) → sender w l dir ≢ me → AllOwn w n me xs
+    → bytes_on (channel l dir) (put_pdus w me tick number (pdus w (g me) wd n xs)) ≡ []
+spelled-not w g l me dir tick number wd n [] d own = refl
+spelled-not w g l me dir tick number wd n (x ∷ xs) d own =
     bytes-off (channel l dir) (record {
       channel = channel_from w x.link me;
       due = tick + (link w x.link).delay;
       number = number;
       item =
-          (pdu w x.link n.me wd (count_of (session_at n x.link) + 1) x.message).bytes;
+          (pdu w x.link n.me (g me) wd (count_of (session_at n x.link) + 1) x.message).bytes;
     })
-    (put_pdus w me tick (number + 1) (pdus w wd (one_said n x.link) xs))
+    (put_pdus w me tick (number + 1) (pdus w (g me) wd (one_said n x.link) xs))
     (elim (eqb_tells x.link l) [
       | inl p ↦ subst (λ k. sender w k dir ≢ me → (channel_from w x.link me == channel k dir) ≡ false) p.1 (λ e. sends-there w x.link me dir own.0.at_end e) d
       | inr p ↦ other-link w x.link l me dir p.1
     ])
-    ∙ spelled-not w l me dir tick (number + 1) wd (one_said n x.link) xs d (own-still w n me x.link xs own.0.lives own.1)
+    ∙ spelled-not w g l me dir tick (number + 1) wd (one_said n x.link) xs d (own-still w n me x.link xs own.0.lives own.1)
 
 -- it says nothing there
 pub none-of-mine : (w : Wiring) (l s me : ℕ) (n : Node) (xs : List Said) → s ≢ me → AllOwn w n me xs → messages_of l s xs ≡ []
@@ -221,47 +222,47 @@ none-of-mine w l s me n (x ∷ xs) d own =
 
 -- 5. What flies
 
-pub length-spelled : (w : Wiring) (l s id : ℕ) (ms : List Message) → length (spelled w l s id ms) ≡ length ms
-length-spelled w l s id [] = refl
-length-spelled w l s id (m ∷ ms) = ap suc (length-spelled w l s (id + 1) ms)
+pub length-spelled : (w : Wiring) (g : ℕ → ℕ → ℕ) (l s id : ℕ) (ms : List Message) → length (spelled w g l s id ms) ≡ length ms
+length-spelled w g l s id [] = refl
+length-spelled w g l s id (m ∷ ms) = ap suc (length-spelled w g l s (id + 1) ms)
 
-pub spelled-append : (w : Wiring) (l s id : ℕ) (ms more : List Message) →
-    spelled w l s id (ms ++ more) ≡ spelled w l s id ms ++ spelled w l s (id + length ms) more
-spelled-append w l s id [] more = ap (λ k. spelled w l s k more) (omega arith)
-spelled-append w l s id (m ∷ ms) more =
-    ap (λ bs. (pdu_in_network w l s id m).bytes ∷ bs)
-    (spelled-append w l s (id + 1) ms more ∙ ap (λ k. spelled w l s (id + 1) ms ++ spelled w l s k more) (omega arith))
+pub spelled-append : (w : Wiring) (g : ℕ → ℕ → ℕ) (l s id : ℕ) (ms more : List Message) →
+    spelled w g l s id (ms ++ more) ≡ spelled w g l s id ms ++ spelled w g l s (id + length ms) more
+spelled-append w g l s id [] more = ap (λ k. spelled w g l s k more) (omega arith)
+spelled-append w g l s id (m ∷ ms) more =
+    ap (λ bs. (pdu_in_network w l s (g s) (g (across w l s)) id m).bytes ∷ bs)
+    (spelled-append w g l s (id + 1) ms more ∙ ap (λ k. spelled w g l s (id + 1) ms ++ spelled w g l s k more) (omega arith))
 
 -- what flies in a direction is the spelling of what was said and not heard
-abbrev pub FliesAs : Wiring → ℕ → Dir → ℕ → List Message → List (Item (List ℕ)) → Type 0
-FliesAs w l dir heard said items = bytes_on (channel l dir) items ≡ drop heard (spelled w l (sender w l dir) 1 said)
+abbrev pub FliesAs : Wiring → (ℕ → ℕ → ℕ) → ℕ → Dir → ℕ → List Message → List (Item (List ℕ)) → Type 0
+FliesAs w g l dir heard said items = bytes_on (channel l dir) items ≡ drop heard (spelled w g l (sender w l dir) 1 said)
 
 -- and once a node has said more it is so of all
-pub flies-on : (w : Wiring) (l me : ℕ) (dir : Dir) (tick number wd heard : ℕ) (said : List Message) (n : Node) (xs : List Said) (items : List (Item (List ℕ)))
-    → n.me ≡ me → EndsDiffer w → AllOwn w n me xs → AllReleases w me wd xs → heard ≤ length said →
+pub flies-on : (w : Wiring) (g : ℕ → ℕ → ℕ) (l me : ℕ) (dir : Dir) (tick number wd heard : ℕ) (said : List Message) (n : Node) (xs : List Said) (items : List (Item (List ℕ)))
+    → n.me ≡ me → EndsDiffer w → AllOwn w n me xs → AllReleases w g me wd xs → heard ≤ length said →
     (sender w l dir ≡ me → messages_of l me xs ≢ [] → count_of (session_at n l) ≡ length said)
-    → FliesAs w l dir heard said items → FliesAs w l dir heard (said ++ messages_of l (sender w l dir) xs) (items ++ put_pdus w me tick number (pdus w wd n xs))
-flies-on w l me dir tick number wd heard said n xs items mine differ own rel within count flies =
-    bytes-append (channel l dir) items (put_pdus w me tick number (pdus w wd n xs))
-    ∙ ap (λ bs. bs ++ bytes_on (channel l dir) (put_pdus w me tick number (pdus w wd n xs))) flies
-    ∙ ap (λ bs. drop heard (spelled w l (sender w l dir) 1 said) ++ bs) more
-    ∙ sym (drop-append-le heard (spelled w l (sender w l dir) 1 said) (spelled w l (sender w l dir) (1 + length said) (messages_of l (sender w l dir) xs))
-    (omega (arith, within, length-spelled w l (sender w l dir) 1 said)))
-    ∙ ap (drop heard) (sym (spelled-append w l (sender w l dir) 1 said (messages_of l (sender w l dir) xs)))
+    → FliesAs w g l dir heard said items → FliesAs w g l dir heard (said ++ messages_of l (sender w l dir) xs) (items ++ put_pdus w me tick number (pdus w (g me) wd n xs))
+flies-on w g l me dir tick number wd heard said n xs items mine differ own rel within count flies =
+    bytes-append (channel l dir) items (put_pdus w me tick number (pdus w (g me) wd n xs))
+    ∙ ap (λ bs. bs ++ bytes_on (channel l dir) (put_pdus w me tick number (pdus w (g me) wd n xs))) flies
+    ∙ ap (λ bs. drop heard (spelled w g l (sender w l dir) 1 said) ++ bs) more
+    ∙ sym (drop-append-le heard (spelled w g l (sender w l dir) 1 said) (spelled w g l (sender w l dir) (1 + length said) (messages_of l (sender w l dir) xs))
+    (omega (arith, within, length-spelled w g l (sender w l dir) 1 said)))
+    ∙ ap (drop heard) (sym (spelled-append w g l (sender w l dir) 1 said (messages_of l (sender w l dir) xs)))
   where
     by-list : (ms : List Message) →
-        (ms ≢ [] → count_of (session_at n l) ≡ length said) → spelled w l me (count_of (session_at n l) + 1) ms ≡ spelled w l me (1 + length said) ms
+        (ms ≢ [] → count_of (session_at n l) ≡ length said) → spelled w g l me (count_of (session_at n l) + 1) ms ≡ spelled w g l me (1 + length said) ms
     by-list [] h = refl
-    by-list (m ∷ ms) h = ap (λ k. spelled w l me k (m ∷ ms)) (let e = h (λ q. cons_nil q) in omega (arith, e))
+    by-list (m ∷ ms) h = ap (λ k. spelled w g l me k (m ∷ ms)) (let e = h (λ q. cons_nil q) in omega (arith, e))
       where
         cons_nil : m ∷ ms ≡ [] → ⊥
         cons_nil q = cc
 
-    more : bytes_on (channel l dir) (put_pdus w me tick number (pdus w wd n xs)) ≡ spelled w l (sender w l dir) (1 + length said)
+    more : bytes_on (channel l dir) (put_pdus w me tick number (pdus w (g me) wd n xs)) ≡ spelled w g l (sender w l dir) (1 + length said)
         (messages_of l (sender w l dir) xs)
     more = elim (eqb_tells (sender w l dir) me) [
-      | inl p ↦ spelled-mine w l me dir tick number wd n xs mine differ p.1 own rel ∙ by-list (messages_of l me xs) (count p.1)
-          ∙ ap (λ s. spelled w l s (1 + length said) (messages_of l s xs)) (sym p.1)
-      | inr p ↦ spelled-not w l me dir tick number wd n xs p.1 own
-          ∙ sym (ap (spelled w l (sender w l dir) (1 + length said)) (none-of-mine w l (sender w l dir) me n xs p.1 own))
+      | inl p ↦ spelled-mine w g l me dir tick number wd n xs mine differ p.1 own rel ∙ by-list (messages_of l me xs) (count p.1)
+          ∙ ap (λ s. spelled w g l s (1 + length said) (messages_of l s xs)) (sym p.1)
+      | inr p ↦ spelled-not w g l me dir tick number wd n xs p.1 own
+          ∙ sym (ap (spelled w g l (sender w l dir) (1 + length said)) (none-of-mine w l (sender w l dir) me n xs p.1 own))
     ]

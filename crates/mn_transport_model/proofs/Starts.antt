@@ -1,45 +1,53 @@
 -- A new transport stands for the empty journal.
-use Rattle.std.proofs.Common.{ℕ, zero, suc, ◌≡◌, ◌≢◌, ◌+◌, ◌*◌, ◌<◌, ◌≤◌, ◌⊎◌, inl, inr, Bool, true, false, not, cond, List, [], ◌∷◌, ◌++◌, length, map}
-use Rattle.std.proofs.Common.{filter, replicate, refl, arith, sym, ◌∙◌, ap, subst, None, Some, length-set, append_assoc, append-nil, add-one}
-use Rattle.std.specs.Prelude.{◌==◌, ◌&&◌, nat_lt, nat_le, slice_get, slice_set, slice_index_or}
-use Rattle.std.specs.List.{Contains, position_or_len, range_with_len}
+use Rattle.std.proofs.Common.{ℕ, zero, suc, ◌≡◌, ◌≢◌, ◌+◌, ◌*◌, ◌^◌, ◌<◌, ◌≤◌, ◌⊎◌, inl, inr, Bool, true, false, not, cond, List, [], ◌∷◌, ◌++◌, length, map}
+use Rattle.std.proofs.Common.{filter, replicate, refl, arith, sym, ◌∙◌, ap, subst, None, Some, length-set, append-nil, add-one}
+use Rattle.std.specs.Prelude.{◌==◌, ◌&&◌, max, nat_lt, nat_le, slice_get, slice_set, slice_index_or}
+use Rattle.std.specs.List.{range_with_len}
 use Rattle.std.proofs.lemmas.Bool.Decides.{eqb_tells}
-use Rattle.std.proofs.lemmas.List.{length-append, map-append}
+use Rattle.std.proofs.lemmas.List.{length-replicate, map-append}
 use Rattle.std.proofs.lemmas.List.Elements.{filter-append}
 use Rattle.std.proofs.lemmas.List.FromFn.{length-map-range_with_len, get_or-map-range_with_len}
 use Rattle.std.proofs.lemmas.Option.{same_Some, slice_get_within}
-use Rattle.mn_wiring.specs.Wiring.{nodes_of}
+use Rattle.mn_wiring.specs.Wiring.{across, is_end, links_at}
 use Rattle.mn_wiring.specs.declared.links.LinkEnds.{LinkEnds}
 use Rattle.mn_base.proofs.Bools.{and_left, and_right, same_test, other_test, less_tells, at_most_tells}
-use Rattle.mn_base.proofs.Members.{in_map, in_filter, in_range}
+use Rattle.mn_base.proofs.Members.{In, in_filter, in_range}
 use Rattle.mn_flight.specs.declared.Item.{Item}
 use Rattle.mn_flight.specs.Flying.{on_channel}
 use Rattle.mn_linkdb.specs.Network.{IsLink}
 use Rattle.mn_labels.specs.declared.meaning.Bind.{Bind}
-use Rattle.mn_labels.specs.Labels.{meaning_of}
+use Rattle.mn_labels.specs.Labels.{Labels, none_given, greatest, attached, meaning_of}
 use Rattle.mn_lfib.specs.declared.answer.Use.TheVariants as used_for
 use Rattle.mn_lfib.specs.Uses.{use_of}
+use Rattle.mn_rest.specs.Rests.{at_first, row_of}
 use Rattle.mn_node.specs.Machine.{fresh_node}
 use Rattle.mn_topo.specs.Network.{Network, wiring_of, nodes_with}
 use Rattle.mn_topo.specs.declared.nodes.Node.{Node}
 use Rattle.mn_topo.specs.Lawful.{IsLawful, joins_two_of, has_figures}
 use Rattle.mn_topo.proofs.Wirings.{passes_at}
 use Rattle.mn_ledger.specs.Packets.{channel}
-use Rattle.mn_ledger.specs.Places.{home_of, sites_at}
+use Rattle.mn_ledger.specs.Places.{home_of}
+use Rattle.mn_ledger.specs.Transport.{lives}
 use Rattle.mn_ledger.specs.Ledger.{start}
+use Rattle.mn_ledger.proofs.Mentions.{operational-is}
+use Rattle.mn_settled.specs.Offers.{is_operational_on}
+use Rattle.mn_slice.specs.Slice.{node_at}
 use Rattle.mn_slice.proofs.Nodes.{begins}
-use Rattle.mn_frames.specs.Given.{same_bind, given, given_first, label_in, label_at, attachment_of, fec_of}
+use Rattle.mn_reuse.specs.Labels.{first_given, first_labels, labels_of, longest_life}
+use Rattle.mn_reuse.specs.Relabelled.{node_with, sessions_with}
+use Rattle.mn_reuse.specs.Resting.{rested_of}
+use Rattle.mn_frames.specs.Given.{HasLabel, given, label_given, label_in, label_at, attachment_of}
 use Rattle.mn_frames.specs.Tables.{site_entry}
-use Rattle.mn_frames.proofs.Labels.{means_one}
-use Rattle.mn_frames.proofs.Numbers.{place_behind}
-use Rattle.mn_frames.proofs.Attaching.{site_of}
-use Rattle.mn_frames.proofs.Anew.{gives_to_each, gives_to_no_other}
-use Rattle.mn_lsr.specs.Standing.{Standing, IsWired, TableStands, fecs_given, attachments}
+use Rattle.mn_frames.proofs.Bridge.{given_fit}
+use Rattle.mn_frames.proofs.Labels.{is_meant, has_means}
+use Rattle.mn_frames.proofs.Attaching.{least}
+use Rattle.mn_frames.proofs.Anew.{site_of, gives_to_each, gives_to_no_other}
+use Rattle.mn_lsr.specs.Standing.{Standing, IsWired, TableStands, attachments}
 use Rattle.mn_transport_model.specs.Carried.{Carried}
 use Rattle.mn_transport_model.specs.declared.notice.Notice.{Notice}
-use Rattle.mn_transport_model.specs.Stands.{IsNode, IsTransport}
+use Rattle.mn_transport_model.specs.Resting.{HasRow, IsResting}
+use Rattle.mn_transport_model.specs.Stands.{own_of, IsNode, IsTransport}
 use Rattle.mn_transport_model.specs.Starting.{first_label, sites_among, IsFirst, AreFirst}
-use Rattle.mn_transport_model.proofs.Attachments.{more-attachments, of-fecs, of-others}
 use Rattle.mn_transport_model.proofs.Attaching.{IsAttached}
 use Rattle.mn_transport_model.proofs.Lists.{Each, each-set}
 use Rattle.mn_transport_model.proofs.Tables.{table-is}
@@ -117,84 +125,107 @@ map-more f xs k e =
 
 -- 3. The first labels
 
--- the place of a site among the first attachments is the number of those before it
-place-among : (p : ℕ → Bool) (site n m a : ℕ) → a + m ≡ site → m < n → p site ≡ true →
-    position_or_len (same_bind (attachment_of site 1)) (map (λ s. attachment_of s 1) (filter p (range_with_len a n))) ≡ length (filter p (range_with_len a m))
-place-among p site zero m a e h is = absurd (none h)
+-- as many as there are, one after another
+greatest-from : (xs : List ℕ) (a : ℕ) → 15 ≤ a → max a (greatest (first_given (a + 1) xs)) ≡ a + length xs
+greatest-from [] a h = omega (arith, h)
+greatest-from (x ∷ xs) a h =
+    let rest = greatest-from xs (a + 1) (omega (arith, h)) in
+    over (greatest (first_given (a + 1 + 1) xs)) (length xs) rest
+  where
+    over : (c n : ℕ) → max (a + 1) c ≡ a + 1 + n → max a (max (a + 1) c) ≡ a + suc n
+    over c n e = omega (arith, e)
+
+greatest-first : (xs : List ℕ) → greatest (first_given 16 xs) ≡ 15 + length xs
+greatest-first xs = under (greatest (first_given 16 xs)) (least (first_given 16 xs)) (greatest-from xs 15 (omega arith))
+  where
+    under : (g : ℕ) → 15 ≤ g → max 15 g ≡ 15 + length xs → g ≡ 15 + length xs
+    under g h e = omega (arith, h, e)
+
+first-more : (xs : List ℕ) (k a : ℕ) →
+    first_given a (xs ++ k ∷ []) ≡ first_given a xs ++ record { label = a + length xs; what = attachment_of k 1 } ∷ []
+first-more [] k a = ap (λ n. record { label = n; what = attachment_of k 1 } ∷ []) (plain a)
+  where
+    plain : (n : ℕ) → n ≡ n + 0
+    plain n = omega arith
+first-more (x ∷ xs) k a =
+    ap (λ gs. record { label = a; what = attachment_of x 1 } ∷ gs)
+    (first-more xs k (a + 1) ∙ ap (λ n. first_given (a + 1) xs ++ record { label = n; what = attachment_of k 1 } ∷ []) (along a (length xs)))
+  where
+    along : (n m : ℕ) → n + 1 + m ≡ n + suc m
+    along n m = omega arith
+
+-- the label of a site is past those of the sites before it
+label-among : (p : ℕ → Bool) (site n m b : ℕ) → b + m ≡ site → m < n → p site ≡ true → (a : ℕ) →
+    label_given (attachment_of site 1) (first_given a (filter p (range_with_len b n))) ≡ a + length (filter p (range_with_len b m))
+label-among p site zero m b e h is a = absurd (none h)
   where
     none : m < 0 → ⊥
     none h = omega (arith, h)
-place-among p site (suc n) zero a e h is =
-    let q : a ≡ site = omega (arith, e) in
-    let here : p a ≡ true = subst (λ x. p x ≡ true) (sym q) is in
-    let test : (site == a) ≡ true = ap (λ x. site == x) q ∙ same_test site in
-    rw (here, test) refl
-place-among p site (suc n) (suc m) a e h is =
-    let rest = place-among p site n m (a + 1) (omega (arith, e)) (omega (arith, h)) is in
-    let test : (site == a) ≡ false = other_test site a (λ q. past q) in
-    either (p a) test rest
+label-among p site (suc n) zero b e h is a =
+    let q : b ≡ site = omega (arith, e) in
+    let here : p b ≡ true = subst (λ x. p x ≡ true) (sym q) is in
+    let test : (site == b) ≡ true = ap (λ x. site == x) q ∙ same_test site in
+    rw (here, test) (omega arith)
+label-among p site (suc n) (suc m) b e h is a =
+    either (p b) (other_test site b (λ q. past q)) (label-among p site n m (b + 1) (omega (arith, e)) (omega (arith, h)) is)
   where
-    past : site ≡ a → ⊥
+    past : site ≡ b → ⊥
     past q = omega (arith, q, e)
 
-    either : (b : Bool) → (site == a) ≡ false →
-        position_or_len (same_bind (attachment_of site 1)) (map (λ s. attachment_of s 1) (filter p (range_with_len (a + 1) n))) ≡ length
-        (filter p (range_with_len (a + 1) m)) →
-        position_or_len (same_bind (attachment_of site 1))
-        (map (λ s. attachment_of s 1) (cond b (a ∷ filter p (range_with_len (a + 1) n)) (filter p (range_with_len (a + 1) n))))
-        ≡ length (cond b (a ∷ filter p (range_with_len (a + 1) m)) (filter p (range_with_len (a + 1) m)))
-    either true e rest = rw e (omega (arith, rest))
-    either false e rest = rest
+    either : (c : Bool) → (site == b) ≡ false →
+        ((a : ℕ) → label_given (attachment_of site 1) (first_given a (filter p (range_with_len (b + 1) n))) ≡ a + length (filter p (range_with_len (b + 1) m))) →
+        label_given (attachment_of site 1) (first_given a (cond c (b ∷ filter p (range_with_len (b + 1) n)) (filter p (range_with_len (b + 1) n))))
+        ≡ a + length (cond c (b ∷ filter p (range_with_len (b + 1) m)) (filter p (range_with_len (b + 1) m)))
+    either true q rest = let more = rest (a + 1) in rw q (omega (arith, more))
+    either false q rest = rest a
 
-length-first : (xs : List ℕ) → length (map (λ s. attachment_of s 1) xs) ≡ length xs
-length-first [] = refl
-length-first (x ∷ xs) = ap suc (length-first xs)
+none-of : (site : ℕ) (xs : List ℕ) (a : ℕ) → (In xs site → ⊥) → attachments site (first_given a xs) ≡ 0
+none-of site [] a none = refl
+none-of site (x ∷ xs) a none = let other : (x == site) ≡ false = other_test x site (λ e. none (inl e)) in rw other (none-of site xs (a + 1) (λ i. none (inr i)))
+
+nothing-at : {A : Type 0} (x : A) (n k : ℕ) → slice_index_or (replicate n x) k x ≡ x
+nothing-at x zero k = refl
+nothing-at x (suc n) zero = refl
+nothing-at x (suc n) (suc k) = nothing-at x n k
 
 module _ (t : Network) where
-  given-first : (node : ℕ) → given t [] node ≡ given_first t node
-  unfolding given
-  given-first node = append-nil (given_first t node)
+  given-first : (node : ℕ) → given t [] node ≡ first_labels t node
+  unfolding given labels_of
+  given-first node = refl
 
-  abbrev given_so_far : ℕ → ℕ → List Bind
-  given_so_far k node = fecs_given (length t.loopbacks) node ++ map (λ site. attachment_of site 1) (sites_among t k node)
+  abbrev given_so_far : ℕ → ℕ → Labels
+  given_so_far k node = record { given = first_given 16 (sites_among t k node); fecs = replicate (length t.loopbacks) None }
 
   -- a site's first label is the next one of its edge, once the sites before it have theirs
-  next-first : (k : ℕ) → k < length t.sites → 16 + length (given_so_far k (home_of t k)) ≡ first_label t k
+  next-first : (k : ℕ) → k < length t.sites → greatest (given_so_far k (home_of t k)).given + 1 ≡ first_label t k
   next-first k h =
       let node : ℕ = home_of t k in
-      let fecs : List Bind = fecs_given (length t.loopbacks) node in
-      let all = ap (λ binds. label_in binds (attachment_of k 1)) (given-first node) in
-      let behind = place_behind fecs (map (λ s. attachment_of s 1) (sites_at t node)) (attachment_of k 1)
-      (λ i. let f = in_map fec_of (filter (λ other. not (other == node)) (nodes_of (wiring_of t))) (attachment_of k 1) i in no_fec f.0 f.2) in
-      let place = place-among (λ s. home_of t s == node) k (length t.sites) k 0 (omega arith) h (same_test node) in
-      let size = length-append fecs (map (λ s. attachment_of s 1) (sites_among t k node)) in
-      let among = length-first (sites_among t k node) in
-      omega (arith, all, behind, place, size, among)
-    where
-      no_fec : (other : ℕ) → fec_of other ≡ attachment_of k 1 → ⊥
-      no_fec other e = cc
+      let all = ap (λ (labels : Labels). label_given (attachment_of k 1) labels.given) (given-first node) in
+      let its = label-among (λ s. home_of t s == node) k (length t.sites) k 0 (omega arith) h (same_test node) 16 in
+      let before = greatest-first (sites_among t k node) in
+      omega (arith, all, its, before)
 
-  has-first : (site : ℕ) → site < length t.sites → Contains (given t [] (home_of t site)) (attachment_of site 1)
+  has-first : (site : ℕ) → site < length t.sites → HasLabel (given t [] (home_of t site)) (attachment_of site 1)
   has-first site h = gives_to_each t [] site 1 (record { home = refl; there = h; first = omega arith; last = omega arith })
 
-  one_bind : (binds : List Bind) (one other : Bind) → Contains binds one → Contains binds other → label_in binds one ≡ label_in binds other → one ≡ other
-  one_bind binds one other there here same = same_Some one other (sym (means_one binds one there) ∙ ap (meaning_of binds) same ∙ means_one binds other here)
+  one_bind : (node : ℕ) (one other : Bind) → HasLabel (given t [] node) one → HasLabel (given t [] node) other →
+      label_in (given t [] node) one ≡ label_in (given t [] node) other → one ≡ other
+  one_bind node one other there here same =
+      same_Some one other (sym (is_meant (given t [] node) (given_fit t [] node) (label_in (given t [] node) one) one (has_means (given t [] node) one there))
+      ∙ ap (meaning_of (given t [] node)) same
+      ∙ is_meant (given t [] node) (given_fit t [] node) (label_in (given t [] node) other) other (has_means (given t [] node) other here))
 
   -- two sites of a node have two labels
   labels-apart : (one other : ℕ) → one < length t.sites → other < length t.sites → home_of t one ≡ home_of t other →
       first_label t one ≡ first_label t other → one ≡ other
   labels-apart one other h g home same =
       ap site_of
-      (one_bind (given t [] (home_of t other)) (attachment_of one 1) (attachment_of other 1)
-      (subst (λ node. Contains (given t [] node) (attachment_of one 1)) home (has-first one h)) (has-first other g)
+      (one_bind (home_of t other) (attachment_of one 1) (attachment_of other 1)
+      (subst (λ node. HasLabel (given t [] node) (attachment_of one 1)) home (has-first one h)) (has-first other g)
       (sym (ap (λ node. label_in (given t [] node) (attachment_of one 1)) home) ∙ same))
 
-  none-yet : (k node : ℕ) → attachments k (given_so_far k node) ≡ 0
-  none-yet k node =
-      let both = more-attachments k (fecs_given (length t.loopbacks) node) (map (λ site. attachment_of site 1) (sites_among t k node)) in
-      let fecs = of-fecs k (filter (λ other. not (other == node)) (nodes_of (wiring_of t))) in
-      let sites = of-others k (sites_among t k node) (λ i. past (in_range 0 k k (in_filter (λ s. home_of t s == node) (range_with_len 0 k) k i).0).1) in
-      omega (arith, both, fecs, sites)
+  none-yet : (k node : ℕ) → attachments k (given_so_far k node).given ≡ 0
+  none-yet k node = none-of k (sites_among t k node) 16 (λ i. past (in_range 0 k k (in_filter (λ s. home_of t s == node) (range_with_len 0 k) k i).0).1)
     where
       past : k < 0 + k → ⊥
       past h = omega (arith, h)
@@ -216,16 +247,18 @@ module _ (t : Network) where
   pub first-node : (node : ℕ) (x : Standing) → x ≡ record {
     wiring = wiring_of t;
     node = fresh_node (wiring_of t) node;
-    given = x.given;
+    labels = none_given (length t.loopbacks);
+    resting = at_first (length t.loopbacks) (longest_life t (links_at (wiring_of t) node));
     uses = [];
     failed =
         false;
-  } →
-      x.given.given ≡ fecs_given (length t.loopbacks) node → TableStands x → IsFirst t 0 node x
-  first-node node x is given_is table = record {
+  } → TableStands x → IsFirst t 0 node x
+  first-node node x is table = record {
     wiring = ap (λ s. s.wiring) is;
     node_is = ap (λ s. s.node) is;
-    labels = given_is ∙ sym (append-nil (fecs_given (length t.loopbacks) node));
+    labels = ap (λ s. s.labels) is;
+    in_range = subst (λ (s : Standing). greatest s.labels.given < 2 ^ 20) (sym is) (omega arith);
+    resting = ap (λ s. s.resting) is;
     table = table;
     sites = λ site h home. absurd (none site h);
     works = ap (λ s. s.failed) is;
@@ -240,7 +273,7 @@ module _ (t : Network) where
     is = first.nodes (home_of t k) was here
 
     pub label-first : label ≡ first_label t k
-    label-first = did.label_is ∙ ap (λ xs. 16 + length xs) is.labels ∙ next-first k there
+    label-first = did.label_is ∙ ap (λ (labels : Labels). greatest labels.given + 1) is.labels ∙ next-first k there
 
     site-now : (site : ℕ) → site < k + 1 → home_of t site ≡ home_of t k → use_of now.uses (first_label t site) ≡ Some (used_for.Site (record { 0 = site }))
     site-now site h home = elim (eqb_tells site k) [
@@ -255,24 +288,30 @@ module _ (t : Network) where
     edge-first = record {
       wiring = ap (λ x. x.wiring) did.kept ∙ is.wiring;
       node_is = ap (λ x. x.node) did.kept ∙ is.node_is;
-      labels = did.given_is ∙ ap (λ xs. xs ++ attachment_of k (attachments k xs + 1) ∷ []) is.labels
-          ∙ ap (λ n. given_so_far k (home_of t k) ++ attachment_of k (n + 1) ∷ []) (none-yet k (home_of t k))
-          ∙ append_assoc (fecs_given (length t.loopbacks) (home_of t k)) (map (λ site. attachment_of site 1) (sites_among t k (home_of t k)))
-          (attachment_of k 1 ∷ [])
-          ∙ sym (ap (λ sites. fecs_given (length t.loopbacks) (home_of t k) ++ map (λ site. attachment_of site 1) sites) (among-more k (home_of t k) refl)
-          ∙ ap (λ binds. fecs_given (length t.loopbacks) (home_of t k) ++ binds)
-          (map-append (λ site. attachment_of site 1) (sites_among t k (home_of t k)) (k ∷ [])));
+      labels = did.labels_are
+          ∙ ap (λ (labels : Labels). attached labels (attachment_of k (attachments k labels.given + 1))) is.labels
+          ∙ ap (λ n. attached (given_so_far k (home_of t k)) (attachment_of k (n + 1))) (none-yet k (home_of t k))
+          ∙ ap (λ gs. let labels : Labels = record { given = gs; fecs = replicate (length t.loopbacks) None } in labels)
+          (ap (λ n. (given_so_far k (home_of t k)).given ++ record { label = n; what = attachment_of k 1 } ∷ []) (past-all (sites_among t k (home_of t k)))
+          ∙ sym (first-more (sites_among t k (home_of t k)) k 16) ∙ ap (first_given 16) (sym (among-more k (home_of t k) refl)));
+      in_range = did.in_range;
+      resting = ap (λ x. x.resting) did.kept ∙ is.resting;
       table = did.table;
       sites = site-now;
       works = ap (λ x. x.failed) did.kept ∙ is.works;
     }
+      where
+        past-all : (xs : List ℕ) → greatest (first_given 16 xs) + 1 ≡ 16 + length xs
+        past-all xs = let g = greatest-first xs in omega (arith, g)
 
     other-first : (node : ℕ) (x : Standing) → node ≢ home_of t k → IsFirst t k node x → IsFirst t (k + 1) node x
     other-first node x apart was = record {
       wiring = was.wiring;
       node_is = was.node_is;
-      labels = was.labels ∙ ap (λ sites. fecs_given (length t.loopbacks) node ++ map (λ site. attachment_of site 1) sites)
+      labels = was.labels ∙ ap (λ sites. let labels : Labels = record { given = first_given 16 sites; fecs = replicate (length t.loopbacks) None } in labels)
           (sym (among-same k node (λ e. apart (sym e))));
+      in_range = was.in_range;
+      resting = was.resting;
       table = was.table;
       sites = λ site h home. was.sites site (below site h (λ e. apart (sym home ∙ ap (home_of t) e))) home;
       works = was.works;
@@ -289,15 +328,45 @@ module _ (t : Network) where
 
   -- 5. All of it
 
-  node-starts : IsLawful t → (node : ℕ) (x : Standing) → node < length t.loopbacks → IsFirst t (length t.sites) node x → IsNode t (given t []) (start t) node x
+  fresh-same : (node : ℕ) (own : ℕ → ℕ → ℕ) → fresh_node (wiring_of t) node ≡ node_with (wiring_of t) own (fresh_node (wiring_of t) node)
+  fresh-same node own = ap (λ ss. record (fresh_node (wiring_of t) node) { sessions = ss }) (none-open (length t.links) 0)
+    where
+      none-open : (n l : ℕ) → replicate n None ≡ sessions_with (wiring_of t) own node l (replicate n None)
+      none-open zero l = refl
+      none-open (suc n) l = ap (λ ss. None ∷ ss) (none-open n (l + 1))
+
+  rests-first : (node : ℕ) → IsResting t (start t) (rested_of t [] node) node (at_first (length t.loopbacks) (longest_life t (links_at (wiring_of t) node)))
+  rests-first node = record {
+    neighbours = length-replicate (length t.loopbacks) None;
+    fecs = length-replicate (length t.loopbacks) 0;
+    rows = λ l below at. subst (λ b. HasRow t (start t) node l b (row_of (at_first (length t.loopbacks) 0) (across (wiring_of t) l node))) (sym (closed l below))
+        (nothing-at None (length t.loopbacks) (across (wiring_of t) l node));
+    strangers = λ other none. nothing-at None (length t.loopbacks) other;
+    rested_is = λ fec under. nothing-at 0 (length t.loopbacks) fec;
+    life = refl;
+  }
+    where
+      never : (b : Bool) → (b && false) ≡ false
+      never true = refl
+      never false = refl
+
+      closed : (l : ℕ) → l < length t.links → is_operational_on t (start t) node l ≡ false
+      closed l below = operational-is (wiring_of t) (start t).config (start t).views (start t).sessions node l below
+          ∙ never (lives (start t).config l && is_end (wiring_of t) l node)
+
+  node-starts : IsLawful t → (node : ℕ) (x : Standing) → node < length t.loopbacks → IsFirst t (length t.sites) node x →
+      IsNode t (given t []) (rested_of t []) (start t) node x
   node-starts lawful node x below first =
-      let labels : x.given.given ≡ given t [] node = first.labels ∙ sym (given-first node) in
-      let node_is = first.node_is ∙ sym (begins t node) in
+      let labels : x.labels ≡ given t [] node = first.labels ∙ sym (given-first node) in
+      let node_is : x.node ≡ node_with (wiring_of t) (own_of (given t [])) (node_at t (start t) node) =
+      first.node_is ∙ fresh-same node (own_of (given t [])) ∙ ap (node_with (wiring_of t) (own_of (given t []))) (sym (begins t node)) in
       record {
         wiring = first.wiring;
         node_is = node_is;
         labels = labels;
-        table = table-is t [] lawful (start t) node below x first.wiring node_is labels first.table
+        in_range = first.in_range;
+        resting = subst (IsResting t (start t) (rested_of t [] node) node) (sym first.resting) (rests-first node);
+        table = table-is t lawful [] (start t) node below x first.wiring node_is labels first.table
             (λ site attachment c.
             let at = gives_to_no_other t [] [] node site attachment tt c in
             let one : attachment ≡ 1 = (let a = at.first in let b : attachment ≤ 0 + 1 = at.last in omega (arith, a, b)) in

@@ -1,17 +1,14 @@
 -- At the start a site may be detached, and then attached anew.
-use Rattle.std.proofs.Common.{ℕ, ◌≡◌, ◌<◌, length, refl, arith, []}
-use Rattle.std.specs.Prelude.{nat_lt}
+use Rattle.std.proofs.Common.{ℕ, ◌<◌, length, refl, arith, []}
 use Rattle.std.specs.List.{Contains}
-use Rattle.std.proofs.lemmas.Bool.Decides.{nat_tests}
 use Rattle.mn_base.specs.declared.numbers.SiteNo.{SiteNo}
 use Rattle.mn_base.proofs.Bools.{less_is, same_test}
 use Rattle.mn_topo.specs.Network.{Network}
 use Rattle.mn_topo.specs.Lawful.{IsLawful}
 use Rattle.mn_topo.specs.declared.steps.Step.TheVariants as step
-use Rattle.mn_ledger.specs.World.{World, Message}
+use Rattle.mn_ledger.specs.World.{Message}
 use Rattle.mn_ledger.specs.Transport.{sessions_after}
-use Rattle.mn_ledger.specs.Ledger.{world_of, start, after, no_packets}
-use Rattle.mn_ledger.specs.Refusal.{is_unchanged}
+use Rattle.mn_ledger.specs.Ledger.{world_of, start, no_packets}
 use Rattle.mn_ledger.proofs.InTurn.{begins, goes_step}
 use Rattle.mn_ledger.proofs.Turning.{loopbacks_apart}
 use Rattle.mn_laws.specs.Named.{NamesANode}

@@ -1,5 +1,5 @@
 -- What a node does in a step, before it is known to be the ledger's.
-use Rattle.std.specs.Prelude.{◌≡◌, ◌≢◌, ◌<◌, ◌+◌, ℕ, Bool, true, false, List, ◌++◌, length, slice_get, slice_index, slice_set, Some, None, Ok, ⊤}
+use Rattle.std.specs.Prelude.{◌≡◌, ◌≢◌, ◌<◌, ◌+◌, ◌^◌, ℕ, Bool, true, false, List, ◌++◌, length, slice_get, slice_index, slice_set, Some, None, Ok, ⊤}
 use Rattle.mn_wiring.specs.Wiring.{is_end, receiver}
 use Rattle.mn_wiring.specs.declared.links.Dir.{Dir}
 use Rattle.mn_flight.specs.declared.Item.{Item}
@@ -7,7 +7,9 @@ use Rattle.mn_flight.specs.Flying.{on_channel}
 use Rattle.mn_node.specs.Node.{Session, Node, session_at}
 use Rattle.mn_node.specs.Machine.{Event, Learns, Opens, Closes, Hears, after_event}
 use Rattle.mn_lsr.specs.Hearing.{after_bytes}
+use Rattle.mn_labels.specs.Labels.{greatest}
 use Rattle.mn_lsr.specs.Standing.{Standing, TableStands, SitesKeep, HasNumbers}
+use Rattle.mn_lsr.specs.Turns.{kept_in, labels_then, resting_then, kept_then}
 use Rattle.mn_topo.specs.Network.{Network, wiring_of}
 use Rattle.mn_ledger.specs.Packets.{channel}
 use Rattle.mn_transport_model.specs.Carried.{Carried}
@@ -51,7 +53,7 @@ pub record MayAct (topology : Network) (carried : Carried) (node : ℕ) (event :
   pub ready : IsReady carried.changes was.node event
   pub numbers : HasNumbers was.node
 
--- and the PDU that is next in this direction of the link is heard so
+-- and the PDU that is next in this direction of the link is heard so, at each tick
 pub record MayHear (topology : Network) (carried : Carried) (l : ℕ) (dir : Dir) (event : Event) : Type 0 where
   pub may : MayAct topology carried (receiver (wiring_of topology) l dir) event
   pub link : link_in event ≡ l
@@ -59,17 +61,18 @@ pub record MayHear (topology : Network) (carried : Carried) (l : ℕ) (dir : Dir
   pub flies : slice_get (on_channel (channel l dir) carried.messages) 0 ≡ Some pdu
   pub session : Session
   pub lives : session_at may.was.node l ≡ Some session
-  pub heard : after_bytes may.was.wiring l may.was.node session pdu.item ≡ Ok (record {
-    node = after_event may.was.wiring may.was.node event;
-    said =
-        pdus_in may.was.wiring may.was.node event;
+  pub heard : (tick : ℕ) → after_bytes may.was.wiring tick l (kept_in may.was) session pdu.item ≡ Ok (record {
+    kept = kept_then may.was.wiring tick (kept_in may.was) event;
+    said = pdus_in may.was.wiring tick (kept_in may.was) event;
   })
 
--- what an event makes of a node
-pub record Becomes (event : Event) (was now : Standing) : Type 0 where
+-- what an event makes of a node at this tick
+pub record Becomes (tick : ℕ) (event : Event) (was now : Standing) : Type 0 where
   pub wiring : now.wiring ≡ was.wiring
   pub node_is : now.node ≡ after_event was.wiring was.node event
-  pub given_is : now.given ≡ was.given
+  pub labels_are : now.labels ≡ labels_then was.wiring tick (kept_in was) event
+  pub in_range : greatest was.labels.given < 2 ^ 20 → greatest now.labels.given < 2 ^ 20
+  pub resting_is : now.resting ≡ resting_then was.wiring tick (kept_in was) event
   pub works : now.failed ≡ was.failed
   pub table : TableStands now
   pub sites : SitesKeep was now
@@ -79,10 +82,10 @@ pub record Acts (topology : Network) (tick number node : ℕ) (event : Event) (o
   pub was : Standing
   pub now : Standing
   pub there : slice_get old.nodes node ≡ Some was
-  pub becomes : Becomes event was now
+  pub becomes : Becomes tick event was now
   pub new_is : new ≡ record old {
     nodes = slice_set old.nodes node now;
     messages =
-        old.messages ++ put_pdus (wiring_of topology) node tick number (pdus_in (wiring_of topology) was.node event);
+        old.messages ++ put_pdus (wiring_of topology) node tick number (pdus_in (wiring_of topology) tick (kept_in was) event);
   }
-  pub next_is : next ≡ number + length (pdus_in (wiring_of topology) was.node event)
+  pub next_is : next ≡ number + length (pdus_in (wiring_of topology) tick (kept_in was) event)

@@ -2,6 +2,9 @@ pub mod Carried
 pub mod Sending
 pub mod Acting
 pub mod Doing
+pub mod Resting
 pub mod Stands
 pub mod Steps
 pub mod Starting
+pub use Rattle.mn_frames.specs.Given
+pub use Rattle.mn_frames.specs.Tables

@@ -1,12 +1,13 @@
 -- What nodes put into flight.
 use Rattle.std.specs.Prelude.{◌+◌, ◌*◌, ℕ, List, [], ◌∷◌}
-use Rattle.mn_wiring.specs.Wiring.{Wiring, link}
+use Rattle.mn_wiring.specs.Wiring.{Wiring, link, across}
 use Rattle.mn_flight.specs.declared.Item.{Item}
 use Rattle.mn_flight.specs.Flying.{off_channel}
 use Rattle.mn_node.specs.Ldp.{Message}
-use Rattle.mn_node.specs.Node.{Node}
 use Rattle.mn_node.specs.Machine.{Event, Hears, changed, said}
+use Rattle.mn_labels.specs.Labels.{own_labels}
 use Rattle.mn_ldp_session.specs.Spelling.{Pdu, pdus, pdu_in_network}
+use Rattle.mn_lsr.specs.Turns.{Kept, labels_then}
 use Rattle.mn_transport_model.specs.declared.notice.Notice.{Notice}
 use Rattle.mn_timetable.specs.Keys.{channel_from}
 
@@ -37,15 +38,17 @@ abbrev pub released_by : Event → ℕ
 released_by (Hears l message label) = label
 released_by _ = 0
 
--- what a node says as something happens to it, in bytes
-abbrev pub pdus_in : Wiring → Node → Event → List Pdu
-pdus_in wiring node event = pdus wiring (released_by event) (changed wiring node event) (said wiring node event)
+-- what a node says as something happens to it at this tick, in bytes, by the labels that its FECs have then
+abbrev pub pdus_in : Wiring → ℕ → Kept → Event → List Pdu
+pdus_in wiring tick kept event =
+    pdus wiring (own_labels kept.node.me (labels_then wiring tick kept event)) (released_by event) (changed wiring kept.node event) (said wiring kept.node event)
 
 -- without the messages of a link, in both directions
 abbrev pub off_link : ℕ → List (Item (List ℕ)) → List (Item (List ℕ))
 off_link l items = off_channel (2 * l + 1) (off_channel (2 * l) items)
 
--- what an end of a link says, from the message with this id on, in the bytes of its PDUs
-abbrev pub spelled : Wiring → ℕ → ℕ → ℕ → List Message → List (List ℕ)
-spelled wiring l end id [] = []
-spelled wiring l end id (message ∷ messages) = (pdu_in_network wiring l end id message).bytes ∷ spelled wiring l end (id + 1) messages
+-- what an end of a link says, from the message with this id on, in the bytes of its PDUs, by the labels that each node says of FECs
+abbrev pub spelled : Wiring → (ℕ → ℕ → ℕ) → ℕ → ℕ → ℕ → List Message → List (List ℕ)
+spelled wiring own l end id [] = []
+spelled wiring own l end id (message ∷ messages) =
+    (pdu_in_network wiring l end (own end) (own (across wiring l end)) id message).bytes ∷ spelled wiring own l end (id + 1) messages

@@ -9,6 +9,7 @@ use Rattle.mn_topo.specs.declared.steps.JournalEntry.{JournalEntry}
 use Rattle.mn_ledger.specs.World.{World, Message}
 use Rattle.mn_ledger.specs.Ledger.{world_of, no_packets}
 use Rattle.mn_ledger.specs.Refusal.{is_unchanged, is_empty}
+use Rattle.mn_ledger.specs.Lawful.{IsLawfulJournal}
 use Rattle.mn_ledger.specs.Turns.{IsInTurn}
 use Rattle.mn_ledger.specs.Items.{notices_in, numbered}
 use Rattle.mn_laws.specs.Named.{NamesANode}
@@ -27,24 +28,30 @@ pub record IsTurn (topology : Network) (world : World) (step : Step) : Type 0 wh
   pub named : (l end : ℕ) (message : Message) → Contains (world.sessions.said l end) message → NamesANode topology message
   pub few : (l end : ℕ) → length (world.sessions.said l end) < 4000000000
 
+-- and so it is after a lawful journal
+pub record HasTurn (topology : Network) (journal : List JournalEntry) (step : Step) : Type 0 where
+  pub inputs : List (List ℕ)
+  pub lawful : IsLawfulJournal topology journal inputs
+  pub turn : IsTurn topology (world_of topology journal) step
+
 -- the transport stands for a journal after which the step has its turn
 pub record MayDo (topology : Network) (step : Step) (carried : Carried) : Type 0 where
   pub journal : List JournalEntry
   pub stands : IsTransport topology journal carried
-  pub turn : IsTurn topology (world_of topology journal) step
+  pub turn : HasTurn topology journal step
 
--- The step is done, and made so many items, numbered from this number on: notices first, and then messages.
+-- The step is done at this tick, and made so many items, numbered from this number on: notices first, and then messages.
 pub record Did (topology : Network) (tick number : ℕ) (step : Step) (old new : Carried) (made : ℕ) : Type 0 where
-  pub goes : (journal : List JournalEntry) → IsTransport topology journal old → IsTurn topology (world_of topology journal) step →
+  pub goes : (journal : List JournalEntry) → IsTransport topology journal old → HasTurn topology journal step →
       IsTransport topology (pushed journal tick step) new
   pub notices : keys_in new.notices
       ≡ notices_leave (length topology.loopbacks) step (keys_in old.notices) ++ keys_on (of_notices (length topology.loopbacks))
       (numbered topology tick number (notices_in topology step))
-  pub messages : (journal : List JournalEntry) → IsTransport topology journal old → IsTurn topology (world_of topology journal) step →
+  pub messages : (journal : List JournalEntry) → IsTransport topology journal old → HasTurn topology journal step →
       keys_in new.messages
       ≡ messages_leave step (keys_in old.messages)
       ++ keys_on (of_messages topology) (numbered topology tick (number + length (notices_in topology step)) (messages_now topology journal step))
-  pub count : (journal : List JournalEntry) → IsTransport topology journal old → IsTurn topology (world_of topology journal) step →
+  pub count : (journal : List JournalEntry) → IsTransport topology journal old → HasTurn topology journal step →
       made ≡ length (notices_in topology step) + length (messages_now topology journal step)
 
 -- the steps that change the transport

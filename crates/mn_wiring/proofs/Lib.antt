@@ -1,2 +1,3 @@
 pub mod Dist
 pub mod Next
+pub use Rattle.mn_base.proofs.Bools

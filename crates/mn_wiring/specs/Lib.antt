@@ -1,3 +1,11 @@
 pub mod Wiring
 pub mod Paths
 pub mod Square
+pub use Rattle.mn_base.specs.Limits
+pub use Rattle.mn_base.specs.Numbers
+pub use Rattle.mn_base.specs.declared.numbers.LinkNo
+pub use Rattle.mn_base.specs.declared.numbers.NodeNo
+pub use Rattle.mn_base.specs.declared.numbers.Rd
+pub use Rattle.mn_base.specs.declared.numbers.Rt
+pub use Rattle.mn_base.specs.declared.numbers.SiteNo
+pub use Rattle.mn_base.specs.declared.numbers.VrfNo

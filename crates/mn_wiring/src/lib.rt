@@ -15,4 +15,5 @@ mod links;
 mod paths;
 
 pub use links::{Dir, LinkEnds, channel_of, direction_of};
+pub use mn_base::{LinkNo, ListOf, NodeNo, Rd, Rt, SiteNo, VrfNo};
 pub use paths::{least_walk, next_hop, square_is_wired, walks_in_the_square};

@@ -8,13 +8,13 @@ below_it fec at h d = omega (arith, h, d)
 
 pub loop-at-preserved : goal.loop-at-preserved
 loop-at-preserved c =
-    let me = c.args.me.0 in
-    let at = c.loop-at.at in
+    let at : ℕ = c.loop-at.at in
+    let labels = c.args.labels.now.labels in
     let set = c.in_ok-use_way.ensures.way in
     let others = c.in_ok-use_way.ensures.others in
     record {
-      free = free_set me at c.args.count c.loop-at.lfib c.use_way.new.lfib (usable c.args.bindings.now at) c.loop-at.invariant.free set others;
-      ways = λ fec h d. way_set me at c.loop-at.lfib c.use_way.new.lfib (usable c.args.bindings.now) set others fec d
-          (λ e. c.loop-at.invariant.ways fec (below_it fec at h e) d);
-      others = λ label off. others label (λ d. off at (omega arith) d) ∙ c.loop-at.invariant.others label off;
+      free = free_set labels at c.loop-at.lfib c.use_way.new.lfib (usable c.args.bindings.now.bindings at) c.loop-at.invariant.free set others;
+      ways = λ fec label h e. way_set labels c.requires.told at c.loop-at.lfib c.use_way.new.lfib (usable c.args.bindings.now.bindings) set others fec label e
+          (λ d. c.loop-at.invariant.ways fec label (below_it fec at h d) e);
+      others = λ label off. others label (off at) ∙ c.loop-at.invariant.others label off;
     }

@@ -5,7 +5,7 @@ use Rattle.mn_topo.specs.declared.steps.Step.{Step}
 use Rattle.mn_topo.specs.declared.steps.Step.TheVariants.{Carry}
 use Rattle.mn_course.specs.declared.coming.Coming.{Coming}
 use Rattle.mn_net_refusal.specs.Coming.{carries_on}
-use Rattle.mn_net_tally.specs.Tallies.{is_one}
+use Rattle.mn_net_refusal.specs.Tallies.{is_one}
 use Rattle.mn_net_look.proofs.Nexts.{frame_by, frame_none, first_on}
 use Rattle.mn_net_look.proofs.next.frame_coming.Goals as goal
 

@@ -2,4 +2,4 @@ use Rattle.mn_output.proofs.Frames as frames
 use Rattle.mn_output.proofs.laws.frames_are_written.Goals as goal
 
 pub returns : goal.returns
-returns c = λ topology capture entries l lawful journal bytes. frames.frames_are_written topology capture lawful l entries journal bytes
+returns c = λ topology capture entries l. frames.frames_are_written topology capture l entries

@@ -4,7 +4,7 @@ use Rattle.mn_edge.specs.KeptLaws.{framed_same}
 use Rattle.mn_output.specs.Files.{Frames}
 use Rattle.mn_output.specs.Contents.{ppp}
 use Rattle.mn_files.specs.Numbers.{file_at}
-use Rattle.mn_record.specs.Labels.{frame_heads}
+use Rattle.mn_record.specs.Heads.{frame_heads}
 use Rattle.mn_record.specs.Parts.{by_number, in_file}
 use Rattle.mn_record.proofs.Adding.{on_err, both_add, second_may, adds_as, may_as, may_more, none_add, framed_then, still_for}
 use Rattle.mn_record.proofs.Opening.{no_heads, one_head_more, heads_more}

@@ -2,7 +2,7 @@ use Rattle.std.proofs.Common.{◌≡◌}
 use Rattle.mn_edge.specs.Kept.{Framed}
 use Rattle.mn_record.specs.Recorded.{IsFor}
 use Rattle.mn_record.specs.Adding.{Adds}
-use Rattle.mn_record.specs.Labels.{frame_heads}
+use Rattle.mn_record.specs.Heads.{frame_heads}
 use Rattle.mn_record.specs.Parts.{by_number}
 use Rattle.mn_record.proofs.books.put_frame_heads.Given as goal
 

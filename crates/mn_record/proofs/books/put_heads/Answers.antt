@@ -3,7 +3,7 @@ use Rattle.mn_pcap.specs.Format.{header}
 use Rattle.mn_output.specs.Files.{Deliveries}
 use Rattle.mn_output.specs.Contents.{head_of, raw_ipv4}
 use Rattle.mn_record.specs.Adding.{only_in}
-use Rattle.mn_record.specs.Labels.{frame_heads}
+use Rattle.mn_record.specs.Heads.{frame_heads}
 use Rattle.mn_record.specs.Parts.{by_number, in_file}
 use Rattle.mn_record.proofs.Adding.{on_err, ok_then, err_then, both_add, first_may, second_may, adds_as, may_as, framed_then, still_for}
 use Rattle.mn_record.proofs.Same.{in_place}

@@ -12,7 +12,7 @@ use Rattle.mn_record.proofs.books.put_labels.Goals as goal
 pub loop-number-init : goal.loop-number-init
 loop-number-init g c = record {
   adds = none_add
-      (only_in 1 (flat_map (λ node. label_lines c.args.net.now.topology node 16 (given c.args.net.now.topology c.args.net.now.journal node))
+      (only_in 1 (flat_map (λ node. label_lines c.args.net.now.topology node (given c.args.net.now.topology c.args.net.now.journal node).given)
       (range_with_len 0 (0)))) c.args.output.now _ (λ k within. nothing_in 1 k);
   names = refl;
   places = refl;
@@ -27,24 +27,24 @@ loop-number-preserved g c =
     let many : length c.nodes-number-end.result.now ≡ length c.args.net.now.topology.loopbacks =
     ap length c.nodes-number-end.ensures ∙ length-map _ _ ∙ ap (λ t. length t.loopbacks) topology in
     let i = c.loop-number.invariant in
-    let f : ℕ → List ℕ = (λ node. label_lines c.args.net.now.topology node 16 (given c.args.net.now.topology c.args.net.now.journal node)) in
+    let f : ℕ → List ℕ = (λ node. label_lines c.args.net.now.topology node (given c.args.net.now.topology c.args.net.now.journal node).given) in
     let done = c.in_ok-put_labels_of.ensures in
     record {
       adds =
           adds_as (λ k. (only_in 1 (flat_map f (range_with_len 0 (c.loop-number.number)))) k ++
           (only_in 1
-          (label_lines c.args.net.now.topology c.loop-number.number 16 (given c.args.net.now.topology c.args.net.now.journal c.loop-number.number))) k)
+          (label_lines c.args.net.now.topology c.loop-number.number (given c.args.net.now.topology c.args.net.now.journal c.loop-number.number).given)) k)
           (only_in 1 (flat_map f (range_with_len 0 (c.loop-number.number + 1)))) c.args.output.now c.put_labels_of.new.output _ _
           (λ k within. joined_in 1 k (flat_map f (range_with_len 0 c.loop-number.number)) (f c.loop-number.number)
           ∙ ap (λ l. only_in 1 l k) (one_node_more f c.loop-number.number))
           (both_add (only_in 1 (flat_map f (range_with_len 0 (c.loop-number.number))))
           (only_in 1
-          (label_lines c.args.net.now.topology c.loop-number.number 16 (given c.args.net.now.topology c.args.net.now.journal c.loop-number.number)))
+          (label_lines c.args.net.now.topology c.loop-number.number (given c.args.net.now.topology c.args.net.now.journal c.loop-number.number).given))
           c.args.output.now c.loop-number.output c.put_labels_of.new.output _ _ _ i.adds
-          (subst (λ t. Adds (only_in 1 (label_lines t c.loop-number.number 16 (given c.args.net.now.topology c.args.net.now.journal c.loop-number.number)))
+          (subst (λ t. Adds (only_in 1 (label_lines t c.loop-number.number (given c.args.net.now.topology c.args.net.now.journal c.loop-number.number).given))
           c.loop-number.output c.put_labels_of.new.output
           (g.S.Shelf.files c.loop-number.shelf) (g.S.Shelf.files c.put_labels_of.new.shelf)) topology
-          (subst (λ bs. Adds (only_in 1 (label_lines c.topology-topology.result.now c.loop-number.number 16 bs)) c.loop-number.output c.put_labels_of.new.output
+          (subst (λ bs. Adds (only_in 1 (label_lines c.topology-topology.result.now c.loop-number.number bs)) c.loop-number.output c.put_labels_of.new.output
           (g.S.Shelf.files c.loop-number.shelf) (g.S.Shelf.files c.put_labels_of.new.shelf)) c.labels.ensures.told done.adds)));
       names = done.names ∙ i.names;
       places = done.places ∙ i.places;
@@ -59,7 +59,7 @@ returns-in_err-put_labels_of-clause-may g c =
     let many : length c.nodes-number-end.result.now ≡ length c.args.net.now.topology.loopbacks =
     ap length c.nodes-number-end.ensures ∙ length-map _ _ ∙ ap (λ t. length t.loopbacks) topology in
     let i = c.loop-number.invariant in
-    let f : ℕ → List ℕ = (λ node. label_lines c.args.net.now.topology node 16 (given c.args.net.now.topology c.args.net.now.journal node)) in
+    let f : ℕ → List ℕ = (λ node. label_lines c.args.net.now.topology node (given c.args.net.now.topology c.args.net.now.journal node).given) in
     let below : c.loop-number.number < length c.nodes-number-end.result.now = c.loop-number-test.true in
     on_err c.from_residual.result _
     (may_more (only_in 1 (flat_map f (range_with_len 0 (c.loop-number.number + 1))))
@@ -68,18 +68,18 @@ returns-in_err-put_labels_of-clause-may g c =
     (nodes_more f (c.loop-number.number + 1) (length c.args.net.now.topology.loopbacks) (omega (arith, many, below))))
     (may_as (λ k. (only_in 1 (flat_map f (range_with_len 0 (c.loop-number.number)))) k ++
     (only_in 1
-    (label_lines c.args.net.now.topology c.loop-number.number 16 (given c.args.net.now.topology c.args.net.now.journal c.loop-number.number))) k)
+    (label_lines c.args.net.now.topology c.loop-number.number (given c.args.net.now.topology c.args.net.now.journal c.loop-number.number).given)) k)
     (only_in 1 (flat_map f (range_with_len 0 (c.loop-number.number + 1)))) c.args.output.now c.put_labels_of.new.output _ _
     (λ k within. joined_in 1 k (flat_map f (range_with_len 0 c.loop-number.number)) (f c.loop-number.number)
     ∙ ap (λ l. only_in 1 l k) (one_node_more f c.loop-number.number))
     (second_may (only_in 1 (flat_map f (range_with_len 0 (c.loop-number.number))))
     (only_in 1
-    (label_lines c.args.net.now.topology c.loop-number.number 16 (given c.args.net.now.topology c.args.net.now.journal c.loop-number.number)))
+    (label_lines c.args.net.now.topology c.loop-number.number (given c.args.net.now.topology c.args.net.now.journal c.loop-number.number).given))
     c.args.output.now c.loop-number.output c.put_labels_of.new.output _ _ _ i.adds
-    (subst (λ t. MayAdd (only_in 1 (label_lines t c.loop-number.number 16 (given c.args.net.now.topology c.args.net.now.journal c.loop-number.number)))
+    (subst (λ t. MayAdd (only_in 1 (label_lines t c.loop-number.number (given c.args.net.now.topology c.args.net.now.journal c.loop-number.number).given))
     c.loop-number.output c.put_labels_of.new.output
     (g.S.Shelf.files c.loop-number.shelf) (g.S.Shelf.files c.put_labels_of.new.shelf)) topology
-    (subst (λ bs. MayAdd (only_in 1 (label_lines c.topology-topology.result.now c.loop-number.number 16 bs)) c.loop-number.output
+    (subst (λ bs. MayAdd (only_in 1 (label_lines c.topology-topology.result.now c.loop-number.number bs)) c.loop-number.output
     c.put_labels_of.new.output
     (g.S.Shelf.files c.loop-number.shelf) (g.S.Shelf.files c.put_labels_of.new.shelf)) c.labels.ensures.told c.in_err-put_labels_of.ensures.may)))))
 
@@ -90,7 +90,7 @@ returns-in_err-put_labels_of-clause-framed g c =
 
 pub returns-clause-adds : goal.returns-clause-adds
 returns-clause-adds g c =
-    let f : ℕ → List ℕ = (λ node. label_lines c.args.net.now.topology node 16 (given c.args.net.now.topology c.args.net.now.journal node)) in
+    let f : ℕ → List ℕ = (λ node. label_lines c.args.net.now.topology node (given c.args.net.now.topology c.args.net.now.journal node).given) in
     let topology : c.topology-topology.result.now ≡ c.args.net.now.topology = c.topology-topology.ensures in
     let many : length c.nodes-number-end.result.now ≡ length c.args.net.now.topology.loopbacks =
     ap length c.nodes-number-end.ensures ∙ length-map _ _ ∙ ap (λ t. length t.loopbacks) topology in

@@ -8,7 +8,7 @@ use Rattle.mn_record.proofs.books.put_labels.Given as goal
 
 abbrev pub invariant-loop-number : goal.invariant-loop-number
 invariant-loop-number g l = record {
-  adds : Adds (only_in 1 (flat_map (λ node. label_lines l.net.topology node 16 (given l.net.topology l.net.journal node)) (range_with_len 0 l.number)))
+  adds : Adds (only_in 1 (flat_map (λ node. label_lines l.net.topology node (given l.net.topology l.net.journal node).given) (range_with_len 0 l.number)))
       l.fn.output l.output (g.S.Shelf.files l.fn.shelf) (g.S.Shelf.files l.shelf);
   names : l.output.names ≡ l.fn.output.names;
   places : l.output.places ≡ l.fn.output.places;

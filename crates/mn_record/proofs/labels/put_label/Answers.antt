@@ -16,9 +16,9 @@ put (Ok x) line name digits bind one two three a b c =
 
 pub returns : goal.returns
 returns c =
-    let digits : c.as_bytes.result.now ≡ decimal c.args.label = c.as_bytes.ensures.value ∙ c.format.ensures.text in
-    put c.extend_from_slice.result c.args.line.now.items (node_name c.args.topology.now c.args.node.0) (decimal c.args.label)
-    (bind_text c.args.topology.now c.args.bind)
+    let digits : c.as_bytes.result.now ≡ decimal c.args.giving.label = c.as_bytes.ensures.value ∙ c.format.ensures.text in
+    put c.extend_from_slice.result c.args.line.now.items (node_name c.args.topology.now c.args.node.0) (decimal c.args.giving.label)
+    (bind_text c.args.topology.now c.args.giving.what)
     c.put_pieces.new.line.items c.put_bind.new.line.items c.extend_from_slice.new.self.items
     (c.in_ok-put_pieces.ensures.ok
     ∙ ap (λ l. c.args.line.now.items ++ (l ++ 32 ∷ (c.as_bytes.result.now ++ 32 ∷ []))) c.node_name.ensures

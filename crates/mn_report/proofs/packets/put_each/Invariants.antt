@@ -1,6 +1,6 @@
 use Rattle.std.proofs.Common.{◌≡◌, List, ℕ}
 use Rattle.mn_ledger.specs.Ledger.{packets_of}
-use Rattle.mn_net_now.specs.Now.{StandsFor}
+use Rattle.mn_net.specs.Now.{StandsFor}
 use Rattle.mn_tables.specs.Telling.{standing}
 use Rattle.mn_report.proofs.PacketLines.{PutSoFar}
 use Rattle.mn_report.proofs.packets.put_each.Given as goal

@@ -1,4 +1,4 @@
-use Rattle.mn_net_now.specs.Now.{StandsFor}
+use Rattle.mn_net.specs.Now.{StandsFor}
 use Rattle.mn_output.specs.Tables.{table_text}
 use Rattle.mn_tables.specs.Telling.{standing}
 use Rattle.mn_tables.proofs.Telling.{tells_want}

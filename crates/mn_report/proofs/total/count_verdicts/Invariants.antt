@@ -1,6 +1,6 @@
 use Rattle.std.proofs.Common.{◌≡◌, List, ℕ, take}
 use Rattle.mn_ledger.specs.Ledger.{packets_of}
-use Rattle.mn_net_now.specs.Now.{StandsFor}
+use Rattle.mn_net.specs.Now.{StandsFor}
 use Rattle.mn_report.specs.Packets.{counts_of}
 use Rattle.mn_report.proofs.PacketLines.{AreWithin}
 use Rattle.mn_report.proofs.total.count_verdicts.Given as goal

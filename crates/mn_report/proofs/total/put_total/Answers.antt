@@ -2,7 +2,7 @@ use Rattle.std.proofs.Common.{◌++◌, ap, ◌∙◌}
 use Rattle.mn_edge.specs.declared.device.DeviceBad.TheVariants.{NoMemory}
 use Rattle.mn_ledger.specs.Ledger.{packets_of}
 use Rattle.mn_lines.specs.Lines.{total_line}
-use Rattle.mn_net_now.specs.Now.{StandsFor}
+use Rattle.mn_net.specs.Now.{StandsFor}
 use Rattle.mn_tables.specs.Telling.{standing}
 use Rattle.mn_tables.proofs.Telling.{tells_as, tells_err, tells_want}
 use Rattle.mn_report.specs.Shown.{totals_by}

@@ -1,5 +1,4 @@
 use Rattle.std.proofs.Common.{◌≡◌, ◌≢◌, ◌+◌, ◌-◌, ◌<◌, ◌≤◌, length, arith, sym, ◌∙◌, ap, subst}
-use Rattle.std.proofs.lemmas.List.{length-map}
 use Rattle.mn_ledger.specs.Places.{home_of}
 use Rattle.mn_pe.specs.Edge.{after_attach}
 use Rattle.mn_pe.specs.Pe.{PeNow}
@@ -10,12 +9,10 @@ use Rattle.mn_routing.proofs.start.first_edge.Goals.{then-home_of-node+in-Ok-att
 
 pub loop-number-init : goal.loop-number-init
 loop-number-init c =
-    let many : length c.nodes.result.now ≡ length c.args.topology.now.loopbacks = ap length c.nodes.ensures ∙ length-map c.args.topology.now.loopbacks _ in
-    let some = c.requires in
     record {
       edge = c.in-Ok.ensures ∙ ap working (edge_first c.args.topology.now c.laws.ensures c.args.node.0);
-      next = omega (arith, many, some);
-      bound = omega (arith, many);
+      next = omega arith;
+      bound = omega arith;
     }
 
 pub loop-number-preserved : goal.loop-number-preserved

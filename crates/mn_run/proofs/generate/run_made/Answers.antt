@@ -1,9 +1,9 @@
 use Rattle.std.proofs.Common.{◌≡◌, sym, ◌∙◌, subst}
 use Rattle.std.specs.Prelude.{IfOk}
 use Rattle.mn_course.specs.Expansion.{expanded}
-use Rattle.mn_perform.specs.Memory.{packets_at}
-use Rattle.mn_perform.specs.Running.{is_stopped}
-use Rattle.mn_perform.specs.Total.{total_text, PutsWhole}
+use Rattle.mn_join_run.specs.Memory.{packets_at}
+use Rattle.mn_join_run.specs.Running.{is_stopped}
+use Rattle.mn_join_run.specs.Total.{total_text, PutsWhole}
 use Rattle.mn_run.specs.Answer.{generated_line, generated_done}
 use Rattle.mn_answer.specs.Endings.{OutcomeIs, TextIs, CausedBy}
 use Rattle.std.specs.Prelude.{Some}

@@ -1,6 +1,6 @@
 use Rattle.std.proofs.Common.{◌≡◌, length, sym, ◌∙◌, ap, arith}
 use Rattle.mn_edge.specs.Written.{texts}
-use Rattle.mn_perform.specs.Inside.{is_inside}
+use Rattle.mn_join_run.specs.Inside.{is_inside}
 use Rattle.mn_run.specs.Words.{word}
 use Rattle.mn_run.proofs.Doing.{join_ends}
 use Rattle.mn_run.proofs.Forms.{joined_apart}

@@ -1,6 +1,6 @@
 use Rattle.std.proofs.Common.{◌≡◌, Ok, Err, length, sym, ◌∙◌, ap, subst, arith}
 use Rattle.mn_edge.specs.Written.{texts}
-use Rattle.mn_perform.specs.Inside.{is_inside}
+use Rattle.mn_join_run.specs.Inside.{is_inside}
 use Rattle.mn_answer.specs.Endings.{Answers}
 use Rattle.mn_run.specs.declared.words.Job.TheVariants.{Run}
 use Rattle.mn_run.specs.Words.{word}

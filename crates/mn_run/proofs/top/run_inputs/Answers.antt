@@ -2,8 +2,8 @@ use Rattle.std.proofs.Common.{Some, sym, subst}
 use Rattle.mn_capture.specs.Packets.{packets_in}
 use Rattle.mn_course.specs.Expansion.{expanded}
 use Rattle.mn_output.specs.Report as output
-use Rattle.mn_perform.specs.Running.{notes_text}
-use Rattle.mn_perform.specs.Whole.{running, EndsAs, FilesOf, BegunAtRead, UntoldAtRead, TextOf, TellsLate}
+use Rattle.mn_join_run.specs.Running.{notes_text}
+use Rattle.mn_join_run.specs.Whole.{running, EndsAs, FilesOf, BegunAtRead, UntoldAtRead, TextOf, TellsLate}
 use Rattle.mn_run.specs.Answer.{run_done}
 use Rattle.mn_answer.specs.Endings.{Answers}
 use Rattle.mn_run.proofs.Playing.{played}

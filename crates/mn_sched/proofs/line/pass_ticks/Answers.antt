@@ -4,7 +4,7 @@ use Rattle.mn_course.specs.Course.{Course, deliver, all}
 use Rattle.mn_course.specs.declared.coming.Arrivals.TheVariants.{DueBy}
 use Rattle.mn_sched.specs.Playing.{past_of, Arrives, IsFirstPart}
 use Rattle.mn_sched.specs.declared.line.Stopped.{Stopped}
-use Rattle.mn_net_now.specs.Now.{NetNow}
+use Rattle.mn_net.specs.Now.{NetNow}
 use Rattle.mn_sched.proofs.Telling.{run_paced, run_takes, run_stops, set_on}
 use Rattle.mn_sched.proofs.Onward.{goes_on_to}
 use Rattle.mn_sched.proofs.line.pass_ticks.Goals as goal

@@ -1,11 +1,14 @@
 use Rattle.std.proofs.Common.{ℕ, ◌≡◌, ◌≤◌, ◌+◌, List, [], false, length, map, arith, sym, ◌∙◌, ap, subst}
 use Rattle.std.proofs.lemmas.List.{length_push}
-use Rattle.mn_wiring.specs.Wiring.{Wiring}
+use Rattle.mn_wiring.specs.Wiring.{Wiring, links_at}
 use Rattle.mn_wiring.specs.declared.links.LinkEnds.{LinkEnds}
 use Rattle.mn_node.specs.Machine.{fresh_node}
 use Rattle.mn_topo.specs.Network.{wiring_of}
 use Rattle.mn_topo.specs.declared.nodes.Node.{Node}
-use Rattle.mn_lsr.specs.Standing.{Standing, IsWired, fecs_given}
+use Rattle.mn_labels.specs.Labels.{none_given}
+use Rattle.mn_rest.specs.Rests.{at_first}
+use Rattle.mn_reuse.specs.Labels.{longest_life}
+use Rattle.mn_lsr.specs.Standing.{Standing, IsWired}
 use Rattle.mn_transport_model.specs.Starting.{IsFirst}
 use Rattle.mn_transport_model.proofs.Lists.{Each}
 use Rattle.mn_transport_model.proofs.Starts.{wired, loopbacks-are, first-node, each-push}
@@ -34,12 +37,23 @@ loop-number-preserved c =
     (subst (λ (w : Wiring). x ≡ record {
       wiring = w;
       node = fresh_node w number;
-      given = x.given;
+      labels = none_given (length w.loopbacks);
+      resting = at_first (length w.loopbacks) (longest_life t (links_at (wiring_of t) number));
       uses = [];
       failed =
           false;
-    }) wiring c.in_ok-new.ensures.fresh)
-    (c.in_ok-new.ensures.given ∙ ap (λ (xs : List ℕ). fecs_given (length xs) number) loopbacks) c.in_ok-new.ensures.table in
+    }) wiring
+    (c.in_ok-new.ensures.fresh
+    ∙ ap (λ life. let s : Standing = record {
+      wiring = record { loopbacks = c.deref.result.now; ends = c.links-ends.result.now };
+      node = fresh_node (record { loopbacks = c.deref.result.now; ends = c.links-ends.result.now }) number;
+      labels = none_given (length c.deref.result.now);
+      resting = at_first (length c.deref.result.now) life;
+      uses = [];
+      failed =
+          false;
+    } in s) c.longest_life-life.ensures))
+    c.in_ok-new.ensures.table in
     record {
       count = ap length c.in_ok-push.ensures.items ∙ length_push c.loop-number.nodes.items x ∙ ap (λ n. n + 1) c.loop-number.invariant.count;
       first = subst (Each (IsFirst t 0)) (sym c.in_ok-push.ensures.items)

@@ -1,12 +1,17 @@
-use Rattle.std.proofs.Common.{[], map, length, sym, ap, append-nil, arith, None}
+use Rattle.std.proofs.Common.{[], map, length, ◌+◌, ◌^◌, sym, ap, subst, append-nil, arith, None}
+use Rattle.mn_lsr.specs.declared.parts.Parts.{Parts}
+use Rattle.mn_lib.specs.Known.{AreFew}
 use Rattle.std.specs.Option.{option_to_list}
 use Rattle.mn_node.specs.Machine.{Closes}
 use Rattle.mn_lsr.specs.declared.said.Said.{Said}
 use Rattle.mn_lsr.specs.Said.{pdu_of}
 use Rattle.std.proofs.Common.{List}
 use Rattle.mn_lsr.proofs.Closing.{closing-as}
-use Rattle.mn_lsr.proofs.Numbers.{set-fits, by-ends}
+use Rattle.mn_lsr.proofs.Numbers.{set-fits, by-ends, few-owed}
+use Rattle.mn_labels.specs.Labels.{own_labels}
+use Rattle.mn_ldp_session.specs.declared.session.Reply.TheVariants as says
 use Rattle.mn_lsr.proofs.Tail.{may-follow-then, after-all, none-before}
+use Rattle.mn_lsr.specs.Turns.{Kept}
 use Rattle.mn_lsr.proofs.parts.Parts.close.Goals as goal
 
 pub tell-requires-clause-numbers : goal.tell-requires-clause-numbers
@@ -21,7 +26,7 @@ tell-requires-clause-follow c =
     let l = c.args.link.0 in
     let es = option_to_list c.closing-event.result in
     let happens = closing-as p st l c.requires.there c.requires.open c.session.result c.far.result es c.session.ensures c.far.ensures c.closing-event.ensures in
-    may-follow-then p st (Closes l) es _ l [] happens.0 c.set_session.new.self c.set_session.new.self.sessions 0 c.set_session.ensures.others
+    may-follow-then p st (Closes l) es _ l says.Nothing happens.0 c.set_session.new.self c.set_session.new.self.sessions 0 c.set_session.ensures.others
     c.set_session.ensures.set (happens.1 0)
 
 pub returns-clause-stands : goal.returns-clause-stands
@@ -32,15 +37,18 @@ returns-clause-stands c =
     let es = option_to_list c.closing-event.result in
     let happens = closing-as p st l c.requires.there c.requires.open c.session.result c.far.result es c.session.ensures c.far.ensures c.closing-event.ensures in
     let done =
-    after-all p st (Closes l) es _ l [] happens.0 c.set_session.new.self c.set_session.new.self.sessions c.tell.new.self 0
+    after-all p st (Closes l) es _ l says.Nothing happens.0 c.set_session.new.self c.set_session.new.self.sessions c.tell.new.self 0 c.args.tick
+    (own_labels p.me.0 p.labels.labels)
     (map pdu_of c.new-out.result.items) (map pdu_of c.new-out.result.items)
     (map pdu_of c.tell.new.out.items) c.set_session.ensures.others c.set_session.ensures.set (sym (append-nil (map pdu_of c.new-out.result.items)))
     (record {
       said = c.in_ok-tell.ensures.said;
       counted = c.in_ok-tell.ensures.counted;
-      bindings = c.in_ok-tell.ensures.bindings;
-      ways = c.in_ok-tell.ensures.ways;
-      uses = c.in_ok-tell.ensures.uses;
+      known = c.in_ok-tell.ensures.known;
+      labels = c.in_ok-tell.ensures.labels;
+      have = c.in_ok-tell.ensures.have;
+      table = c.in_ok-tell.ensures.table;
+      sites = c.in_ok-tell.ensures.sites;
       others = c.in_ok-tell.ensures.others;
     }) in
     done.stands
@@ -53,18 +61,69 @@ returns-clause-node c =
     let es = option_to_list c.closing-event.result in
     let happens = closing-as p st l c.requires.there c.requires.open c.session.result c.far.result es c.session.ensures c.far.ensures c.closing-event.ensures in
     let done =
-    after-all p st (Closes l) es _ l [] happens.0 c.set_session.new.self c.set_session.new.self.sessions c.tell.new.self 0
+    after-all p st (Closes l) es _ l says.Nothing happens.0 c.set_session.new.self c.set_session.new.self.sessions c.tell.new.self 0 c.args.tick
+    (own_labels p.me.0 p.labels.labels)
     (map pdu_of c.new-out.result.items) (map pdu_of c.new-out.result.items)
     (map pdu_of c.tell.new.out.items) c.set_session.ensures.others c.set_session.ensures.set (sym (append-nil (map pdu_of c.new-out.result.items)))
     (record {
       said = c.in_ok-tell.ensures.said;
       counted = c.in_ok-tell.ensures.counted;
-      bindings = c.in_ok-tell.ensures.bindings;
-      ways = c.in_ok-tell.ensures.ways;
-      uses = c.in_ok-tell.ensures.uses;
+      known = c.in_ok-tell.ensures.known;
+      labels = c.in_ok-tell.ensures.labels;
+      have = c.in_ok-tell.ensures.have;
+      table = c.in_ok-tell.ensures.table;
+      sites = c.in_ok-tell.ensures.sites;
       others = c.in_ok-tell.ensures.others;
     }) in
-    done.node
+    ap (λ (k : Kept). k.node) done.kept
+
+pub returns-clause-labels : goal.returns-clause-labels
+returns-clause-labels c =
+    let p = c.args.self.now in
+    let st = c.requires.stands in
+    let l = c.args.link.0 in
+    let es = option_to_list c.closing-event.result in
+    let happens = closing-as p st l c.requires.there c.requires.open c.session.result c.far.result es c.session.ensures c.far.ensures c.closing-event.ensures in
+    let done =
+    after-all p st (Closes l) es _ l says.Nothing happens.0 c.set_session.new.self c.set_session.new.self.sessions c.tell.new.self 0 c.args.tick
+    (own_labels p.me.0 p.labels.labels)
+    (map pdu_of c.new-out.result.items) (map pdu_of c.new-out.result.items)
+    (map pdu_of c.tell.new.out.items) c.set_session.ensures.others c.set_session.ensures.set (sym (append-nil (map pdu_of c.new-out.result.items)))
+    (record {
+      said = c.in_ok-tell.ensures.said;
+      counted = c.in_ok-tell.ensures.counted;
+      known = c.in_ok-tell.ensures.known;
+      labels = c.in_ok-tell.ensures.labels;
+      have = c.in_ok-tell.ensures.have;
+      table = c.in_ok-tell.ensures.table;
+      sites = c.in_ok-tell.ensures.sites;
+      others = c.in_ok-tell.ensures.others;
+    }) in
+    ap (λ (k : Kept). k.labels) done.kept
+
+pub returns-clause-resting : goal.returns-clause-resting
+returns-clause-resting c =
+    let p = c.args.self.now in
+    let st = c.requires.stands in
+    let l = c.args.link.0 in
+    let es = option_to_list c.closing-event.result in
+    let happens = closing-as p st l c.requires.there c.requires.open c.session.result c.far.result es c.session.ensures c.far.ensures c.closing-event.ensures in
+    let done =
+    after-all p st (Closes l) es _ l says.Nothing happens.0 c.set_session.new.self c.set_session.new.self.sessions c.tell.new.self 0 c.args.tick
+    (own_labels p.me.0 p.labels.labels)
+    (map pdu_of c.new-out.result.items) (map pdu_of c.new-out.result.items)
+    (map pdu_of c.tell.new.out.items) c.set_session.ensures.others c.set_session.ensures.set (sym (append-nil (map pdu_of c.new-out.result.items)))
+    (record {
+      said = c.in_ok-tell.ensures.said;
+      counted = c.in_ok-tell.ensures.counted;
+      known = c.in_ok-tell.ensures.known;
+      labels = c.in_ok-tell.ensures.labels;
+      have = c.in_ok-tell.ensures.have;
+      table = c.in_ok-tell.ensures.table;
+      sites = c.in_ok-tell.ensures.sites;
+      others = c.in_ok-tell.ensures.others;
+    }) in
+    ap (λ (k : Kept). k.resting) done.kept
 
 pub returns-clause-said : goal.returns-clause-said
 returns-clause-said c =
@@ -74,16 +133,25 @@ returns-clause-said c =
     let es = option_to_list c.closing-event.result in
     let happens = closing-as p st l c.requires.there c.requires.open c.session.result c.far.result es c.session.ensures c.far.ensures c.closing-event.ensures in
     let done =
-    after-all p st (Closes l) es _ l [] happens.0 c.set_session.new.self c.set_session.new.self.sessions c.tell.new.self 0
+    after-all p st (Closes l) es _ l says.Nothing happens.0 c.set_session.new.self c.set_session.new.self.sessions c.tell.new.self 0 c.args.tick
+    (own_labels p.me.0 p.labels.labels)
     (map pdu_of c.new-out.result.items) (map pdu_of c.new-out.result.items)
     (map pdu_of c.tell.new.out.items) c.set_session.ensures.others c.set_session.ensures.set (sym (append-nil (map pdu_of c.new-out.result.items)))
     (record {
       said = c.in_ok-tell.ensures.said;
       counted = c.in_ok-tell.ensures.counted;
-      bindings = c.in_ok-tell.ensures.bindings;
-      ways = c.in_ok-tell.ensures.ways;
-      uses = c.in_ok-tell.ensures.uses;
+      known = c.in_ok-tell.ensures.known;
+      labels = c.in_ok-tell.ensures.labels;
+      have = c.in_ok-tell.ensures.have;
+      table = c.in_ok-tell.ensures.table;
+      sites = c.in_ok-tell.ensures.sites;
       others = c.in_ok-tell.ensures.others;
     }) in
     none-before (map pdu_of c.new-out.result.items) (map pdu_of c.tell.new.out.items) _
     (ap (λ (xs : List Said). map pdu_of xs) c.new-out.ensures.items) done.said
+
+pub tell-requires-clause-owed : goal.tell-requires-clause-owed
+tell-requires-clause-owed c =
+    let q = c.set_session.new.self in
+    subst (λ (x : Parts). AreFew (2 ^ 62 + length c.new-out.result.items) x.lib.resting) (sym c.set_session.ensures.others)
+    (few-owed c.args.self.now c.requires.stands (length c.new-out.result.items) (by-ends c.args.self.now (length c.new-out.result.items) c.requires.numbers))

@@ -1,23 +1,20 @@
-use Rattle.std.proofs.Common.{ℕ, ◌≡◌, ◌≢◌, ◌<◌, ◌++◌, map, length, drop, slice_index_or}
+use Rattle.std.proofs.Common.{ℕ, ◌≡◌, ◌<◌, ◌++◌, map, length, drop, slice_index_or}
 use Rattle.std.specs.Prelude.{None}
-use Rattle.mn_node.specs.Node.{label_of}
-use Rattle.mn_lfib.specs.Uses.{use_of}
 use Rattle.mn_lsr.specs.Said.{pdu_of}
 use Rattle.mn_lsr.specs.Hearing.{after_messages, AcceptsAll}
-use Rattle.mn_lsr.specs.Parts.{wiring_in, node_in, machines_of, NumbersFit, Stands}
+use Rattle.mn_lsr.specs.Parts.{wiring_in, kept_of, SitesStay, machines_of, NumbersFit, Stands}
 use Rattle.mn_lsr.proofs.parts.Parts.hear_all.Given as goal
 
 abbrev pub invariant-loop-message : goal.invariant-loop-message
 invariant-loop-message l = record {
   stands : Stands l.self;
   there : l.link.0 < length l.self.view.ends;
-  others : l.self ≡ record l.fn.self { sessions = l.self.sessions; lib = l.self.lib; lfib = l.self.lfib };
+  others : l.self ≡ record l.fn.self { sessions = l.self.sessions; lib = l.self.lib; labels = l.self.labels; lfib = l.self.lfib };
   numbers : NumbersFit l.self.sessions.items (length l.out.items);
   accepted : AcceptsAll (slice_index_or (machines_of l.self.sessions.items) l.link.0 None) l.from (drop l.message-index l.messages);
-  said : map pdu_of l.out.items ++ (after_messages (wiring_in l.fn.self) l.link.0 (node_in l.self) (drop l.message-index l.messages)).said ≡
-      (after_messages (wiring_in l.fn.self) l.link.0 (node_in l.fn.self) l.messages).said;
-  node : (after_messages (wiring_in l.fn.self) l.link.0 (node_in l.self) (drop l.message-index l.messages)).node ≡
-      (after_messages (wiring_in l.fn.self) l.link.0 (node_in l.fn.self) l.messages).node;
-  uses : (label : ℕ) → ((fec : ℕ) → fec < length l.fn.self.loopbacks.items → fec ≢ l.fn.self.me.0 → label ≢ label_of l.fn.self.me.0 fec) →
-      use_of l.self.lfib label ≡ use_of l.fn.self.lfib label;
+  said : map pdu_of l.out.items ++ (after_messages (wiring_in l.fn.self) l.tick l.link.0 (kept_of l.self) (drop l.message-index l.messages)).said ≡
+      (after_messages (wiring_in l.fn.self) l.tick l.link.0 (kept_of l.fn.self) l.messages).said;
+  kept : (after_messages (wiring_in l.fn.self) l.tick l.link.0 (kept_of l.self) (drop l.message-index l.messages)).kept ≡
+      (after_messages (wiring_in l.fn.self) l.tick l.link.0 (kept_of l.fn.self) l.messages).kept;
+  sites : SitesStay l.fn.self l.self;
 }

@@ -1,4 +1,4 @@
-use Rattle.std.proofs.Common.{◌≡◌, ◌+◌, ◌++◌, List, [], map, length, ◌∙◌, sym, ap, subst, slice_index}
+use Rattle.std.proofs.Common.{◌≡◌, ◌+◌, ◌++◌, ◌^◌, refl, List, [], map, length, ◌∙◌, sym, ap, subst, slice_index}
 use Rattle.std.specs.List.{flat_map}
 use Rattle.std.proofs.Math.ListN.{length-set}
 use Rattle.mn_linkdb.specs.Learned.{Learned, after_learn}
@@ -9,11 +9,14 @@ use Rattle.mn_lsr.specs.declared.parts.Parts.{Parts}
 use Rattle.mn_lsr.specs.declared.said.Said.{Said}
 use Rattle.mn_lsr.specs.Said.{pdu_of}
 use Rattle.mn_lsr.specs.Telling.{said_by_tell}
-use Rattle.mn_lsr.specs.Parts.{Stands, node_in, pdus_by, ends_after}
+use Rattle.mn_labels.specs.Labels.{own_labels}
+use Rattle.mn_lib.specs.Known.{AreFew}
+use Rattle.mn_lsr.specs.Parts.{Stands, kept_of, pdus_by, ends_after}
 use Rattle.mn_lsr.proofs.Learning.{learning, events-of, releases-of}
 use Rattle.mn_lsr.proofs.Mended.{link_there, turns, mended-then, tree-then}
-use Rattle.mn_lsr.proofs.Numbers.{by-ends}
-use Rattle.mn_lsr.proofs.After.{Happens, may-follow, stands-then, node-of, said-then, length-machines}
+use Rattle.mn_lsr.proofs.Numbers.{by-ends, few-owed}
+use Rattle.mn_lsr.proofs.After.{Happens, IsThen, may-follow, stands-then, kept-of, said-then, length-machines}
+use Rattle.mn_lsr.specs.Turns.{Kept}
 use Rattle.mn_lsr.proofs.parts.Parts.learn.Goals as goal
 
 pub turn-requires-clause-there : goal.turn-requires-clause-there
@@ -44,6 +47,10 @@ follow-requires-clause-follow c =
     c.in-Ok.ensures.learned (sym (length-machines p.sessions.items) ∙ st.ends.one_each)
     (releases-of p c.tree-tree.result.now 0 c.deref.result.now events_are)
 
+pub follow-requires-clause-owed : goal.follow-requires-clause-owed
+follow-requires-clause-owed c =
+    few-owed c.args.self.now c.requires.stands (length c.new-out.result.items) (by-ends c.args.self.now (length c.new-out.result.items) c.requires.numbers)
+
 pub returns-clause-stands : goal.returns-clause-stands
 returns-clause-stands c =
     let p = c.args.self.now in
@@ -63,16 +70,17 @@ returns-clause-stands c =
     (learning p st l c.tree-tree.result.now tree_is) in
     let q : Parts = c.follow.new.self in
     let counted : q.sessions.items ≡ ends_after p.sessions.items
-    (flat_map (said_by_tell (record { loopbacks = p.loopbacks.items; ends = p.view.ends }) p.me.0) (tells p.lib c.deref.result.now)) =
+    (flat_map (said_by_tell (record { loopbacks = p.loopbacks.items; ends = p.view.ends }) p.me.0) (tells p.lib.bindings c.deref.result.now)) =
     c.in-Ok-follow.ensures.counted
     ∙ ap (λ (v : Learned). ends_after p.sessions.items
-    (flat_map (said_by_tell (record { loopbacks = p.loopbacks.items; ends = v.ends }) p.me.0) (tells p.lib c.deref.result.now))) c.in-Ok.ensures.learned
+    (flat_map (said_by_tell (record { loopbacks = p.loopbacks.items; ends = v.ends }) p.me.0) (tells p.lib.bindings c.deref.result.now))) c.in-Ok.ensures.learned
     in
+    let is : IsThen p st (Learns l) (after_learn p.view l).counts c.deref.result.now p.sessions.items 0 [] happens c.args.tick c.learn.new.self q.sessions q.lib q.labels =
+    record { view_is = c.in-Ok.ensures.learned; known_is = c.in-Ok-follow.ensures.known; ends_are = counted; labels_are = c.in-Ok-follow.ensures.labels } in
     subst Stands (sym c.in-Ok-follow.ensures.others)
-    (stands-then p st (Learns l) (after_learn p.view l).counts c.deref.result.now p.sessions.items 0 [] happens c.learn.new.self c.turn.new.self
-    q.sessions q.lib q.lfib
-    c.in-Ok.ensures.learned (length-set p.view.counts l (slice_index p.view.counts l + 1)) mended_is c.in-Ok-follow.ensures.bindings counted
-    c.in-Ok-follow.ensures.ways c.in-Ok-follow.ensures.uses)
+    (stands-then p st (Learns l) (after_learn p.view l).counts c.deref.result.now p.sessions.items 0 [] happens c.args.tick c.learn.new.self c.turn.new.self
+    q.sessions q.lib q.labels q.lfib is (length-set p.view.counts l (slice_index p.view.counts l + 1)) mended_is c.in-Ok-follow.ensures.have
+    c.in-Ok-follow.ensures.table)
 
 pub returns-clause-node : goal.returns-clause-node
 returns-clause-node c =
@@ -90,14 +98,73 @@ returns-clause-node c =
     (learning p st l c.tree-tree.result.now tree_is) in
     let q : Parts = c.follow.new.self in
     let counted : q.sessions.items ≡ ends_after p.sessions.items
-    (flat_map (said_by_tell (record { loopbacks = p.loopbacks.items; ends = p.view.ends }) p.me.0) (tells p.lib c.deref.result.now)) =
+    (flat_map (said_by_tell (record { loopbacks = p.loopbacks.items; ends = p.view.ends }) p.me.0) (tells p.lib.bindings c.deref.result.now)) =
     c.in-Ok-follow.ensures.counted
     ∙ ap (λ (v : Learned). ends_after p.sessions.items
-    (flat_map (said_by_tell (record { loopbacks = p.loopbacks.items; ends = v.ends }) p.me.0) (tells p.lib c.deref.result.now))) c.in-Ok.ensures.learned
+    (flat_map (said_by_tell (record { loopbacks = p.loopbacks.items; ends = v.ends }) p.me.0) (tells p.lib.bindings c.deref.result.now))) c.in-Ok.ensures.learned
     in
-    ap node_in c.in-Ok-follow.ensures.others
-    ∙ node-of p st (Learns l) (after_learn p.view l).counts c.deref.result.now p.sessions.items 0 [] happens c.learn.new.self c.turn.new.self q.sessions
-    q.lib q.lfib c.in-Ok.ensures.learned c.in-Ok-follow.ensures.bindings counted
+    let is : IsThen p st (Learns l) (after_learn p.view l).counts c.deref.result.now p.sessions.items 0 [] happens c.args.tick c.learn.new.self q.sessions q.lib q.labels =
+    record { view_is = c.in-Ok.ensures.learned; known_is = c.in-Ok-follow.ensures.known; ends_are = counted; labels_are = c.in-Ok-follow.ensures.labels } in
+    ap (λ (k : Kept). k.node)
+    (ap kept_of c.in-Ok-follow.ensures.others
+    ∙ kept-of p st (Learns l) (after_learn p.view l).counts c.deref.result.now p.sessions.items 0 [] happens c.args.tick c.learn.new.self c.turn.new.self q.sessions
+    q.lib q.labels q.lfib is)
+
+pub returns-clause-labels : goal.returns-clause-labels
+returns-clause-labels c =
+    let p = c.args.self.now in
+    let st = c.requires.stands in
+    let l = c.args.link.0 in
+    let tree_is =
+    tree-then p st l c.requires.there c.learn.new.self c.in-Ok.ensures.learned c.up-up.result c.up-up.ensures c.turn.new.self
+    c.turn.ensures.of c.in-Ok-turn.ensures.turned c.in-Ok-turn.ensures.ok.1 c.tree-tree.result.now c.tree-tree.ensures.value c.tree-tree.ensures.least in
+    let events_are =
+    events-of p st l c.learn.new.self c.tree-tree.result.now c.nodes.result c.in-Ok-next_hops.events.items c.deref.result.now c.in-Ok.ensures.learned
+    c.nodes.ensures.value c.in-Ok-next_hops.ensures c.deref.ensures.value in
+    let happens =
+    subst (λ (es : List LibEvent). Happens p (Learns l) (after_learn p.view l).counts es p.sessions.items 0 []) (sym events_are)
+    (learning p st l c.tree-tree.result.now tree_is) in
+    let q : Parts = c.follow.new.self in
+    let counted : q.sessions.items ≡ ends_after p.sessions.items
+    (flat_map (said_by_tell (record { loopbacks = p.loopbacks.items; ends = p.view.ends }) p.me.0) (tells p.lib.bindings c.deref.result.now)) =
+    c.in-Ok-follow.ensures.counted
+    ∙ ap (λ (v : Learned). ends_after p.sessions.items
+    (flat_map (said_by_tell (record { loopbacks = p.loopbacks.items; ends = v.ends }) p.me.0) (tells p.lib.bindings c.deref.result.now))) c.in-Ok.ensures.learned
+    in
+    let is : IsThen p st (Learns l) (after_learn p.view l).counts c.deref.result.now p.sessions.items 0 [] happens c.args.tick c.learn.new.self q.sessions q.lib q.labels =
+    record { view_is = c.in-Ok.ensures.learned; known_is = c.in-Ok-follow.ensures.known; ends_are = counted; labels_are = c.in-Ok-follow.ensures.labels } in
+    ap (λ (k : Kept). k.labels)
+    (ap kept_of c.in-Ok-follow.ensures.others
+    ∙ kept-of p st (Learns l) (after_learn p.view l).counts c.deref.result.now p.sessions.items 0 [] happens c.args.tick c.learn.new.self c.turn.new.self q.sessions
+    q.lib q.labels q.lfib is)
+
+pub returns-clause-resting : goal.returns-clause-resting
+returns-clause-resting c =
+    let p = c.args.self.now in
+    let st = c.requires.stands in
+    let l = c.args.link.0 in
+    let tree_is =
+    tree-then p st l c.requires.there c.learn.new.self c.in-Ok.ensures.learned c.up-up.result c.up-up.ensures c.turn.new.self
+    c.turn.ensures.of c.in-Ok-turn.ensures.turned c.in-Ok-turn.ensures.ok.1 c.tree-tree.result.now c.tree-tree.ensures.value c.tree-tree.ensures.least in
+    let events_are =
+    events-of p st l c.learn.new.self c.tree-tree.result.now c.nodes.result c.in-Ok-next_hops.events.items c.deref.result.now c.in-Ok.ensures.learned
+    c.nodes.ensures.value c.in-Ok-next_hops.ensures c.deref.ensures.value in
+    let happens =
+    subst (λ (es : List LibEvent). Happens p (Learns l) (after_learn p.view l).counts es p.sessions.items 0 []) (sym events_are)
+    (learning p st l c.tree-tree.result.now tree_is) in
+    let q : Parts = c.follow.new.self in
+    let counted : q.sessions.items ≡ ends_after p.sessions.items
+    (flat_map (said_by_tell (record { loopbacks = p.loopbacks.items; ends = p.view.ends }) p.me.0) (tells p.lib.bindings c.deref.result.now)) =
+    c.in-Ok-follow.ensures.counted
+    ∙ ap (λ (v : Learned). ends_after p.sessions.items
+    (flat_map (said_by_tell (record { loopbacks = p.loopbacks.items; ends = v.ends }) p.me.0) (tells p.lib.bindings c.deref.result.now))) c.in-Ok.ensures.learned
+    in
+    let is : IsThen p st (Learns l) (after_learn p.view l).counts c.deref.result.now p.sessions.items 0 [] happens c.args.tick c.learn.new.self q.sessions q.lib q.labels =
+    record { view_is = c.in-Ok.ensures.learned; known_is = c.in-Ok-follow.ensures.known; ends_are = counted; labels_are = c.in-Ok-follow.ensures.labels } in
+    ap (λ (k : Kept). k.resting)
+    (ap kept_of c.in-Ok-follow.ensures.others
+    ∙ kept-of p st (Learns l) (after_learn p.view l).counts c.deref.result.now p.sessions.items 0 [] happens c.args.tick c.learn.new.self c.turn.new.self q.sessions
+    q.lib q.labels q.lfib is)
 
 pub returns-clause-said : goal.returns-clause-said
 returns-clause-said c =
@@ -113,10 +180,12 @@ returns-clause-said c =
     let happens =
     subst (λ (es : List LibEvent). Happens p (Learns l) (after_learn p.view l).counts es p.sessions.items 0 []) (sym events_are)
     (learning p st l c.tree-tree.result.now tree_is) in
+    let q : Parts = c.follow.new.self in
+    let own = own_labels p.me.0 q.labels.labels in
     c.in-Ok-follow.ensures.said
-    ∙ ap (λ (xs : List Said). map pdu_of xs ++ pdus_by (record { loopbacks = p.loopbacks.items; ends = c.learn.new.self.ends }) p.me.0 0 p.sessions.items
-    (flat_map (said_by_tell (record { loopbacks = p.loopbacks.items; ends = c.learn.new.self.ends }) p.me.0) (tells p.lib c.deref.result.now)))
+    ∙ ap (λ (xs : List Said). map pdu_of xs ++ pdus_by (record { loopbacks = p.loopbacks.items; ends = c.learn.new.self.ends }) p.me.0 own 0 p.sessions.items
+    (flat_map (said_by_tell (record { loopbacks = p.loopbacks.items; ends = c.learn.new.self.ends }) p.me.0) (tells p.lib.bindings c.deref.result.now)))
     c.new-out.ensures.items
-    ∙ ap (λ (v : Learned). pdus_by (record { loopbacks = p.loopbacks.items; ends = v.ends }) p.me.0 0 p.sessions.items
-    (flat_map (said_by_tell (record { loopbacks = p.loopbacks.items; ends = v.ends }) p.me.0) (tells p.lib c.deref.result.now))) c.in-Ok.ensures.learned
-    ∙ said-then p st (Learns l) (after_learn p.view l).counts c.deref.result.now p.sessions.items 0 [] happens 0
+    ∙ ap (λ (v : Learned). pdus_by (record { loopbacks = p.loopbacks.items; ends = v.ends }) p.me.0 own 0 p.sessions.items
+    (flat_map (said_by_tell (record { loopbacks = p.loopbacks.items; ends = v.ends }) p.me.0) (tells p.lib.bindings c.deref.result.now))) c.in-Ok.ensures.learned
+    ∙ said-then p st (Learns l) (after_learn p.view l).counts c.deref.result.now p.sessions.items 0 [] happens own 0

@@ -1,11 +1,11 @@
 use Rattle.std.proofs.Common.{refl}
 use Rattle.mn_lsr.specs.declared.parts.Parts.{Parts}
-use Rattle.mn_lsr.proofs.Fresh.{IsMade, made-stands, made-node}
+use Rattle.mn_lsr.proofs.Fresh.{IsMade, made-stands, made-kept}
 use Rattle.mn_lsr.proofs.parts.Parts.new.Goals as goal
 
 pub returns-clause-stands : goal.returns-clause-stands
 returns-clause-stands c =
-    let made : IsMade c.args.me c.args.loopbacks.now c.args.ends.now _ = record {
+    let made : IsMade c.args.me c.args.loopbacks.now c.args.ends.now c.args.life _ = record {
       me = refl;
       loopbacks = c.in_ok-loopbacks.ensures.items;
       view = c.in_ok-view.ensures;
@@ -16,15 +16,16 @@ returns-clause-stands c =
       up = c.in_ok-mended.ensures.down;
       sessions = c.in_ok-sessions.ensures;
       bindings = c.in_ok-lib.ensures;
-      given = c.in_ok-give_fecs.ensures;
-      uses = c.new-4.ensures;
-      attached = c.new-5.ensures.items;
+      given = c.in_ok-labels.ensures.none;
+      given_by = c.in_ok-labels.ensures.me;
+      uses = c.new-5.ensures;
+      attached = c.new-6.ensures.items;
       links_are = c.in_ok-links.ensures;
     } in
-    made-stands c.args.me c.args.loopbacks.now c.args.ends.now _ c.requires.me c.requires.wired made
+    made-stands c.args.me c.args.loopbacks.now c.args.ends.now c.args.life _ c.requires.me c.requires.wired made
 
-pub returns-clause-node : goal.returns-clause-node
-returns-clause-node c =
+pub returns-clause-kept : goal.returns-clause-kept
+returns-clause-kept c =
     let p : Parts = record {
       me = c.args.me;
       loopbacks = c.in_ok-loopbacks.loopbacks;
@@ -32,12 +33,12 @@ returns-clause-node c =
       mended = c.in_ok-mended.mended;
       sessions = c.in_ok-sessions.sessions;
       lib = c.in_ok-lib.lib;
-      labels = c.give_fecs.new.labels;
-      lfib = c.new-4.result;
-      attached = c.new-5.result;
+      labels = c.in_ok-labels.labels;
+      lfib = c.new-5.result;
+      attached = c.new-6.result;
       links = c.in_ok-links.links;
     } in
-    let made : IsMade c.args.me c.args.loopbacks.now c.args.ends.now p = record {
+    let made : IsMade c.args.me c.args.loopbacks.now c.args.ends.now c.args.life p = record {
       me = refl;
       loopbacks = c.in_ok-loopbacks.ensures.items;
       view = c.in_ok-view.ensures;
@@ -48,9 +49,10 @@ returns-clause-node c =
       up = c.in_ok-mended.ensures.down;
       sessions = c.in_ok-sessions.ensures;
       bindings = c.in_ok-lib.ensures;
-      given = c.in_ok-give_fecs.ensures;
-      uses = c.new-4.ensures;
-      attached = c.new-5.ensures.items;
+      given = c.in_ok-labels.ensures.none;
+      given_by = c.in_ok-labels.ensures.me;
+      uses = c.new-5.ensures;
+      attached = c.new-6.ensures.items;
       links_are = c.in_ok-links.ensures;
     } in
-    made-node c.args.me c.args.loopbacks.now c.args.ends.now p c.requires.me c.requires.wired made
+    made-kept c.args.me c.args.loopbacks.now c.args.ends.now c.args.life p c.requires.me c.requires.wired made

@@ -3,10 +3,11 @@ use Rattle.mn_lsr.proofs.Numbers.{set-fits, by-ends}
 use Rattle.mn_node.specs.Machine.{Opens, loopback_of}
 use Rattle.mn_lsr.specs.declared.said.Said.{Said}
 use Rattle.mn_lsr.specs.Said.{pdu_of}
-use Rattle.mn_lsr.specs.Replies.{replied}
+use Rattle.mn_labels.specs.Labels.{own_labels}
 use Rattle.mn_lsr.specs.Parts.{wiring_in}
 use Rattle.mn_lsr.proofs.Opening.{opening}
 use Rattle.mn_lsr.proofs.Tail.{after-said, replied-then, none-before}
+use Rattle.mn_lsr.specs.Turns.{Kept}
 use Rattle.mn_lsr.proofs.parts.Parts.open.Goals as goal
 
 pub reply-requires-clause-numbers : goal.reply-requires-clause-numbers
@@ -25,11 +26,11 @@ returns-clause-stands c =
     c.first_reply.result c.open-session.ensures c.loopback-me.ensures
     (c.loopback-peer.ensures ∙ ap (loopback_of (wiring_in p)) c.far-far.ensures) c.first_reply.ensures in
     let said =
-    replied-then p c.set_session.new.self c.reply.new.self _ l 0 c.first_reply.result (map pdu_of c.new-out.result.items)
+    replied-then p c.set_session.new.self c.reply.new.self _ l c.first_reply.result (map pdu_of c.new-out.result.items)
     (map pdu_of c.reply.new.out.items) c.set_session.ensures.others c.set_session.ensures.set
     c.in_ok-reply.ensures.said c.in_ok-reply.ensures.counted c.in_ok-reply.ensures.others in
     let done =
-    after-said p st (Opens l) _ l (replied c.first_reply.result) happens c.reply.new.self 0 (map pdu_of c.new-out.result.items)
+    after-said p st (Opens l) _ l c.first_reply.result happens c.reply.new.self 0 0 (own_labels p.me.0 p.labels.labels) (map pdu_of c.new-out.result.items)
     (map pdu_of c.reply.new.out.items) said.parts said.ends_are said.pdus_are in
     done.stands
 
@@ -43,13 +44,49 @@ returns-clause-node c =
     c.first_reply.result c.open-session.ensures c.loopback-me.ensures
     (c.loopback-peer.ensures ∙ ap (loopback_of (wiring_in p)) c.far-far.ensures) c.first_reply.ensures in
     let said =
-    replied-then p c.set_session.new.self c.reply.new.self _ l 0 c.first_reply.result (map pdu_of c.new-out.result.items)
+    replied-then p c.set_session.new.self c.reply.new.self _ l c.first_reply.result (map pdu_of c.new-out.result.items)
     (map pdu_of c.reply.new.out.items) c.set_session.ensures.others c.set_session.ensures.set
     c.in_ok-reply.ensures.said c.in_ok-reply.ensures.counted c.in_ok-reply.ensures.others in
     let done =
-    after-said p st (Opens l) _ l (replied c.first_reply.result) happens c.reply.new.self 0 (map pdu_of c.new-out.result.items)
+    after-said p st (Opens l) _ l c.first_reply.result happens c.reply.new.self 0 0 (own_labels p.me.0 p.labels.labels) (map pdu_of c.new-out.result.items)
     (map pdu_of c.reply.new.out.items) said.parts said.ends_are said.pdus_are in
-    done.node
+    ap (λ (k : Kept). k.node) done.kept
+
+pub returns-clause-labels : goal.returns-clause-labels
+returns-clause-labels c = λ tick.
+    let p = c.args.self.now in
+    let st = c.requires.stands in
+    let l = c.args.link.0 in
+    let happens =
+    opening p st l c.requires.there c.requires.at_end c.requires.closed c.open-session.result c.loopback-me.result c.loopback-peer.result
+    c.first_reply.result c.open-session.ensures c.loopback-me.ensures
+    (c.loopback-peer.ensures ∙ ap (loopback_of (wiring_in p)) c.far-far.ensures) c.first_reply.ensures in
+    let said =
+    replied-then p c.set_session.new.self c.reply.new.self _ l c.first_reply.result (map pdu_of c.new-out.result.items)
+    (map pdu_of c.reply.new.out.items) c.set_session.ensures.others c.set_session.ensures.set
+    c.in_ok-reply.ensures.said c.in_ok-reply.ensures.counted c.in_ok-reply.ensures.others in
+    let done =
+    after-said p st (Opens l) _ l c.first_reply.result happens c.reply.new.self 0 tick (own_labels p.me.0 p.labels.labels) (map pdu_of c.new-out.result.items)
+    (map pdu_of c.reply.new.out.items) said.parts said.ends_are said.pdus_are in
+    ap (λ (k : Kept). k.labels) done.kept
+
+pub returns-clause-resting : goal.returns-clause-resting
+returns-clause-resting c = λ tick.
+    let p = c.args.self.now in
+    let st = c.requires.stands in
+    let l = c.args.link.0 in
+    let happens =
+    opening p st l c.requires.there c.requires.at_end c.requires.closed c.open-session.result c.loopback-me.result c.loopback-peer.result
+    c.first_reply.result c.open-session.ensures c.loopback-me.ensures
+    (c.loopback-peer.ensures ∙ ap (loopback_of (wiring_in p)) c.far-far.ensures) c.first_reply.ensures in
+    let said =
+    replied-then p c.set_session.new.self c.reply.new.self _ l c.first_reply.result (map pdu_of c.new-out.result.items)
+    (map pdu_of c.reply.new.out.items) c.set_session.ensures.others c.set_session.ensures.set
+    c.in_ok-reply.ensures.said c.in_ok-reply.ensures.counted c.in_ok-reply.ensures.others in
+    let done =
+    after-said p st (Opens l) _ l c.first_reply.result happens c.reply.new.self 0 tick (own_labels p.me.0 p.labels.labels) (map pdu_of c.new-out.result.items)
+    (map pdu_of c.reply.new.out.items) said.parts said.ends_are said.pdus_are in
+    ap (λ (k : Kept). k.resting) done.kept
 
 pub returns-clause-said : goal.returns-clause-said
 returns-clause-said c =
@@ -61,11 +98,11 @@ returns-clause-said c =
     c.first_reply.result c.open-session.ensures c.loopback-me.ensures
     (c.loopback-peer.ensures ∙ ap (loopback_of (wiring_in p)) c.far-far.ensures) c.first_reply.ensures in
     let said =
-    replied-then p c.set_session.new.self c.reply.new.self _ l 0 c.first_reply.result (map pdu_of c.new-out.result.items)
+    replied-then p c.set_session.new.self c.reply.new.self _ l c.first_reply.result (map pdu_of c.new-out.result.items)
     (map pdu_of c.reply.new.out.items) c.set_session.ensures.others c.set_session.ensures.set
     c.in_ok-reply.ensures.said c.in_ok-reply.ensures.counted c.in_ok-reply.ensures.others in
     let done =
-    after-said p st (Opens l) _ l (replied c.first_reply.result) happens c.reply.new.self 0 (map pdu_of c.new-out.result.items)
+    after-said p st (Opens l) _ l c.first_reply.result happens c.reply.new.self 0 0 (own_labels p.me.0 p.labels.labels) (map pdu_of c.new-out.result.items)
     (map pdu_of c.reply.new.out.items) said.parts said.ends_are said.pdus_are in
     none-before (map pdu_of c.new-out.result.items) (map pdu_of c.reply.new.out.items) _
     (ap (λ (xs : List Said). map pdu_of xs) c.new-out.ensures.items) done.said

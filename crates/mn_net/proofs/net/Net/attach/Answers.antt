@@ -2,7 +2,7 @@ use Rattle.std.proofs.Common.{[], ◌+◌, refl, arith}
 use Rattle.mn_topo.specs.declared.steps.Step.TheVariants as step
 use Rattle.mn_net_moves.proofs.Moves.{net_may, net_done, as_it_is}
 use Rattle.mn_net_moves.proofs.Turns.{link_may, link_turn, route_numbers}
-use Rattle.mn_net_moves.proofs.Sites.{next_is, may_give, attach_done}
+use Rattle.mn_net_moves.proofs.Sites.{may_give, attach_done}
 use Rattle.mn_net.proofs.Few.{made_fits, later_fits}
 use Rattle.mn_net.proofs.Clocks.{clock_early}
 use Rattle.mn_net.proofs.net.Net.attach.Goals as goal
@@ -34,8 +34,7 @@ attach-requires-2-clause-may c = λ works.
     let may = net_may _ _ (step.Attach c.args.site) [] c.self.view_is c.requires.may in
     let is = c.self.invariant may.works in
     may_give _ c.args.site c.in-Ok.label is may
-    (next_is _ c.args.site c.in-Ok.label c.laws.ensures is may
-    (c.in-Ok.ensures.next c.self.inside.journal.items is.stands.transport (link_turn _ (step.Attach c.args.site) c.laws.ensures is may refl)))
+    (c.in-Ok.ensures.next c.self.inside.journal.items is.stands.transport (link_turn _ (step.Attach c.args.site) c.laws.ensures is may refl))
 
 pub overflow_add-self : goal.overflow_add-self
 overflow_add-self c =
@@ -44,8 +43,7 @@ overflow_add-self c =
     let few = later_fits _ _ (step.Attach c.args.site) [] c.laws.ensures
     (attach_done _ c.args.site c.in-Ok.label c.attach.new.self c.attach-2.new.self c.begin.new.self c.in_ok-more.more (c.self.inside.made + c.in_ok-more.more)
     c.laws.ensures is may
-    (next_is _ c.args.site c.in-Ok.label c.laws.ensures is may
-    (c.in-Ok.ensures.next c.self.inside.journal.items is.stands.transport (link_turn _ (step.Attach c.args.site) c.laws.ensures is may refl)))
+    (c.in-Ok.ensures.next c.self.inside.journal.items is.stands.transport (link_turn _ (step.Attach c.args.site) c.laws.ensures is may refl))
     c.in-Ok.ensures.goes c.in-Ok.ensures.notices c.in-Ok.ensures.messages c.in_ok-more.ensures.did c.begin.ensures.begun refl) in
     omega (arith, few)
 
@@ -56,8 +54,7 @@ invariant_of-self-2 c = λ works.
     (as_it_is _ _ (step.Attach c.args.site) [] c.reserve.new.self.items c.push_reserved.new.self.items _
     (attach_done _ c.args.site c.in-Ok.label c.attach.new.self c.attach-2.new.self c.begin.new.self c.in_ok-more.more (c.self.inside.made + c.in_ok-more.more)
     c.laws.ensures is may
-    (next_is _ c.args.site c.in-Ok.label c.laws.ensures is may
-    (c.in-Ok.ensures.next c.self.inside.journal.items is.stands.transport (link_turn _ (step.Attach c.args.site) c.laws.ensures is may refl)))
+    (c.in-Ok.ensures.next c.self.inside.journal.items is.stands.transport (link_turn _ (step.Attach c.args.site) c.laws.ensures is may refl))
     c.in-Ok.ensures.goes c.in-Ok.ensures.notices c.in-Ok.ensures.messages c.in_ok-more.ensures.did c.begin.ensures.begun refl)
     may.works c.reserve.ensures.items c.push_reserved.ensures.items).is
 
@@ -69,7 +66,6 @@ returns-clause-done c =
     (as_it_is _ _ (step.Attach c.args.site) [] c.reserve.new.self.items c.push_reserved.new.self.items _
     (attach_done _ c.args.site c.in-Ok.label c.attach.new.self c.attach-2.new.self c.begin.new.self c.in_ok-more.more (c.self.inside.made + c.in_ok-more.more)
     c.laws.ensures is may
-    (next_is _ c.args.site c.in-Ok.label c.laws.ensures is may
-    (c.in-Ok.ensures.next c.self.inside.journal.items is.stands.transport (link_turn _ (step.Attach c.args.site) c.laws.ensures is may refl)))
+    (c.in-Ok.ensures.next c.self.inside.journal.items is.stands.transport (link_turn _ (step.Attach c.args.site) c.laws.ensures is may refl))
     c.in-Ok.ensures.goes c.in-Ok.ensures.notices c.in-Ok.ensures.messages c.in_ok-more.ensures.did c.begin.ensures.begun refl)
     may.works c.reserve.ensures.items c.push_reserved.ensures.items)

@@ -1,7 +1,7 @@
 use Rattle.std.proofs.Common.{[], ap, ◌∙◌, ◌+◌, ◌<◌, subst, sym, length, arith}
 use Rattle.std.specs.Prelude.{slice_index}
 use Rattle.mn_flight.specs.Flying.{IsFlight}
-use Rattle.mn_net_tally.specs.Tallies.{Tally, frame_of}
+use Rattle.mn_net_look.specs.Tallies.{Tally, frame_of}
 use Rattle.mn_topo.specs.declared.steps.Step.TheVariants as step
 use Rattle.mn_net_moves.proofs.Moves.{net_may, net_done, as_it_is, numbers, frame_there, one_more, counted_so, few_frames, carry_done}
 use Rattle.mn_net.proofs.Few.{made_fits, at_most_one}

@@ -6,7 +6,7 @@ use Rattle.mn_ledger.specs.Time.{ticks_in}
 use Rattle.mn_laws.specs.Flight.{IsOpen}
 use Rattle.mn_course.specs.declared.coming.Coming.{Coming}
 use Rattle.mn_course.specs.Coming.{coming, delivery}
-use Rattle.mn_net_now.specs.Now.{NetNow, StandsFor}
+use Rattle.mn_net_moves.specs.Now.{NetNow, StandsFor}
 use Rattle.mn_net.proofs.Asked.{parts_stand, within, soon, fitting, open_to}
 use Rattle.mn_net.proofs.net.Net.coming.Goals as goal
 use Rattle.std.specs.List.{All}

@@ -4,8 +4,8 @@ use Rattle.mn_topo.specs.Steps.{fits}
 use Rattle.mn_ledger.specs.Refusal.{refusal}
 use Rattle.mn_damage.specs.Refusals.{damage_refusal}
 use Rattle.mn_marks.specs.Marks.{marked_last}
-use Rattle.mn_net_now.specs.Now.{NetNow, StandsFor}
-use Rattle.mn_net_now.specs.Done.{IsDone}
+use Rattle.mn_net_moves.specs.Now.{NetNow, StandsFor}
+use Rattle.mn_net_moves.specs.Done.{IsDone}
 use Rattle.mn_net_moves.proofs.Refused.{refused_so}
 use Rattle.mn_net_moves.proofs.Means.{labels_mean}
 use Rattle.mn_net.specs.declared.net.Done.{Done}

@@ -7,7 +7,7 @@ use Rattle.mn_frames.specs.Given.{given}
 use Rattle.mn_frames.specs.Numbers.{labels_of}
 use Rattle.mn_pe.specs.Entries.{as_held as given_held}
 use Rattle.mn_routing_model.specs.Sources.{as_held}
-use Rattle.mn_net_now.specs.Now.{NetNow}
+use Rattle.mn_net_moves.specs.Now.{NetNow}
 use Rattle.mn_net_moves.proofs.Told.{net_is}
 use Rattle.mn_net.specs.Tables.{held_at}
 use Rattle.mn_net.proofs.Held.{edges_length, held_told, given_told, some_edge}

@@ -7,7 +7,7 @@ use Rattle.mn_net_moves.specs.Told.{hop_to}
 use Rattle.mn_net_moves.proofs.Told.{net_is, hop_of}
 use Rattle.std.proofs.Common.{ℕ}
 use Rattle.mn_ledger.specs.Ledger.{world_of}
-use Rattle.mn_net_now.specs.Now.{NetNow}
+use Rattle.mn_net_moves.specs.Now.{NetNow}
 use Rattle.mn_ledger.specs.Settled.{IsSettled}
 use Rattle.mn_net.specs.Settled.{IsByLinks}
 use Rattle.mn_net.proofs.Settled.{by_links}

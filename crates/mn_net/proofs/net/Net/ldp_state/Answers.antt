@@ -1,13 +1,10 @@
 use Rattle.std.proofs.Common.{◌<◌, ◌∙◌, ap, sym, subst}
 use Rattle.mn_wiring.specs.Wiring.{sender}
 use Rattle.mn_topo.specs.Network.{wiring_of}
-use Rattle.mn_lsr.specs.Standing.{state_in}
-use Rattle.mn_node.specs.Node.{Node, session_at}
-use Rattle.mn_slice.specs.Slice.{node_at}
 use Rattle.mn_net_moves.specs.Told.{state_at}
 use Rattle.mn_net_moves.proofs.Told.{net_is, link_of, state_told}
 use Rattle.mn_ledger.specs.Ledger.{world_of}
-use Rattle.mn_net_now.specs.Now.{NetNow}
+use Rattle.mn_net_moves.specs.Now.{NetNow}
 use Rattle.mn_net.proofs.net.Net.ldp_state.Goals as goal
 
 pub node-requires : goal.node-requires
@@ -22,9 +19,9 @@ returns c =
     let w = world_of t c.self.inside.journal.items in
     record {
       told = c.session_state.ensures
-          ∙ ap (λ (n : Node). state_in (session_at n c.args.link.0)) (is.stands.transport.nodes c.sender-end.result.0 c.node.result.now c.node.ensures).node_is
-          ∙ ap (λ end. state_in (session_at (node_at t w end) c.args.link.0)) c.sender-end.ensures.end
-          ∙ state_told t w c.args.link.0 c.args.dir (link_of _ _ c.self.view_is c.args.link.0 c.requires.link)
+          ∙ state_told t _ _ w c.args.link.0 c.sender-end.result.0 c.args.dir c.node.result.now
+          (is.stands.transport.nodes c.sender-end.result.0 c.node.result.now c.node.ensures) c.sender-end.ensures.end
+          (link_of _ _ c.self.view_is c.args.link.0 c.requires.link)
           ∙ ap (λ (n : NetNow). state_at n.topology (world_of n.topology n.journal) c.args.link.0 (sender (wiring_of n.topology) c.args.link.0 c.args.dir))
           c.self.view_is;
     }

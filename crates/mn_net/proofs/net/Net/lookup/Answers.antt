@@ -5,7 +5,7 @@ use Rattle.mn_ledger.specs.Places.{edge_of}
 use Rattle.mn_ledger.specs.Held.{held, best}
 use Rattle.mn_frames.specs.Numbers.{labels_of}
 use Rattle.mn_routing_model.specs.Sources.{as_held}
-use Rattle.mn_net_now.specs.Now.{NetNow}
+use Rattle.mn_net_moves.specs.Now.{NetNow}
 use Rattle.mn_net_moves.proofs.Told.{net_is}
 use Rattle.mn_ledger.specs.Settled.{IsSettled}
 use Rattle.mn_settled.specs.Routes.{routes_of}

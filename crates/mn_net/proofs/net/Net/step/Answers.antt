@@ -3,7 +3,7 @@ use Rattle.mn_ledger.specs.Ledger.{world_of, packets_of}
 use Rattle.mn_ledger.proofs.Refusals.{never_for_memory}
 use Rattle.std.proofs.Common.{length}
 use Rattle.std.proofs.lemmas.Result.{err_from_is_err_and}
-use Rattle.mn_net_now.specs.Now.{NetNow, StandsFor}
+use Rattle.mn_net_moves.specs.Now.{NetNow, StandsFor}
 use Rattle.mn_net.specs.declared.net.Done.{Done}
 use Rattle.mn_net_moves.proofs.Refused.{left_so}
 use Rattle.mn_net_moves.proofs.Means.{labels_mean}

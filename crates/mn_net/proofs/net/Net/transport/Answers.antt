@@ -1,9 +1,10 @@
 use Rattle.std.proofs.Common.{subst}
 use Rattle.mn_frames.specs.Given.{given}
+use Rattle.mn_frames.specs.Resting.{rested_of}
 use Rattle.mn_transport_model.specs.Stands.{IsNode}
 use Rattle.mn_net_moves.proofs.Told.{net_is, node_in}
 use Rattle.mn_ledger.specs.Ledger.{world_of}
-use Rattle.mn_net_now.specs.Now.{NetNow}
+use Rattle.mn_net_moves.specs.Now.{NetNow}
 use Rattle.mn_net.proofs.net.Net.transport.Goals as goal
 
 pub node-requires : goal.node-requires
@@ -14,7 +15,8 @@ returns c =
     let is = net_is _ _ c.self.view_is c.self.invariant c.requires.works in
     record {
       told =
-          subst (λ (n : NetNow). IsNode n.topology (given n.topology n.journal) (world_of n.topology n.journal) c.args.node.0 c.node.result.now)
+          subst (λ (n : NetNow). IsNode n.topology (given n.topology n.journal) (rested_of n.topology n.journal)
+          (world_of n.topology n.journal) c.args.node.0 c.node.result.now)
           c.self.view_is
           (is.stands.transport.nodes c.args.node.0 c.node.result.now c.node.ensures);
     }

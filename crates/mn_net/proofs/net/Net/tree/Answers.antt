@@ -4,7 +4,7 @@ use Rattle.mn_topo.specs.Network.{wiring_of}
 use Rattle.mn_ledger.specs.Transport.{view_of}
 use Rattle.mn_net_moves.proofs.Told.{net_is, node_in, tree_told}
 use Rattle.mn_ledger.specs.Ledger.{world_of}
-use Rattle.mn_net_now.specs.Now.{NetNow}
+use Rattle.mn_net_moves.specs.Now.{NetNow}
 use Rattle.mn_net.proofs.net.Net.tree.Goals as goal
 
 pub node-requires : goal.node-requires
@@ -18,5 +18,5 @@ returns c =
       told =
           subst (λ (n : NetNow). IsTree (wiring_of n.topology) (view_of (wiring_of n.topology) (world_of n.topology n.journal).views c.args.node.0)
           c.args.node.0 c.tree.result.now) c.self.view_is
-          (tree_told _ _ _ c.args.node.0 c.node.result.now c.tree.result.now h c.tree.ensures);
+          (tree_told _ _ _ _ c.args.node.0 c.node.result.now c.tree.result.now h c.tree.ensures);
     }

@@ -2,7 +2,7 @@ use Rattle.std.proofs.Common.{◌≡◌, ◌++◌, ◌∙◌, ap}
 use Rattle.mn_edge.specs.Written.{texts}
 use Rattle.mn_output.specs.Files.{Labels}
 use Rattle.mn_files.proofs.Places.{one_number, labels_are}
-use Rattle.mn_record.specs.Labels.{label_line}
+use Rattle.mn_output.specs.Contents.{label_line}
 use Rattle.mn_record.proofs.Adding.{on_err, ok_then, err_then, seen_adds, seen_may, none_may}
 use Rattle.mn_record.proofs.output.Output.put_label.Goals as goal
 
@@ -13,11 +13,11 @@ returns-in_err-put_label-clause-may g c = on_err c.from_residual.result _ (none_
 
 pub returns-clause-adds : goal.returns-clause-adds
 returns-clause-adds g c =
-    let piece : c.deref-2.result.now ≡ label_line c.args.topology.now c.args.node.0 c.args.label c.args.bind =
+    let piece : c.deref-2.result.now ≡ label_line c.args.topology.now c.args.node.0 c.args.giving =
     c.deref-2.ensures.value ∙ c.in_ok-put_label.ensures
-    ∙ ap (λ l. l ++ label_line c.args.topology.now c.args.node.0 c.args.label c.args.bind) c.clear.ensures.items in
+    ∙ ap (λ l. l ++ label_line c.args.topology.now c.args.node.0 c.args.giving) c.clear.ensures.items in
     ok_then c.put_piece.result _ _ c.put_piece.ensures.adds
-    (seen_adds 1 c.labels_file.result c.deref-2.result.now (label_line c.args.topology.now c.args.node.0 c.args.label c.args.bind)
+    (seen_adds 1 c.labels_file.result c.deref-2.result.now (label_line c.args.topology.now c.args.node.0 c.args.giving)
     (texts c.deref.result.now) (texts c.self.inside.names.items) c.self.inside.gather c.put_piece.new.gather c.self.inside.places c.args.self.now
     (g.S.Shelf.files c.args.shelf.now) (g.S.Shelf.files c.put_piece.new.shelf)
     (one_number c.args.topology.now _ 1 Labels (c.labels_file.ensures c.args.topology.now) (labels_are c.args.topology.now)) piece
@@ -25,11 +25,11 @@ returns-clause-adds g c =
 
 pub returns-clause-may : goal.returns-clause-may
 returns-clause-may g c =
-    let piece : c.deref-2.result.now ≡ label_line c.args.topology.now c.args.node.0 c.args.label c.args.bind =
+    let piece : c.deref-2.result.now ≡ label_line c.args.topology.now c.args.node.0 c.args.giving =
     c.deref-2.ensures.value ∙ c.in_ok-put_label.ensures
-    ∙ ap (λ l. l ++ label_line c.args.topology.now c.args.node.0 c.args.label c.args.bind) c.clear.ensures.items in
+    ∙ ap (λ l. l ++ label_line c.args.topology.now c.args.node.0 c.args.giving) c.clear.ensures.items in
     err_then c.put_piece.result _ _ c.put_piece.ensures.may
-    (seen_may 1 c.labels_file.result c.deref-2.result.now (label_line c.args.topology.now c.args.node.0 c.args.label c.args.bind) (texts c.deref.result.now)
+    (seen_may 1 c.labels_file.result c.deref-2.result.now (label_line c.args.topology.now c.args.node.0 c.args.giving) (texts c.deref.result.now)
     (texts c.self.inside.names.items) c.self.inside.gather c.put_piece.new.gather c.self.inside.places c.args.self.now
     (g.S.Shelf.files c.args.shelf.now) (g.S.Shelf.files c.put_piece.new.shelf)
     (one_number c.args.topology.now _ 1 Labels (c.labels_file.ensures c.args.topology.now) (labels_are c.args.topology.now)) piece

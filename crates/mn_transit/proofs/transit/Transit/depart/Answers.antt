@@ -3,7 +3,7 @@ use Rattle.mn_transit.proofs.Leaving.{stands_left}
 use Rattle.mn_transit.proofs.transit.Transit.depart.Goals as goal
 
 pub returns-clause-stands : goal.returns-clause-stands
-returns-clause-stands c = λ given world packets route bytes there apart out pushed stands.
+returns-clause-stands c = λ given world packets route bytes there apart mapped out pushed stands.
     stands_left _ given world _ _ packets route bytes _ c.args.node c.in-Some.next c.in-Some.label _ _ c.laws.ensures c.push_outer.ensures.entries
     c.push_outer.ensures.packet c.hop.ensures.stands
-    there apart (sym c.in-Some.is ∙ out) pushed stands
+    there apart mapped (sym c.in-Some.is ∙ out) pushed stands

@@ -2,7 +2,7 @@ use Rattle.std.proofs.Common.{arith}
 use Rattle.mn_node.specs.Machine.{Closes}
 use Rattle.mn_transport_model.specs.Carried.{Carried}
 use Rattle.mn_transport_model.proofs.Acted.{becomes-by, out-on-links, acted}
-use Rattle.mn_transport.proofs.Few.{few_out, has_numbers}
+use Rattle.mn_transport.proofs.Few.{few_out, said_in, has_numbers}
 use Rattle.mn_transport.proofs.transport.Transport.close.Goals as goal
 
 pub close-requires-clause-numbers : goal.close-requires-clause-numbers
@@ -20,7 +20,7 @@ close-requires-clause-numbers c =
       failed = i.failed;
     } in
     has_numbers c.args.topology.now old c.args.self.now c.self.view_is c.args.end.0 (Closes c.args.link.0) c.requires.may c.from.result c.from.ensures
-    c.index_mut.result.now c.index_mut.ensures.value
+    c.index_mut-node.result.now c.index_mut-node.ensures.value
 
 pub send-requires-clause-links : goal.send-requires-clause-links
 send-requires-clause-links c =
@@ -37,8 +37,9 @@ send-requires-clause-links c =
       failed = i.failed;
     } in
     out-on-links c.args.topology.now old c.args.self.now c.self.view_is c.args.end.0
-    (Closes c.args.link.0) c.requires.may c.from.result c.from.ensures c.index_mut.result.now c.index_mut.ensures.value
-    c.in_ok-out.out.items c.in_ok-out.ensures.said
+    (Closes c.args.link.0) c.requires.may c.from.result c.from.ensures c.index_mut-node.result.now c.index_mut-node.ensures.value
+    c.args.clock.tick c.in_ok-out.out.items
+    (said_in c.args.clock.tick (Closes c.args.link.0) c.index_mut-node.result.now c.close.new.self c.in_ok-out.out.items c.in_ok-out.ensures.labels c.in_ok-out.ensures.said)
 
 pub send-requires-clause-numbers : goal.send-requires-clause-numbers
 send-requires-clause-numbers c =
@@ -56,9 +57,9 @@ send-requires-clause-numbers c =
     } in
     let few =
     few_out c.args.topology.now old c.args.self.now c.self.view_is c.args.end.0 (Closes c.args.link.0) c.requires.may c.from.result c.from.ensures
-    c.index_mut.result.now c.index_mut.ensures.value c.close.new.self c.in_ok-out.out.items c.laws.ensures
-    (becomes-by (Closes c.args.link.0) c.index_mut.result.now c.close.new.self c.in_ok-out.ensures.after c.in_ok-out.ensures.table c.in_ok-out.ensures.sites)
-    c.in_ok-out.ensures.said in
+    c.index_mut-node.result.now c.index_mut-node.ensures.value c.args.clock.tick c.close.new.self c.in_ok-out.out.items c.laws.ensures
+    (becomes-by c.args.clock.tick (Closes c.args.link.0) c.index_mut-node.result.now c.close.new.self c.in_ok-out.ensures.after c.in_ok-out.ensures.labels c.in_ok-out.ensures.resting c.labels_fit.ensures c.in_ok-out.ensures.table c.in_ok-out.ensures.sites)
+    (said_in c.args.clock.tick (Closes c.args.link.0) c.index_mut-node.result.now c.close.new.self c.in_ok-out.out.items c.in_ok-out.ensures.labels c.in_ok-out.ensures.said) in
     omega (arith, few, c.requires.numbers)
 
 pub returns-clause-acts : goal.returns-clause-acts
@@ -76,7 +77,7 @@ returns-clause-acts c =
       failed = i.failed;
     } in
     acted c.args.topology.now old c.args.self.now c.self.view_is c.args.end.0
-    (Closes c.args.link.0) c.requires.may c.from.result c.from.ensures c.index_mut.result.now c.index_mut.ensures.value
+    (Closes c.args.link.0) c.requires.may c.from.result c.from.ensures c.index_mut-node.result.now c.index_mut-node.ensures.value
     c.args.clock.tick c.args.clock.number c.close.new.self c.in_ok-out.out.items c.send.new.messages.items c.send.result
-    (becomes-by (Closes c.args.link.0) c.index_mut.result.now c.close.new.self c.in_ok-out.ensures.after c.in_ok-out.ensures.table c.in_ok-out.ensures.sites)
-    c.in_ok-out.ensures.said c.send.ensures.sent c.send.ensures.next
+    (becomes-by c.args.clock.tick (Closes c.args.link.0) c.index_mut-node.result.now c.close.new.self c.in_ok-out.ensures.after c.in_ok-out.ensures.labels c.in_ok-out.ensures.resting c.labels_fit.ensures c.in_ok-out.ensures.table c.in_ok-out.ensures.sites)
+    (said_in c.args.clock.tick (Closes c.args.link.0) c.index_mut-node.result.now c.close.new.self c.in_ok-out.out.items c.in_ok-out.ensures.labels c.in_ok-out.ensures.said) c.send.ensures.sent c.send.ensures.next

@@ -5,7 +5,7 @@ use Rattle.mn_transport_model.specs.Carried.{Carried}
 use Rattle.mn_transport_model.specs.Doing.{noticed}
 use Rattle.mn_transport_model.proofs.Acted.{becomes-by, out-on-links, acted, noticed-is, may-noticed}
 use Rattle.mn_transport_model.proofs.Turned.{always}
-use Rattle.mn_transport.proofs.Few.{few_out, has_numbers}
+use Rattle.mn_transport.proofs.Few.{few_out, said_in, has_numbers}
 use Rattle.mn_transport.proofs.transport.Transport.learn_next.Goals as goal
 
 pub learn-requires-clause-numbers : goal.learn-requires-clause-numbers
@@ -28,7 +28,7 @@ learn-requires-clause-numbers c =
     c.channel_to.ensures c.take.ensures.value c.take.ensures.items in
     has_numbers c.args.topology.now taken (noticed c.args.topology.now c.args.node.0 c.args.link.0 c.args.self.now) is c.args.node.0 (Learns c.args.link.0)
     (may-noticed c.args.topology.now c.args.self.now c.args.node.0 c.args.link.0 c.args.link.0 c.requires.may) c.from.result c.from.ensures
-    c.index_mut.result.now c.index_mut.ensures.value
+    c.index_mut-learner.result.now c.index_mut-learner.ensures.value
 
 pub send-requires-clause-links : goal.send-requires-clause-links
 send-requires-clause-links c =
@@ -50,7 +50,8 @@ send-requires-clause-links c =
     c.channel_to.ensures c.take.ensures.value c.take.ensures.items in
     out-on-links c.args.topology.now taken (noticed c.args.topology.now c.args.node.0 c.args.link.0 c.args.self.now) is c.args.node.0 (Learns c.args.link.0)
     (may-noticed c.args.topology.now c.args.self.now c.args.node.0 c.args.link.0 c.args.link.0 c.requires.may) c.from.result c.from.ensures
-    c.index_mut.result.now c.index_mut.ensures.value c.in-Ok.out.items c.in-Ok.ensures.said
+    c.index_mut-learner.result.now c.index_mut-learner.ensures.value c.args.clock.tick c.in-Ok.out.items
+    (said_in c.args.clock.tick (Learns c.args.link.0) c.index_mut-learner.result.now c.learn.new.self c.in-Ok.out.items c.in-Ok.ensures.labels c.in-Ok.ensures.said)
 
 pub send-requires-clause-numbers : goal.send-requires-clause-numbers
 send-requires-clause-numbers c =
@@ -73,9 +74,9 @@ send-requires-clause-numbers c =
     let few =
     few_out c.args.topology.now taken (noticed c.args.topology.now c.args.node.0 c.args.link.0 c.args.self.now) is c.args.node.0 (Learns c.args.link.0)
     (may-noticed c.args.topology.now c.args.self.now c.args.node.0 c.args.link.0 c.args.link.0 c.requires.may) c.from.result c.from.ensures
-    c.index_mut.result.now c.index_mut.ensures.value c.learn.new.self c.in-Ok.out.items c.laws.ensures
-    (becomes-by (Learns c.args.link.0) c.index_mut.result.now c.learn.new.self c.in-Ok.ensures.after c.in-Ok.ensures.table c.in-Ok.ensures.sites)
-    c.in-Ok.ensures.said in
+    c.index_mut-learner.result.now c.index_mut-learner.ensures.value c.args.clock.tick c.learn.new.self c.in-Ok.out.items c.laws.ensures
+    (becomes-by c.args.clock.tick (Learns c.args.link.0) c.index_mut-learner.result.now c.learn.new.self c.in-Ok.ensures.after c.in-Ok.ensures.labels c.in-Ok.ensures.resting c.labels_fit.ensures c.in-Ok.ensures.table c.in-Ok.ensures.sites)
+    (said_in c.args.clock.tick (Learns c.args.link.0) c.index_mut-learner.result.now c.learn.new.self c.in-Ok.out.items c.in-Ok.ensures.labels c.in-Ok.ensures.said) in
     omega (arith, few, c.requires.numbers)
 
 pub returns-clause-learns : goal.returns-clause-learns
@@ -98,10 +99,10 @@ returns-clause-learns c =
     c.channel_to.ensures c.take.ensures.value c.take.ensures.items in
     acted c.args.topology.now taken (noticed c.args.topology.now c.args.node.0 c.args.link.0 c.args.self.now) is c.args.node.0 (Learns c.args.link.0)
     (may-noticed c.args.topology.now c.args.self.now c.args.node.0 c.args.link.0 c.args.link.0 c.requires.may) c.from.result c.from.ensures
-    c.index_mut.result.now c.index_mut.ensures.value
+    c.index_mut-learner.result.now c.index_mut-learner.ensures.value
     c.args.clock.tick c.args.clock.number c.learn.new.self c.in-Ok.out.items c.send.new.messages.items c.send.result
-    (becomes-by (Learns c.args.link.0) c.index_mut.result.now c.learn.new.self c.in-Ok.ensures.after c.in-Ok.ensures.table c.in-Ok.ensures.sites)
-    c.in-Ok.ensures.said c.send.ensures.sent c.send.ensures.next
+    (becomes-by c.args.clock.tick (Learns c.args.link.0) c.index_mut-learner.result.now c.learn.new.self c.in-Ok.ensures.after c.in-Ok.ensures.labels c.in-Ok.ensures.resting c.labels_fit.ensures c.in-Ok.ensures.table c.in-Ok.ensures.sites)
+    (said_in c.args.clock.tick (Learns c.args.link.0) c.index_mut-learner.result.now c.learn.new.self c.in-Ok.out.items c.in-Ok.ensures.labels c.in-Ok.ensures.said) c.send.ensures.sent c.send.ensures.next
 
 pub returns-clause-flight : goal.returns-clause-flight
 returns-clause-flight c =
