@@ -4,7 +4,7 @@ use Rattle.mn_base.specs.declared.numbers.SiteNo.{SiteNo}
 use Rattle.mn_topo.specs.declared.steps.Step.TheVariants as step
 use Rattle.mn_timetable.specs.Steps.{pushed}
 use Rattle.mn_transport_model.specs.Stands.{IsTransport}
-use Rattle.mn_transport_model.proofs.Witnesses.{may-be-detached, may-be-attached}
+use Rattle.mn_flight_tests.proofs.Witness.{first_detached, then_attached}
 use Rattle.mn_flight_tests.proofs.transport.a_site_that_is_attached_anew_has_the_next_label.Goals as goal
 
 pub detach-requires : goal.detach-requires
@@ -15,8 +15,7 @@ detach-requires g c =
           λ works. record {
             journal = [];
             stands = c.in_ok-transport.ensures.stands;
-            turn =
-                may-be-detached c.in_ok-topology.topology (record { 0 = 0 }) there;
+            turn = first_detached c.in_ok-topology.topology (record { 0 = 0 }) there;
           };
     }
 
@@ -28,8 +27,8 @@ attach-requires g c =
     record {
       may = λ works. record {
         journal = pushed [] 0 (step.Detach a);
-        stands = c.detach.ensures.goes [] 0 c.in_ok-transport.ensures.stands (may-be-detached t a there);
-        turn = may-be-attached t c.laws.ensures 0 a there;
+        stands = c.detach.ensures.goes [] 0 c.in_ok-transport.ensures.stands (first_detached t a there);
+        turn = then_attached t c.laws.ensures a there;
       };
     }
 
@@ -40,6 +39,6 @@ node-requires-3 g c =
     let there : 0 < length c.in_ok-topology.topology.sites = search rules in
     let some : 0 < length c.in_ok-transport.transport.nodes = slice_get_within c.in_ok-transport.transport.nodes 0 c.node.result.now c.node.ensures in
     let stands : IsTransport t (pushed (pushed [] 0 (step.Detach a)) 0 (step.Attach a)) c.attach.new.self =
-    c.in_ok-label.ensures.goes (pushed [] 0 (step.Detach a)) 0 (c.detach.ensures.goes [] 0 c.in_ok-transport.ensures.stands (may-be-detached t a there))
-    (may-be-attached t c.laws.ensures 0 a there) in
+    c.in_ok-label.ensures.goes (pushed [] 0 (step.Detach a)) 0 (c.detach.ensures.goes [] 0 c.in_ok-transport.ensures.stands (first_detached t a there))
+    (then_attached t c.laws.ensures a there) in
     omega (arith, stands.each, c.in_ok-transport.ensures.stands.each, some)
