@@ -159,7 +159,7 @@ _mplsnet_whatif() {
         --only | --site | --budget | --jobs | --dask) return ;;
     esac
     if [[ $word == -* ]]; then
-        _mplsnet_words '--help --of --double --only --site --keep-bgp --json --csv --matrix --all --html --budget --jobs --dask --program --quiet' "$word"
+        _mplsnet_words '--help --of --double --only --site --keep-bgp --resolve --json --csv --matrix --all --html --budget --jobs --dask --program --quiet' "$word"
     else
         _mplsnet_files "$word" .toml
     fi

@@ -24,7 +24,7 @@ from reference_inputs import FLOOD_FORMS, ROUTES, TARGETS, Refused, address_text
 from reference_inputs import read_capture, read_reflect_script, read_script, read_topology, target_text
 from reference_labels import Labels
 from reference_readers import reads_bgp, reads_pdu, stack_of
-from reference_routes import Route, vrf_table
+from reference_routes import Route, eligible, vrf_table
 from reference_walks import costs_to, first_hop, tree_lines
 
 USAGE = """\
@@ -331,8 +331,12 @@ class Network:
                     routes.append(Route(of, (1, of_vrf) if other == edge else far, other, site, attachment))
         return routes
 
+    def is_resolved(self, vrf, route):
+        """The VRF's edge can send towards that of the route."""
+        return route.edge in self.offers(self.topology.vrfs[vrf].node)
+
     def best(self, vrf, at):
-        routes = [route for route in self.held(vrf) if contains(route.prefix, at)]
+        routes = eligible(self, vrf, [route for route in self.held(vrf) if contains(route.prefix, at)])
         return min(routes, key=lambda route: (-route.prefix[1], route.rank), default=None)
 
     # Labels

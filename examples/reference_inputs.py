@@ -127,6 +127,7 @@ class Topology:
     asn: int = 65_000
     notice_delay: int = 1
     bgp_delay: int = 1
+    resolve: bool = False
     nodes: list = field(default_factory=list)
     links: list = field(default_factory=list)
     vrfs: list = field(default_factory=list)
@@ -152,9 +153,9 @@ class Topology:
         return sorted(ends)
 
 
-TEXT, INTEGER, TEXTS, TABLES = "text", "integer", "texts", "tables"
+TEXT, INTEGER, BOOLEAN, TEXTS, TABLES = "text", "integer", "boolean", "texts", "tables"
 KEYS = {
-    "top": {"as": INTEGER, "notice_delay": INTEGER, "bgp_delay": INTEGER} | dict.fromkeys(LENGTHS, TABLES),
+    "top": {"as": INTEGER, "notice_delay": INTEGER, "bgp_delay": INTEGER, "resolve": BOOLEAN} | dict.fromkeys(LENGTHS, TABLES),
     "node": {"name": TEXT, "loopback": TEXT},
     "link": {"a": TEXT, "b": TEXT, "cost": INTEGER, "delay": INTEGER, "loss": INTEGER, "life": INTEGER},
     "vrf": {"name": TEXT, "node": TEXT, "rd": TEXT, "import": TEXTS, "export": TEXTS},
@@ -171,6 +172,8 @@ REQUIRED = {
 def is_of_kind(value, kind):
     if kind == INTEGER:
         return type(value) is int
+    if kind == BOOLEAN:
+        return type(value) is bool
     if kind == TEXT:
         return isinstance(value, str)
     return isinstance(value, list) and all(isinstance(one, str if kind == TEXTS else dict) for one in value)
@@ -198,7 +201,7 @@ def read_topology(bytes_):
     if not is_in_64_bits(top):
         refuse("T1 NotToml", "top")
     check_top(top)
-    topology = Topology(top.get("as", 65_000), top.get("notice_delay", 1), top.get("bgp_delay", 1))
+    topology = Topology(top.get("as", 65_000), top.get("notice_delay", 1), top.get("bgp_delay", 1), top.get("resolve", False))
     readers = {"node": read_node, "link": read_link, "vrf": read_vrf, "site": read_site}
     for kind, read in readers.items():
         for index, table in enumerate(top.get(kind, [])):

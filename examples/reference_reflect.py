@@ -123,6 +123,10 @@ class Reflection:
 
     # What is held
 
+    def is_resolved(self, vrf, route):
+        """Here are no label paths, so each next hop counts as reached."""
+        return True
+
     def held(self, vrf):
         edge, routes = self.topology.vrfs[vrf].node, []
         for (of_vrf, of), site in self.statics.items():

@@ -1,4 +1,4 @@
-"""The routes of a VRF as the reference has them: what is held, and the lines of `show vrf`. reference.py and reference_reflect.py import it."""
+"""The routes of a VRF as the reference has them: what is held, which take part, and the lines of `show vrf`. reference.py and reference_reflect.py import it."""
 
 from dataclasses import dataclass
 
@@ -16,11 +16,17 @@ class Route:
     attachment: int
 
 
+def eligible(network, vrf, routes):
+    """Of these routes of the VRF, where the topology says `resolve`, those that are resolved, if there are any; else all."""
+    return network.topology.resolve and [route for route in routes if network.is_resolved(vrf, route)] or routes
+
+
 def vrf_table(network, vrf):
-    """The best route of each prefix that the VRF holds in a network, which tells `held` and `site_label`."""
+    """The best route of each prefix that the VRF holds in a network, which tells `held`, `is_resolved` and `site_label`."""
     topology, held, lines = network.topology, network.held(vrf), []
     for of in sorted({route.prefix for route in held}):
-        best = min((route for route in held if route.prefix == of), key=lambda route: route.rank)
+        best = min(eligible(network, vrf, [route for route in held if route.prefix == of]), key=lambda route: route.rank)
+        mark = " unresolved" if topology.resolve and not network.is_resolved(vrf, best) else ""
         site = topology.sites[best.site]
         if best.rank[0] == 0:
             source = f"site {site.name}"
@@ -29,5 +35,5 @@ def vrf_table(network, vrf):
         else:
             label = network.site_label(best.edge, best.site, best.attachment)
             source = f"edge {topology.nodes[best.edge].name} label {label}"
-        lines.append(f"route {topology.vrfs[vrf].name} {prefix_text(of)} {source}")
+        lines.append(f"route {topology.vrfs[vrf].name} {prefix_text(of)} {source}{mark}")
     return lines

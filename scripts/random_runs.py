@@ -121,7 +121,7 @@ WRONG += [True, 1.5, 0, -1, 1, 65535, 65536, 1001, 10**19, -(10**19), "", "n 1",
 WRONG += [["1:1"], ["1:1", "1:1"], ["10.0.0.0/8", "10.0.0.0/8"]]
 WRONG += [[f"1:{n}" for n in range(most)] for most in (16, 17)]
 KEYS = "name loopback a b cost delay loss life node rd import export vrf prefixes as other".split()
-TOP_KEYS = ["as", "notice_delay", "bgp_delay", "more"]
+TOP_KEYS = ["as", "notice_delay", "bgp_delay", "resolve", "more"]
 LETTERS = ["", " ", "\n", "\r", "\t", "0", "9", "#", "=", "[", '"', "x", ":", "/", "\x00", "\u00e9"]
 
 
@@ -499,10 +499,10 @@ def damaged_capture(rng, bytes_):
     return rng.choice([bytes_[:at], changed, bytes_ + rng.randbytes(3), b"\x0a\x0d\x0d\x0a" + bytes_])
 
 
-def random_run(seed):
-    """Topology, script and capture as bytes."""
+def random_run(seed, resolve=False):
+    """Topology, script and capture as bytes; the topology may be asked to say `resolve`."""
     rng = random.Random(seed)
-    top = random_topology(rng)
+    top = random_topology(rng) | ({"resolve": True} if resolve else {})
     capture = random_capture(rng, top)
     network = reference.Network(inputs.read_topology(toml_text(top).encode()))
     _, link_type, records = inputs.scan(capture)

@@ -18,6 +18,7 @@ class Design:
 
     source: str
     asn: int = 65_000
+    resolve: bool = False
     nodes: dict = field(default_factory=dict)  # of each name its loopback, none where it is to be given
     links: list = field(default_factory=list)
     vrfs: list = field(default_factory=list)
@@ -57,7 +58,8 @@ class Design:
                 given += 1
                 loopback = None if text in used else text
             loopbacks[name] = loopback
-        tables = {"as": self.asn, "node": [{"name": name, "loopback": at} for name, at in loopbacks.items()], "link": self.links}
+        tables = {"as": self.asn} | ({"resolve": True} if self.resolve else {})
+        tables |= {"node": [{"name": name, "loopback": at} for name, at in loopbacks.items()], "link": self.links}
         tables |= {"vrf": self.vrfs, "site": self.sites}
         for kind, most in LIMITS.items():
             if len(tables[kind]) > most:
@@ -109,7 +111,7 @@ class Short:
         key, colon, rest = line.partition(":")
         words = key.split()
         if not colon or not words:
-            raise Fault(f"{place}: isn't of the form 'nodes: ..', 'links: ..', 'vpn NAME: ..', 'share: .. with ..' or 'as: N'")
+            raise Fault(f"{place}: isn't of the form 'nodes: ..', 'links: ..', 'vpn NAME: ..', 'share: .. with ..', 'as: N' or 'resolve: true'")
         items = [item.split() for item in rest.split(";") if item.split()]
         if words == ["nodes"]:
             for name in (name for item in items for word in item for name in expanded(place, word)):
@@ -123,8 +125,10 @@ class Short:
             self.share(place, items)
         elif words == ["as"] and len(items) == 1 and len(items[0]) == 1 and items[0][0].isdecimal() and 1 <= int(items[0][0]) <= 65_535:
             self.design.asn = int(items[0][0])
+        elif words == ["resolve"] and items in ([["true"]], [["false"]]):
+            self.design.resolve = items == [["true"]]
         else:
-            raise Fault(f"{place}: {key!r} is none of 'nodes', 'links', 'vpn NAME', 'share' and 'as' with a number from 1 to 65535")
+            raise Fault(f"{place}: {key!r} is none of 'nodes', 'links', 'vpn NAME', 'share', 'as' with a number from 1 to 65535 and 'resolve' with true or false")
 
     def group(self, place, words):
         """The nodes that patterns name; a bare word that is no node's name stands for all nodes that are it and a number."""

@@ -64,7 +64,7 @@ def read_topology(path):
         refer(path, "vrf", at, vrf, "node", nodes)
     for at, site in enumerate(net["site"]):
         refer(path, "site", at, site, "vrf", vrfs)
-    return net
+    return net | {"resolve": tables.get("resolve") is True}
 
 
 def entries(path, tables, kind):

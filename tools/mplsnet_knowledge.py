@@ -56,6 +56,7 @@ class Net:
         self.vrf_of = [vrfs[site["vrf"]] for site in tables["site"]]
         self.prefixes = [[self.prefix(at, text) for text in self.texts("site", at, site, "prefixes")] for at, site in enumerate(tables["site"])]
         self.edges = sorted({vrf.node for vrf in self.vrfs})
+        self.resolve = tables.get("resolve", False)  # routes to whose edge no label path leads stand aside
         self.trees = {}  # of (node, view), as long as there aren't too many
 
     def refuse(self, kind, at, what):
@@ -454,7 +455,10 @@ class Knowledge:
                     yield Route(of, (2, net.loopbacks[peer], net.vrfs[of_vrf].rd), peer, of_vrf, told.site, told.attachment, since)
 
     def best(self, vrf, address):
-        return min(self.held(vrf, address), key=lambda route: (-route.prefix[1], route.rank), default=None)
+        """The best of the routes that take part: where the topology says `resolve`, the resolved ones, if there are any; else all."""
+        routes, edge = list(self.held(vrf, address)), self.net.vrfs[vrf].node
+        routes = self.net.resolve and [route for route in routes if self.offers(edge, route.edge)] or routes
+        return min(routes, key=lambda route: (-route.prefix[1], route.rank), default=None)
 
     def exported(self, vrf, of):
         """What the VRF's edge exports of the prefix now: the site, its attachment and the targets; none where it doesn't."""

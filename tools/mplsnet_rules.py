@@ -22,9 +22,9 @@ MOST_SCRIPT_BYTES, MOST_LINES = 67_108_864, 3_000_000
 MOST = {"node": 256, "link": 1024, "vrf": 512, "site": 4096}
 MOST_EDGES, MOST_PREFIXES, MOST_TARGETS = 64, 65_536, 16
 
-TEXT, INTEGER, TEXTS, TABLES = "a text", "an integer", "an array of texts", "an array of tables"
+TEXT, INTEGER, BOOLEAN, TEXTS, TABLES = "a text", "an integer", "a boolean", "an array of texts", "an array of tables"
 KEYS = {
-    "top": {"as": INTEGER, "notice_delay": INTEGER, "bgp_delay": INTEGER, "node": TABLES, "link": TABLES, "vrf": TABLES, "site": TABLES},
+    "top": {"as": INTEGER, "notice_delay": INTEGER, "bgp_delay": INTEGER, "resolve": BOOLEAN, "node": TABLES, "link": TABLES, "vrf": TABLES, "site": TABLES},
     "node": {"name": TEXT, "loopback": TEXT},
     "link": {"a": TEXT, "b": TEXT, "cost": INTEGER, "delay": INTEGER, "loss": INTEGER, "life": INTEGER},
     "vrf": {"name": TEXT, "node": TEXT, "rd": TEXT, "import": TEXTS, "export": TEXTS},
@@ -176,6 +176,8 @@ def kind_shown(value):
 def is_of_kind(value, kind):
     if kind == INTEGER:
         return type(value) is int
+    if kind == BOOLEAN:
+        return type(value) is bool
     if kind == TEXT:
         return type(value) is str
     return isinstance(value, Array) and all(type(one) is str if kind == TEXTS else isinstance(one, Table) for one in value)

@@ -53,7 +53,7 @@ TABLES = (
     ("bgp", r"bgp (?P<a>\S+) (?P<state>\S+) (?P<b>\S+) (?P<other_state>\S+)"),
     ("vrf", r"route (?P<vrf>\S+) (?P<prefix>\S+) site (?P<site>\S+)"),
     ("vrf", r"route (?P<vrf>\S+) (?P<prefix>\S+) vrf (?P<of_vrf>\S+) site (?P<site>\S+)"),
-    ("vrf", r"route (?P<vrf>\S+) (?P<prefix>\S+) edge (?P<edge>\S+) label (?P<label>\d+)"),
+    ("vrf", r"route (?P<vrf>\S+) (?P<prefix>\S+) edge (?P<edge>\S+) label (?P<label>\d+)(?: (?P<state>unresolved))?"),
     ("flight", r"(?P<what>notices|messages) (?P<count>\d+)"),
     ("flight", r"(?P<what>frames) (?P<a>\S+) (?P<b>\S+) (?P<count>\d+)"),
     ("frame", r"frame (?P<node>\S+) (?P<record>\d+) next (?P<next>\S+) bytes (?P<bytes>[0-9A-F]*)"),

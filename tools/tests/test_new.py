@@ -213,6 +213,8 @@ class New(unittest.TestCase):
         sites = {site["name"]: (site["vrf"], site["prefixes"]) for site in net["site"]}
         self.assertEqual(sites["c1-pe02"][1], sites["c1-pe03"][1], "a site behind two edges has one prefix")
         self.assertEqual(("c1-pe02", ["10.1.3.0/24"]), sites["c1-pe02-2"])
+        self.assertNotIn("resolve", net)
+        self.assertTrue(self.made("--from", self.file("net.txt", SHORT + "resolve: true\n"))[1]["resolve"])
 
     def test_families(self):
         for family in ("ring", "mesh", "waxman", "fat-tree"):
@@ -303,6 +305,7 @@ class New(unittest.TestCase):
             ("share: a with b", "there is no VPN 'a' above"),
             ("color: red", "'color' is none of 'nodes'"),
             ("red", "isn't of the form 'nodes: ..'"),
+            ("resolve: yes", "'resolve' with true or false"),
         ):
             with self.subTest(line):
                 net = self.file("net.txt", f"nodes: p[1-2]\n{line}\n")

@@ -17,6 +17,7 @@ from mplsnet_run import KEYS, KINDS, Run
 LINKS = ROOT / "examples/two-links/expected"
 AGAIN = ROOT / "examples/labels-again/expected"
 LATE = ROOT / "examples/late/expected"
+DUAL = ROOT / "examples/dual-homing/expected"
 DAMAGED = ROOT / "examples/damaged/expected"
 LOSS = ROOT / "examples/loss/expected"
 LOOP = ROOT / "examples/micro-loop"
@@ -82,6 +83,12 @@ class Data(unittest.TestCase):
         self.assertEqual([ldp, {"tick": 5, "what": "bgp", "a": "pe2", "b": "pe1", "record": 6}], damages)
         frames = [(row.get("rule"), row.get("next")) for row in run.tables if row["kind"] == "frame"]
         self.assertEqual([("NoEntry", None), (None, "pe1")], frames)
+
+    def test_routes_that_are_not_resolved(self):
+        run = Run(DUAL)
+        routes = [(row["table"], row["prefix"], row["edge"]) for row in run.tables if row["kind"] == "vrf" and row["state"] == "unresolved"]
+        in_the_third = [(3, prefix, edge) for prefix, edge in (("10.2.0.0/16", "pe2"), ("10.3.0.0/16", "pe3"), ("10.3.1.0/24", "pe2"))]
+        self.assertEqual([(2, "10.3.1.0/24", "pe2"), *in_the_third], routes)
 
     def test_csv_and_json_say_the_same(self):
         for kind in KINDS:

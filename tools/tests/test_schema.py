@@ -62,6 +62,8 @@ REFUSED = [
     ("T4 WrongKind", "an AS number of 0", "as = 65000", "as = 0"),
     ("T4 WrongKind", "a delay of notices of 0", "notice_delay = 1", "notice_delay = 0"),
     ("T4 WrongKind", "a delay of BGP past its range", "bgp_delay = 1000", "bgp_delay = 1001"),
+    ("T4 WrongKind", "a boolean as a number", "bgp_delay = 1000", "resolve = 1"),
+    ("T4 WrongKind", "a boolean as a text", "bgp_delay = 1000", 'resolve = "true"'),
     ("T4 WrongKind", "a number as a text", "as = 65000", 'as = "65000"'),
     ("T4 WrongKind", "a cost as a text", "cost = 65535", 'cost = "10"'),
     ("T4 WrongKind", "a name that is a number", 'name = "p"', "name = 7"),
@@ -111,7 +113,7 @@ BEYOND = [
     ("T15 PrefixTaken", "a prefix in two sites of a VRF", "[[site]]", '[[site]]\nname = "b"\nvrf = "red"\nprefixes = ["10.1.0.0/16"]\n[[site]]'),
 ]
 
-KINDS = {"object": dict, "array": list, "string": str}
+KINDS = {"object": dict, "array": list, "string": str, "boolean": bool}
 KNOWN = {
     "$schema", "$comment", "$ref", "title", "description", "default", "definitions", "type", "additionalProperties", "required",
     "properties", "items", "maxItems", "uniqueItems", "minimum", "maximum", "pattern",

@@ -187,6 +187,12 @@ class Tool(unittest.TestCase):
         said = self.answer(1, "--keep-bgp", "--only", "pe2-p", "--of", "links", self.dual)
         self.assertIn("link p-pe2: 2 pairs lost\n  1 NoLsp at pe1: link p-pe2 is down: a -> b|b-too\n", said)
 
+    def test_a_route_that_is_not_resolved(self):
+        """It stands aside for that of the other edge, where a link fails and where LDP alone does."""
+        said = self.answer(1, "--resolve", "--only", "p-pe2", "--of", "links,ldp", self.dual)
+        self.assertIn("link p-pe2: 1 pair lost, 1 by another way\n  1 NoLsp at pe2: link p-pe2 is down: b -> a\n", said)
+        self.assertIn("ldp p-pe2: 1 pair lost, 1 by another way\n  1 NoLsp at pe2: LDP is off on p-pe2: b -> a\n", said)
+
     def test_losses_of_links_are_left_out(self):
         self.assertEqual([], json.loads(self.answer(0, "--json", "--only", "bgp pe2-pe3", self.dual))["unreached"])
 

@@ -18,7 +18,8 @@ use Rattle.mn_ledger.specs.Tables.{put}
 use Rattle.mn_ledger.specs.Places.{home_of, vrf_of}
 use Rattle.mn_ledger.specs.World.{World}
 use Rattle.mn_ledger.specs.Transport.{usable}
-use Rattle.mn_ledger.specs.Held.{HeldRoute, held, best}
+use Rattle.mn_ledger.specs.Held.{HeldRoute, best}
+use Rattle.mn_ledger.specs.Eligible.{eligible}
 use Rattle.mn_ledger.specs.Packets.{Token, Packets, channel, flying_on, away_from, drop_at, visited, deliver, hop_over, stamped, entry_rules, bound}
 use Rattle.mn_ledger.specs.Packets.{route_by, enter_by, one_more, without_place, taken, is_attachment, arrive, carry, fall, cut_each, before_step}
 use Rattle.mn_ledger.specs.Packets.{packets_after}
@@ -77,7 +78,7 @@ routes t v k j b n (Some route) =
 
 enters : (t : Network) (v : World) (k : Packets) (j : ℕ) (b : List ℕ) (n vrf : ℕ) (o : Option Rule) → Grows t v n k (enter_by t v k j b n vrf o)
 enters t v k j b n vrf (Some cause) = same t v n k (drop_at k j cause n) refl refl
-enters t v k j b n vrf None = routes t v k j b n (best (held t v.config v.peerings n vrf) (destination_of b))
+enters t v k j b n vrf None = routes t v k j b n (best (eligible t v n vrf (destination_of b)) (destination_of b))
 
 arrives : (t : Network) (v : World) (k : Packets) (token : Token) (y : ℕ) → Grows t v y k (arrive t v k token y)
 arrives t v k token y =

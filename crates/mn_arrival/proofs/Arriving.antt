@@ -21,7 +21,7 @@ use Rattle.mn_ledger.specs.Ledger.{world_of, packets_of, next_of, but_next, left
 use Rattle.mn_ledger.specs.Verdicts.{one_if, injections, verdict_on}
 use Rattle.mn_ledger.specs.Lawful.{IsLawfulJournal}
 use Rattle.mn_ledger.specs.Settled.{IsSteady}
-use Rattle.mn_ledger.proofs.Choice.{names_best}
+use Rattle.mn_ledger.proofs.Eligible.{fair_choice}
 use Rattle.mn_laws.specs.Accounts.{world_at, packets_at, Sending, path_of, is_flying}
 use Rattle.mn_laws.specs.Named.{NamesItsSite}
 use Rattle.mn_laws.proofs.At.{bytes_of, packets_whole, lawful_step, lawful_at, but_next_is}
@@ -176,11 +176,10 @@ module _ (t : Network) (lawful : IsLawful t) (es : List JournalEntry) (ps : List
   -- the route's edge is a node
   edge_there : x.edge < length t.loopbacks
   edge_there =
-      let best = (names_best t (take from es) ps lawful (lawful_at t es ps from journal) (home_of t s.site) (vrf_of t s.site) (destination_of s.bytes)).named x
-      way.addressed.best_is in
+      let fair = fair_choice t (take from es) ps lawful (lawful_at t es ps from journal) (home_of t s.site) (vrf_of t s.site) (destination_of s.bytes) in
       let named : NamesItsSite t (world_at t es from).config (home_of t s.site) x =
       (names_what_exists t (take from es) ps lawful (lawful_at t es ps from journal)).routes (vrf_of t s.site) x
-      (vrf_there t s.site lawful site_there) best.held in
+      (vrf_there t s.site lawful site_there) (fair.is_held x (fair.names.named x way.addressed.best_is).held) in
       subst (λ n. n < length t.loopbacks) named.home (home_there t x.site lawful named.site)
 
   pub reaches_it : ReachesItsSite t (world_at t es from) (packets_of t es ps) s x

@@ -1,2 +1,3 @@
 pub mod Arriving
 mod Witness
+pub mod Resolving

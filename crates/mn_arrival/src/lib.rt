@@ -20,7 +20,7 @@ ghost use Rattle.mn_topo.specs.Network.{Network};
 ghost use Rattle.mn_topo.specs.Lawful.{IsLawful};
 ghost use Rattle.mn_topo.specs.declared.steps.JournalEntry.{JournalEntry};
 ghost use Rattle.mn_ledger.specs.Lawful.{IsLawfulJournal};
-ghost use Rattle.mn_arrival.specs.Arrival.{ItArrives};
+ghost use Rattle.mn_arrival.specs.Arrival.{ItArrives, ArrivesWhereItCan};
 ghost use Rattle.mn_arrival.specs.TwoLinks.{TwoLinksHaveAnArrival};
 
 /// Each packet that is sent in a steady stretch of a lawful journal, after which no frame flies, has arrived by a least walk, if
@@ -28,6 +28,13 @@ ghost use Rattle.mn_arrival.specs.TwoLinks.{TwoLinksHaveAnArrival};
 pub fn every_packet_of_a_steady_stretch_arrives()
     ensures { (topology : Network) (entries : List JournalEntry) (inputs : List (List ℕ)) →
         IsLawful topology → IsLawfulJournal topology entries inputs → ItArrives topology entries inputs }
+{}
+
+/// Where the topology resolves next hops, each packet that is sent so, and for which some held route is in reach, arrives at the site of
+/// one of these, than which none in reach is better.
+pub fn every_packet_arrives_where_it_can()
+    ensures { (topology : Network) (entries : List JournalEntry) (inputs : List (List ℕ)) →
+        IsLawful topology → IsLawfulJournal topology entries inputs → ArrivesWhereItCan topology entries inputs }
 {}
 
 /// What the law asks is met in the network of two links, where a packet is sent over both.

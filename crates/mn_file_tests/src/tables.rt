@@ -25,7 +25,8 @@ notices 3\nmessages 0\n\
 frames pe2 p 5\n\
 route red1 10.1.0.0/16 site a\n\
 route red1 10.2.0.0/16 vrf red2 site b\n\
-route red1 10.3.0.0/16 edge pe2 label 18\n";
+route red1 10.3.0.0/16 edge pe2 label 18\n\
+route red1 10.4.0.0/16 edge pe2 label 19 unresolved\n";
 
 fn link_count(topology: &Topology) -> usize
     ensures { result ≡ length topology.now.links }
@@ -91,7 +92,26 @@ fn lines_say_what_they_are_given(rt: HostRuntime) -> Result<(), Fail> {
         VrfNo(1),
         SiteNo(1),
     )?;
-    put_far_route(out, &mut page, &topology, VrfNo(0), b"10.3.0.0/16", pe2, 18)?;
+    put_far_route(
+        out,
+        &mut page,
+        &topology,
+        VrfNo(0),
+        b"10.3.0.0/16",
+        pe2,
+        18,
+        false,
+    )?;
+    put_far_route(
+        out,
+        &mut page,
+        &topology,
+        VrfNo(0),
+        b"10.4.0.0/16",
+        pe2,
+        19,
+        true,
+    )?;
     page.end(out)?;
     assert_eq!(rt; sink.bytes(), LINES);
     Ok(())

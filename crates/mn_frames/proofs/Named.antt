@@ -11,6 +11,9 @@ use Rattle.mn_topo.specs.declared.steps.JournalEntry.{JournalEntry}
 use Rattle.mn_ledger.specs.Places.{home_of, edge_of, vrf_of}
 use Rattle.mn_ledger.specs.World.{Config, Export, Announcement, World}
 use Rattle.mn_ledger.specs.Held.{HeldRoute, held, best}
+use Rattle.mn_ledger.specs.Eligible.{eligible, is_resolved}
+use Rattle.mn_ledger.proofs.Eligible.{in_those}
+use Rattle.mn_ledger.proofs.Members.{contained_in, in_contained}
 use Rattle.mn_ledger.specs.Entry.{first_rule}
 use Rattle.mn_ledger.specs.Packets.{Token, Packets, entry_rules}
 use Rattle.mn_ledger.specs.Ledger.{world_of, packets_of}
@@ -88,11 +91,13 @@ bound_by t w site bytes route (Some other) None e = by (other.edge == home_of t 
 pub leaves_sound : LeavesSound
 leaves_sound t entries inputs s bytes route topology lawful there small leaves =
     let w : World = world_of t entries in
-    let routes : List HeldRoute = held t w.config w.peerings (home_of t s) (vrf_of t s) in
+    let routes : List HeldRoute = eligible t w (home_of t s) (vrf_of t s) (destination_of bytes) in
+    let all : List HeldRoute = held t w.config w.peerings (home_of t s) (vrf_of t s) in
     let is : best routes (destination_of bytes) ≡ Some route =
     bound_by t w s bytes route (best routes (destination_of bytes)) (first_rule (entry_rules (w.config.attached s) bytes)) leaves in
     let names = (names_what_exists t entries inputs topology lawful).routes (vrf_of t s) route (vrf_there t s topology there)
-    (best_is routes (destination_of bytes) route is).held in
+    (contained_in all route (in_those _ (is_resolved t w (home_of t s)) all route
+    (in_contained routes route (best_is routes (destination_of bytes) route is).held))) in
     let fit : IsFit bytes = fits_or_falls t w s bytes small (λ fall. subst IsFall leaves fall) in
     record {
       home = sym names.home;

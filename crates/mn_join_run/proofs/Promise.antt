@@ -13,6 +13,7 @@ use Rattle.mn_laws.specs.Accounts.{HasArrived, IsFate}
 use Rattle.mn_laws.specs.Deliveries.{Delivery}
 use Rattle.mn_laws.proofs.Accounted.{accounts}
 use Rattle.mn_arrival.proofs.Arriving.{it_arrives}
+use Rattle.mn_arrival.proofs.Resolving.{arrives_where_it_can}
 use Rattle.mn_course.specs.Course.{record_of}
 use Rattle.mn_course.specs.Expansion.{SentLine}
 use Rattle.mn_legs.specs.declared.leg.Leg.{Leg}
@@ -66,6 +67,7 @@ module _ (pairing : Pairing) (both : Both) (lawful : (which : Which) → IsLawfu
         lawful = here;
         accounts = accounts (network pairing which) entries inputs (lawful which) here.journal here.each;
         arrives = it_arrives (network pairing which) entries inputs (lawful which) here.journal;
+        arrives_where_it_can = arrives_where_it_can (network pairing which) entries inputs (lawful which) here.journal;
       }
 
   -- 3. Each packet

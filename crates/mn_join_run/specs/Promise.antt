@@ -8,7 +8,7 @@ use Rattle.mn_ledger.specs.Lawful.{IsLawfulJournal}
 use Rattle.mn_ledger.specs.Verdicts.{injections}
 use Rattle.mn_laws.specs.Accounts.{Accounts, IsPassedOn, world_at}
 use Rattle.mn_laws.specs.Named.{AreBytes}
-use Rattle.mn_arrival.specs.Arrival.{IsSentInSteadyStretch, HasAWay, ItArrives}
+use Rattle.mn_arrival.specs.Arrival.{IsSentInSteadyStretch, HasAWay, ItArrives, ArrivesWhereItCan}
 use Rattle.mn_course.specs.Course.{record_of}
 use Rattle.mn_course.specs.Expansion.{SentLine}
 use Rattle.mn_legs.specs.declared.leg.Which.{Which}
@@ -31,6 +31,7 @@ pub record AccountsForLegs (pairing : Pairing) (both : Both) (which : Which) : T
   pub lawful : IsLawfulSide pairing both which
   pub accounts : Accounts (network pairing which) (side both which).past.entries (side both which).inputs
   pub arrives : ItArrives (network pairing which) (side both which).past.entries (side both which).inputs
+  pub arrives_where_it_can : ArrivesWhereItCan (network pairing which) (side both which).past.entries (side both which).inputs
 
 -- 2. Each packet
 

@@ -266,7 +266,7 @@ frame_good t es ps s l lawful sent journal k f inside bytes tick =
     let holds : HoldsSites t es = sites_held t lawful es ps journal in
     let before : s.place < length es = slice_get_within es s.place sent.entry sent.there in
     let site = holds s.place s.site f.route (within before) (site_there t lawful es ps journal holds s sent)
-    (in_contained (routes_at t (world_at t es s.place) s.site) f.route f.bound.best_route.held) in
+    (in_contained (routes_at t (world_at t es s.place) s.site) f.route f.bound.is_held) in
     record {
       link = f.there;
       packet = inside;

@@ -1,12 +1,12 @@
 -- What becomes of a packet as it is sent: it falls to the first rule that applies, reaches a site of the same edge, or flies.
 use Rattle.std.proofs.Common.{ℕ, ◌≡◌, ◌-◌, ◌≤◌, inl, inr, Bool, true, false, List, [], ◌∷◌, refl, arith, sym, ◌∙◌, ap, Option, Some, None}
-use Rattle.std.specs.Prelude.{◌==◌, ◌&&◌, ◌||◌, not, nat_lt, is_none, is_some, IsTrue}
+use Rattle.std.specs.Prelude.{◌==◌, ◌&&◌, ◌||◌, not, nat_lt, is_none, is_some, IsTrue, filter}
 use Rattle.std.specs.List.{list_any}
 use Rattle.std.proofs.lemmas.Bool.Decides.{nat_tests}
 use Rattle.std.proofs.lemmas.Option.{same_Some}
 use Rattle.mn_drops.specs.declared.drops.Rule.{Rule}
 use Rattle.mn_drops.specs.declared.drops.Rule.TheVariants as rule
-use Rattle.mn_base.proofs.Bools.{clash}
+use Rattle.mn_base.proofs.Bools.{clash, no, and_right}
 use Rattle.mn_ipv4.specs.Header.{is_not_ipv4, is_malformed, is_truncated, has_bad_checksum, good, ttl_of, destination_of}
 use Rattle.mn_prefix.specs.Prefix.{contains}
 use Rattle.mn_topo.specs.Network.{Network}
@@ -16,12 +16,14 @@ use Rattle.mn_ledger.specs.World.{World}
 use Rattle.mn_ledger.specs.Transport.{usable}
 use Rattle.mn_ledger.specs.Held.{HeldRoute, best}
 use Rattle.mn_ledger.specs.Best.{IsBest, NamesTheBest}
+use Rattle.mn_ledger.specs.Eligible.{is_resolved, covers, only_if}
+use Rattle.mn_ledger.proofs.Eligible.{in_those}
 use Rattle.mn_ledger.specs.Packets as packets
 use Rattle.mn_ledger.specs.Packets.{Packets, bound, hop_over, drop_at, deliver, route_by, enter_by, stamped}
-use Rattle.mn_ledger.proofs.Members.{in_contained, filter_in, passes_none}
+use Rattle.mn_ledger.proofs.Members.{in_contained, filter_in, passes_none, contained_in}
 use Rattle.mn_ledger.proofs.Peers.{two_ways}
 use Rattle.mn_ledger.proofs.Choice.{in_first, from_unbeaten, none_matches}
-use Rattle.mn_laws.specs.Accounts.{routes_at, MayEnter, FallsTo, rules_at_entry, has_no_path, is_out_of_reach, applies_at_entry}
+use Rattle.mn_laws.specs.Accounts.{routes_at, eligible_at, MayEnter, FallsTo, rules_at_entry, has_no_path, is_out_of_reach, applies_at_entry}
 use Rattle.mn_laws.proofs.Elsewhere.{arms_by}
 use Rattle.mn_ledger.proofs.OneKind.{one_passes}
 
@@ -136,36 +138,47 @@ best_is routes address x h = from_unbeaten routes address x (in_first _ x h)
 
 -- the best route of the site's VRF for the packet
 abbrev pub IsBestFor : Network → World → ℕ → List ℕ → HeldRoute → Type 0
-IsBestFor t w site b x = best (routes_at t w site) (destination_of b) ≡ Some x
+IsBestFor t w site b x = best (eligible_at t w site b) (destination_of b) ≡ Some x
 
 pub may_enter : (t : Network) (w : World) (site : ℕ) (b : List ℕ) (x : HeldRoute) → Passes t w site b → IsBestFor t w site b x
-    → NamesTheBest (routes_at t w site) (destination_of b) → MayEnter t w site b x
+    → NamesTheBest (eligible_at t w site b) (destination_of b) → MayEnter t w site b x
 may_enter t w site b x p h names = record {
   attached = some_is (w.config.attached site) p.attached;
   is_good = all_good b p.ipv4 p.formed p.whole p.summed;
   lives = two_left (ttl_of b) p.lives;
   unicast = p.unicast;
-  best_route = best_is (routes_at t w site) (destination_of b) x h;
+  is_held = contained_in (routes_at t w site) x
+      (in_those _ (is_resolved t w (home_of t site)) (routes_at t w site) x (in_contained (eligible_at t w site b) x (best_is (eligible_at t w site b) (destination_of b) x h).held));
+  best_route = best_is (eligible_at t w site b) (destination_of b) x h;
   only = λ other o. same_Some other x (sym (names.one other o) ∙ h);
 }
-
-abbrev covers : ℕ → HeldRoute → Bool
-covers address route = contains route.prefix address
 
 none_covers : (routes : List HeldRoute) (address : ℕ) → best routes address ≡ None → list_any (covers address) routes ≡ false
 none_covers routes address h = passes_none (covers address) routes
     (λ x i. elim (two_ways (covers address x)) [ inl q ↦ absurd (none_matches routes address h x (filter_in (covers address) routes x i q)) | inr q ↦ q ])
 
-some_covers : (routes : List HeldRoute) (address : ℕ) (x : HeldRoute) → best routes address ≡ Some x → list_any (covers address) routes ≡ true
-some_covers routes address x h = let b = best_is routes address x h in one_passes (covers address) routes x (in_contained routes x b.held) b.matches
+-- where none of those that take part covers the address, none that is held does
+none_held : (c : Bool) (p : HeldRoute → Bool) (rs : List HeldRoute) (a : ℕ)
+    → best (only_if (c && list_any (covers a) (filter p rs)) p rs) a ≡ None → list_any (covers a) rs ≡ false
+none_held c p rs a = by (c && list_any (covers a) (filter p rs)) refl
+  where
+    by : (q : Bool) → q ≡ (c && list_any (covers a) (filter p rs)) → best (only_if q p rs) a ≡ None → list_any (covers a) rs ≡ false
+    by false e h = none_covers rs a h
+    by true e h = absurd (no (sym (none_covers (filter p rs) a h) ∙ and_right c (list_any (covers a) (filter p rs)) (sym e)))
 
-no_route : (t : Network) (w : World) (site : ℕ) (b : List ℕ) → Passes t w site b → best (routes_at t w site) (destination_of b) ≡ None
+-- and where one of them does, one that is held does
+some_held : (q : Bool) (p : HeldRoute → Bool) (rs : List HeldRoute) (a : ℕ) (x : HeldRoute) → best (only_if q p rs) a ≡ Some x → list_any (covers a) rs ≡ true
+some_held q p rs a x h =
+    let b = best_is (only_if q p rs) a x h in
+    one_passes (covers a) rs x (in_those q p rs x (in_contained (only_if q p rs) x b.held)) b.matches
+
+no_route : (t : Network) (w : World) (site : ℕ) (b : List ℕ) → Passes t w site b → best (eligible_at t w site b) (destination_of b) ≡ None
     → Falls t w site b rule.NoRoute
 no_route t w site b p h = record {
   earlier = rule.SiteDown ∷ rule.NotIpv4 ∷ rule.Malformed ∷ rule.Truncated ∷ rule.BadChecksum ∷ rule.TtlExpired ∷ rule.NotUnicast ∷ [];
   later = rule.NoLsp ∷ [];
   order = refl;
-  here = ap not (none_covers (routes_at t w site) (destination_of b) h);
+  here = ap not (none_held t.resolve (is_resolved t w (home_of t site)) (routes_at t w site) (destination_of b) h);
   not_before = before _ _ _ _ _ _ _ p.attached p.ipv4 p.formed p.whole p.summed p.lives p.unicast;
 }
   where
@@ -173,7 +186,7 @@ no_route t w site b p h = record {
         → (a || (c || (d || (e || (f || (g || (not h || false))))))) ≡ false
     before a c d e f g h i j k l m n o = rw (i, j, k, l, m, n, o) refl
 
-no_lsp : (t : Network) (w : World) (site : ℕ) (b : List ℕ) (x : HeldRoute) → Passes t w site b → best (routes_at t w site) (destination_of b) ≡ Some x
+no_lsp : (t : Network) (w : World) (site : ℕ) (b : List ℕ) (x : HeldRoute) → Passes t w site b → best (eligible_at t w site b) (destination_of b) ≡ Some x
     → (x.edge == home_of t site) ≡ false
     → usable t w.config w.views w.sessions (home_of t site) x.edge ≡ None → Falls t w site b rule.NoLsp
 no_lsp t w site b x p h far none = record {
@@ -181,7 +194,7 @@ no_lsp t w site b x p h far none = record {
   later = [];
   order = refl;
   here = ap (is_out_of_reach t w (home_of t site)) h ∙ ap (λ c. not c && has_no_path t w (home_of t site) x.edge) far ∙ ap is_none none;
-  not_before = before _ _ _ _ _ _ _ _ p.attached p.ipv4 p.formed p.whole p.summed p.lives p.unicast (some_covers (routes_at t w site) (destination_of b) x h);
+  not_before = before _ _ _ _ _ _ _ _ p.attached p.ipv4 p.formed p.whole p.summed p.lives p.unicast (some_held _ (is_resolved t w (home_of t site)) (routes_at t w site) (destination_of b) x h);
 }
   where
     before : (a c d e f g h r : Bool) → a ≡ false → c ≡ false → d ≡ false → e ≡ false → f ≡ false → g ≡ false → h ≡ true → r ≡ true
@@ -199,14 +212,14 @@ pub record AtEntry (P : Packets → Type 0) (t : Network) (w : World) (u : Packe
       → P (hop_over t u (stamped u (bound j x b)) (home_of t site) rule.NoLsp (Some hop))
 
 hops : (P : Packets → Type 0) (t : Network) (w : World) (u : Packets) (j site : ℕ) (b : List ℕ) (x : HeldRoute) → AtEntry P t w u j site b
-    → Passes t w site b → best (routes_at t w site) (destination_of b) ≡ Some x
+    → Passes t w site b → best (eligible_at t w site b) (destination_of b) ≡ Some x
     → (x.edge == home_of t site) ≡ false → (o : Option (ℕ × ℕ)) → usable t w.config w.views w.sessions (home_of t site) x.edge ≡ o
     → P (hop_over t u (stamped u (bound j x b)) (home_of t site) rule.NoLsp o)
 hops P t w u j site b x h p is far None e = h.falls rule.NoLsp (no_lsp t w site b x p is far e)
 hops P t w u j site b x h p is far (Some hop) e = h.flies x hop p is far e
 
 routes : (P : Packets → Type 0) (t : Network) (w : World) (u : Packets) (j site : ℕ) (b : List ℕ) → AtEntry P t w u j site b → Passes t w site b
-    → (o : Option HeldRoute) → best (routes_at t w site) (destination_of b) ≡ o → P (route_by t w u j b (home_of t site) o)
+    → (o : Option HeldRoute) → best (eligible_at t w site b) (destination_of b) ≡ o → P (route_by t w u j b (home_of t site) o)
 routes P t w u j site b h p None e = h.falls rule.NoRoute (no_route t w site b p e)
 routes P t w u j site b h p (Some x) e =
     arms_by P (x.edge == home_of t site) _ _ (λ q. h.delivered x p e q)
@@ -218,4 +231,4 @@ enters P t w u j site b h = by_rule (first_rule (packets.entry_rules (w.config.a
   where
     by_rule : (o : Option Rule) → Tells t w site b o → P (enter_by t w u j b (home_of t site) (vrf_of t site) o)
     by_rule (Some cause) g = h.falls cause g
-    by_rule None g = routes P t w u j site b h g (best (routes_at t w site) (destination_of b)) refl
+    by_rule None g = routes P t w u j site b h g (best (eligible_at t w site b) (destination_of b)) refl

@@ -29,10 +29,10 @@ use Rattle.mn_ledger.specs.Packets as packets
 use Rattle.mn_ledger.specs.Packets.{Token, Packets, channel, away_from, drop_at, deliver, hop_over, bound, enter_by, one_more, before_step, flying_on}
 use Rattle.mn_ledger.specs.Verdicts.{injections, verdict_on, times_by}
 use Rattle.mn_ledger.specs.Best.{NamesTheBest}
-use Rattle.mn_ledger.proofs.Choice.{names_best}
+use Rattle.mn_ledger.proofs.Eligible.{fair_choice}
 use Rattle.mn_ledger.proofs.Members.{In, in_contained}
 use Rattle.mn_ledger.proofs.Peers.{same_numbers}
-use Rattle.mn_laws.specs.Accounts.{world_at, packets_at, Sending, IsSent, routes_at, MayEnter, path_of, is_flying}
+use Rattle.mn_laws.specs.Accounts.{world_at, packets_at, Sending, IsSent, routes_at, eligible_at, MayEnter, path_of, is_flying}
 use Rattle.mn_laws.specs.Named.{NamesItsSite}
 use Rattle.mn_laws.proofs.At.{bytes_of, packets_step, lawful_step, lawful_at}
 use Rattle.mn_laws.proofs.Elsewhere.{judged_here, in_pushed, push_here}
@@ -118,7 +118,7 @@ module _ (t : Network) (lawful : IsLawful t) (es : List JournalEntry) (ps : List
 
   names : (x : HeldRoute) → MayEnter t (world_at t es s.place) s.site s.bytes x → NamesItsSite t (world_at t es s.place).config home x
   names x may = holds s.place s.site x (within (slice_get_within es s.place sent.entry sent.there)) site_there
-      (in_contained (routes_at t (world_at t es s.place) s.site) x may.best_route.held)
+      (in_contained (routes_at t (world_at t es s.place) s.site) x may.is_held)
     where
       within : s.place < length es → s.place ≤ length es
       within h = omega (arith, h)
@@ -196,8 +196,8 @@ module _ (t : Network) (lawful : IsLawful t) (es : List JournalEntry) (ps : List
               at_most : {m n : ℕ} → m ≡ n → m ≤ n
               at_most q = omega (arith, q)
 
-  names_one : NamesTheBest (routes_at t (world_at t es s.place) s.site) (destination_of s.bytes)
-  names_one = names_best t (take s.place es) ps lawful (lawful_at t es ps s.place journal) home (vrf_of t s.site) (destination_of s.bytes)
+  names_one : NamesTheBest (eligible_at t (world_at t es s.place) s.site s.bytes) (destination_of s.bytes)
+  names_one = (fair_choice t (take s.place es) ps lawful (lawful_at t es ps s.place journal) home (vrf_of t s.site) (destination_of s.bytes)).names
 
   pub entered_known : IsKnown t es ps s (suc s.place)
   entered_known = enters (λ w. packets_at t es ps (suc s.place) ≡ w → IsKnown t es ps s (suc s.place)) t

@@ -26,6 +26,7 @@ use Rattle.mn_ledger.specs.Transport.{usable}
 use Rattle.mn_ledger.specs.Held.{HeldRoute, held, best}
 use Rattle.mn_ledger.specs.Best.{IsBest}
 use Rattle.mn_ledger.specs.Packets.{Token, Packets, flying_on, is_attachment}
+use Rattle.mn_ledger.specs.Eligible.{eligible}
 use Rattle.mn_ledger.specs.Ledger.{world_of, packets_of}
 use Rattle.mn_ledger.specs.Time.{clock_after}
 use Rattle.mn_ledger.specs.Verdicts.{injections, verdict_on, AreInOnePlace}
@@ -62,14 +63,19 @@ pub record IsSent (entries : List JournalEntry) (inputs : List (List ℕ)) (send
 abbrev pub routes_at : Network → World → ℕ → List HeldRoute
 routes_at topology world site = held topology world.config world.peerings (home_of topology site) (vrf_of topology site)
 
--- the packet may enter at the site, and of the routes that the site's VRF holds this one, and no other, is the best for its destination
+-- those of them that take part for this packet
+abbrev pub eligible_at : Network → World → ℕ → List ℕ → List HeldRoute
+eligible_at topology world site bytes = eligible topology world (home_of topology site) (vrf_of topology site) (destination_of bytes)
+
+-- the packet may enter at the site, and of the routes that take part this one, which the site's VRF holds, and no other, is the best for its destination
 pub record MayEnter (topology : Network) (world : World) (site : ℕ) (bytes : List ℕ) (route : HeldRoute) : Type 0 where
   pub attached : is_some (world.config.attached site) ≡ true
   pub is_good : IsTrue (good bytes)
   pub lives : 2 ≤ ttl_of bytes
   pub unicast : is_unicast (destination_of bytes) ≡ true
-  pub best_route : IsBest (routes_at topology world site) (destination_of bytes) route
-  pub only : (other : HeldRoute) → IsBest (routes_at topology world site) (destination_of bytes) other → other ≡ route
+  pub is_held : Contains (routes_at topology world site) route
+  pub best_route : IsBest (eligible_at topology world site bytes) (destination_of bytes) route
+  pub only : (other : HeldRoute) → IsBest (eligible_at topology world site bytes) (destination_of bytes) other → other ≡ route
 
 -- as it was sent
 abbrev pub IsBoundFor : Network → List JournalEntry → Sending → HeldRoute → Type 0
@@ -186,7 +192,7 @@ applies_at_entry topology world site bytes rule.TtlExpired = nat_lt (ttl_of byte
 applies_at_entry topology world site bytes rule.NotUnicast = not (is_unicast (destination_of bytes))
 applies_at_entry topology world site bytes rule.NoRoute = not (list_any (λ route. contains route.prefix (destination_of bytes)) (routes_at topology world site))
 applies_at_entry topology world site bytes rule.NoLsp = is_out_of_reach topology world (home_of topology site)
-    (best (routes_at topology world site) (destination_of bytes))
+    (best (eligible_at topology world site bytes) (destination_of bytes))
 applies_at_entry topology world site bytes other = false
 
 -- the rules where a frame comes to a node, in the order in which they are tried

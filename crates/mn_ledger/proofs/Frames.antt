@@ -22,6 +22,7 @@ use Rattle.mn_ledger.specs.World.{World}
 use Rattle.mn_ledger.specs.Transport.{usable}
 use Rattle.mn_ledger.specs.Held.{HeldRoute, best, held}
 use Rattle.mn_ledger.specs.Packets.{Token, Packets, channel, flying_on, away_from, judged, drop_at, visited, deliver, hop_over, entry_rules, bound, stamped}
+use Rattle.mn_ledger.specs.Eligible.{eligible}
 use Rattle.mn_ledger.specs.Packets.{route_by, enter_by, one_more, without_place, taken, is_attachment, leave, arrive, carry, lose, cut_each, before_step}
 use Rattle.mn_ledger.specs.Packets.{packets_after}
 use Rattle.mn_ledger.specs.Verdicts.{verdict_on, AreInOnePlace}
@@ -106,7 +107,7 @@ routes t v w j b e (Some route) h =
 enters : (t : Network) (v : World) (w : Packets) (j : ℕ) (b : List ℕ) (e vrf : ℕ) (o : Option Rule) → j < length w.verdicts →
     Adds w (enter_by t v w j b e vrf o) j
 enters t v w j b e vrf (Some cause) h = drops w j cause e h
-enters t v w j b e vrf None h = routes t v w j b e (best (held t v.config v.peerings e vrf) (destination_of b)) h
+enters t v w j b e vrf None h = routes t v w j b e (best (eligible t v e vrf (destination_of b)) (destination_of b)) h
 
 leaves : (v : World) (w : Packets) (k : Token) (y : ℕ) → k.packet < length w.verdicts → Adds w (leave v w k y) k.packet
 leaves v w k y h =

@@ -31,3 +31,4 @@ pub mod Order
 pub mod Ascending
 pub mod Tidy
 pub mod Ended
+pub mod Eligible

@@ -25,6 +25,7 @@ use Rattle.mn_ledger.specs.Transport.{usable}
 use Rattle.mn_ledger.specs.Held.{HeldRoute, best, held}
 use Rattle.mn_ledger.specs.Packets.{Token, Packets, channel, flying_on, away_from, judged, drop_at, visited, deliver, hop_over, entry_rules, bound, stamped}
 use Rattle.mn_ledger.specs.Packets.{route_by, enter_by, one_more, without_place, taken, is_attachment, leave, arrive, carry, fall, lose, cut_each, before_step}
+use Rattle.mn_ledger.specs.Eligible.{eligible}
 use Rattle.mn_ledger.specs.Packets.{moved, packets_after}
 use Rattle.mn_ledger.specs.Verdicts.{one_if, injections, times_in, times_by, verdict_on, AreInOnePlace}
 use Rattle.mn_ledger.specs.Time.{clock_after, is_overdue, expire_from, expire_over, timed_by, timed}
@@ -176,7 +177,7 @@ routed t v w j count b e (Some route) l =
 entered : (t : Network) (v : World) (w : Packets) (j count : ℕ) (b : List ℕ) (e vrf : ℕ) (o : Option Rule) → Loose w j count →
     AreInOnePlace (enter_by t v w j b e vrf o) count
 entered t v w j count b e vrf (Some cause) l = dropped w j count cause e l
-entered t v w j count b e vrf None l = routed t v w j count b e (best (held t v.config v.peerings e vrf) (destination_of b)) l
+entered t v w j count b e vrf None l = routed t v w j count b e (best (eligible t v e vrf (destination_of b)) (destination_of b)) l
 
 left : (v : World) (w : Packets) (k : Token) (count y : ℕ) → Loose w k.packet count → AreInOnePlace (leave v w k y) count
 left v w k count y l =

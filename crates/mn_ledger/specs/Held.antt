@@ -89,8 +89,8 @@ is_better route other =
 abbrev pub matching : ℕ → List HeldRoute → List HeldRoute
 matching address routes = filter (λ route. contains route.prefix address) routes
 
--- of these, one that no other is better than: RFC 1812, section 5.2.4.3. A route stays the best where no label path leads to its
--- edge; RFC 4271, section 9.1.2, would leave it out, since its next hop can't be resolved. A packet that it takes is dropped, NoLsp.
+-- of these, one that no other is better than: RFC 1812, section 5.2.4.3. Whether a route takes part to whose edge no label path
+-- leads is for `eligible` to say.
 abbrev pub unbeaten : List HeldRoute → List HeldRoute
 unbeaten routes = filter (λ route. not (list_any (λ other. is_better other route) routes)) routes
 

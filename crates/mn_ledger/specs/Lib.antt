@@ -6,6 +6,7 @@ pub mod Transport
 pub mod Exports
 pub mod Bgp
 pub mod Held
+pub mod Eligible
 pub mod Packets
 pub mod Time
 pub mod Ledger

@@ -21,7 +21,8 @@ use Rattle.mn_ledger.specs.Tables.{put}
 use Rattle.mn_ledger.specs.Places.{vrf_of, home_of}
 use Rattle.mn_ledger.specs.World.{World}
 use Rattle.mn_ledger.specs.Transport.{usable}
-use Rattle.mn_ledger.specs.Held.{HeldRoute, held, best}
+use Rattle.mn_ledger.specs.Held.{HeldRoute, best}
+use Rattle.mn_ledger.specs.Eligible.{eligible}
 
 -- a packet on its way
 pub record Token : Type 0 where
@@ -129,7 +130,7 @@ route_by topology world packets packet bytes edge (Some route) =
 abbrev pub enter_by : Network → World → Packets → ℕ → List ℕ → ℕ → ℕ → Option Rule → Packets
 enter_by topology world packets packet bytes edge v (Some cause) = drop_at packets packet cause edge
 enter_by topology world packets packet bytes edge v None =
-    route_by topology world packets packet bytes edge (best (held topology world.config world.peerings edge v) (destination_of bytes))
+    route_by topology world packets packet bytes edge (best (eligible topology world edge v (destination_of bytes)) (destination_of bytes))
 
 -- one more packet, at its entry; the verdict that stands here is replaced in the same step by its own
 abbrev pub one_more : Packets → ℕ → Packets

@@ -23,6 +23,7 @@ ghost use Rattle.mn_ledger.specs.Nearer.{IsNearer};
 ghost use Rattle.mn_ledger.specs.Items.{made_by, flight_of};
 ghost use Rattle.mn_ledger.specs.InFlight.{IsInFlight};
 ghost use Rattle.mn_ledger.specs.Best.{NamesTheBest};
+ghost use Rattle.mn_ledger.specs.Eligible.{IsFairChoice};
 ghost use Rattle.mn_ledger.specs.Held.{held};
 ghost use Rattle.mn_ledger.specs.World.{Config};
 ghost use Rattle.mn_ledger.specs.Ledger.{config_after};
@@ -96,6 +97,14 @@ pub fn best_names_one_held_route()
     ensures { (topology : Network) (entries : List JournalEntry) (inputs : List (List ℕ)) (edge v address : ℕ) →
         IsLawful topology → IsLawfulJournal topology entries inputs →
         NamesTheBest (held topology (world_of topology entries).config (world_of topology entries).peerings edge v) address }
+{}
+
+/// After a lawful journal the route by which a packet goes is one of those that its VRF holds, the best of them where the edge can send to that one's edge; and,
+/// where the topology says `resolve`, one to which it can send if any that contains the address is.
+pub fn the_choice_is_fair()
+    ensures { (topology : Network) (entries : List JournalEntry) (inputs : List (List ℕ)) (edge v address : ℕ) →
+        IsLawful topology → IsLawfulJournal topology entries inputs →
+        IsFairChoice topology (world_of topology entries) edge v address }
 {}
 
 /// Of an edge's exports a step makes some go, or makes some come or change, and never both: so what the edge tells of them

@@ -33,7 +33,8 @@ pub use laws::{
     a_step_keeps_other_parts, a_step_withdraws_or_announces, best_names_one_held_route,
     every_message_has_a_row, journals_are_bounded, last_steps_decide, lists_are_tidy,
     memory_refuses_nothing, one_entry_more, packets_are_in_one_place, sessions_are_in_turn,
-    the_next_hop_is_nearer, what_flies_has_not_arrived, who_learns_nothing_says_nothing,
+    the_choice_is_fair, the_next_hop_is_nearer, what_flies_has_not_arrived,
+    who_learns_nothing_says_nothing,
 };
 pub use refused::Refused;
 pub use verdict::Verdict;

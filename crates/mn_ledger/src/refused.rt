@@ -17,7 +17,7 @@ pub enum Refused {
     RoutesFull,
     /// The set has 16 targets.
     TargetsFull,
-    /// The node has given 1,048,560 labels.
+    /// The attachments that the node's sites have had and the other nodes make 1,048,560.
     LabelsSpent,
     /// 2,000,000 notices and messages are in flight, and the step takes nothing out of flight; or the packet's bytes and
     /// those of all flying packets would pass 268,435,456.

@@ -60,7 +60,7 @@ impl<T> LengthTable<T> {
     }
 
     /// The pair of this length whose prefix contains the address.
-    fn of_length(&self, length: u8, address: u32) -> Option<(Prefix, &T)>
+    pub fn of_length(&self, length: u8, address: u32) -> Option<(Prefix, &T)>
         requires { length ≤ 32 }
         ensures pair { option_map (λ found. (found.0, found.1.now)) result ≡ pair_at (prefix_at length address) self.now }
         ensures table { IsTable self.now }

@@ -118,7 +118,7 @@ module _ (net : NetNow) (lawful : IsLawful net.topology) (is : IsNet net) (v : �
   abbrev its : Edge
   its = edge_in t l c p (edge_of t v)
 
-  its_edge : slice_index_or (routes_in t l c p).edges (edge_of t v) None ≡ Some its
+  pub its_edge : slice_index_or (routes_in t l c p).edges (edge_of t v) None ≡ Some its
   its_edge =
       map_numbers_at (edge_or_none t l c p) (length t.loopbacks) (edge_of t v) None (edge_there t v lawful h)
       ∙ ap (λ b. if b then Some its else None) (at_edge_of t.vrfs v _ h)
@@ -158,7 +158,7 @@ module _ (net : NetNow) (lawful : IsLawful net.topology) (is : IsNet net) (v : �
       ap (λ e. label_at (given t net.journal) e route.site route.attachment)
       (gives_to_no_other t net.journal is.inputs route.edge route.site route.attachment journal there).home
 
-  given_as : (route : HeldRoute) → In routes route → as_held l route ≡ entry.as_held (given t net.journal) route
+  pub given_as : (route : HeldRoute) → In routes route → as_held l route ≡ entry.as_held (given t net.journal) route
   given_as route i = ap (λ (s : Source). let pair : AddressBlock × Source = (route.prefix, s) in pair) (by route.source)
     where
       by : (source : ledger_held.Source) →

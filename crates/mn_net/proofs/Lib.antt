@@ -12,3 +12,4 @@ pub mod Clocks
 pub mod Elapsed
 pub mod Few
 pub mod Damages
+pub mod Open

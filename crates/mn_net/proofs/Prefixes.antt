@@ -36,12 +36,12 @@ same_blocks : (p q : AddressBlock) → p.address ≡ q.address → p.length ≡ 
 same_blocks p q f g = ap (λ a. let r : AddressBlock = record { address = a; length = p.length } in r) f
     ∙ ap (λ n. let r : AddressBlock = record { address = q.address; length = n } in r) g
 
-same_tells : (p q : AddressBlock) → same_prefix p q ≡ true → p ≡ q
+pub same_tells : (p q : AddressBlock) → same_prefix p q ≡ true → p ≡ q
 same_tells p q h =
     let both = and_parts (p.address == q.address) (p.length == q.length) h in
     same_blocks p q (same_numbers p.address q.address both.0) (same_numbers p.length q.length both.1)
 
-same_is : (p q : AddressBlock) → p ≡ q → same_prefix p q ≡ true
+pub same_is : (p q : AddressBlock) → p ≡ q → same_prefix p q ≡ true
 same_is p q e = ap (same_prefix p) (sym e) ∙ and_on (p.address == p.address) (p.length == p.length) (same_test p.address) (same_test p.length)
 
 -- a route that comes before another has a lesser prefix or the same
@@ -67,12 +67,12 @@ abbrev NotBefore : Option AddressBlock → List Route → Type 0
 NotBefore None routes = ⊤
 NotBefore (Some q) routes = (g : Route) → In routes g → (prefix_before q g.0 ≡ true) ⊎ (q ≡ g.0)
 
-abbrev IsPast : Option AddressBlock → Route → Type 0
+abbrev pub IsPast : Option AddressBlock → Route → Type 0
 IsPast None h = ⊤
 IsPast (Some q) h = prefix_before q h.0 ≡ true
 
 -- it is one of them, and goes before each other of its prefix
-record IsHead (last : Option AddressBlock) (routes : List Route) (h : Route) : Type 0 where
+pub record IsHead (last : Option AddressBlock) (routes : List Route) (h : Route) : Type 0 where
   pub there : In routes h
   pub least : (g : Route) → In routes g → g.0 ≡ h.0 → (route_before h g ≡ true) ⊎ (h ≡ g)
   pub past : IsPast last h
@@ -221,7 +221,7 @@ module _ (l : Labels) (routes : List HeldRoute) (held : List Route) (same : Same
   abbrev of_prefix : AddressBlock → List HeldRoute
   of_prefix q = filter (λ (route : HeldRoute). same_prefix route.prefix q) routes
 
-  head_is_best : (h : Route) → IsHead None held h → Some h ≡ option_map (as_held l) (best_for routes h.0)
+  pub head_is_best : (h : Route) → IsHead None held h → Some h ≡ option_map (as_held l) (best_for routes h.0)
   head_is_best h head =
       let found = same.only h head.there in
       let x : HeldRoute = found.0 in

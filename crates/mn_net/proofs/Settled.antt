@@ -10,7 +10,8 @@ use Rattle.mn_topo.specs.Lawful.{IsLawful}
 use Rattle.mn_topo.specs.declared.steps.JournalEntry.{JournalEntry}
 use Rattle.mn_ledger.specs.World.{World}
 use Rattle.mn_ledger.specs.Places.{edge_of, edges}
-use Rattle.mn_ledger.specs.Held.{held, best}
+use Rattle.mn_ledger.specs.Held.{best}
+use Rattle.mn_ledger.specs.Eligible.{eligible}
 use Rattle.mn_ledger.specs.Transport.{view_of}
 use Rattle.mn_ledger.specs.Ledger.{world_of}
 use Rattle.mn_ledger.specs.Lawful.{IsLawfulJournal}
@@ -19,10 +20,10 @@ use Rattle.mn_ledger.proofs.Members.{contained_in}
 use Rattle.mn_laws.proofs.There.{edge_there}
 use Rattle.mn_settled.specs.Ways.{links_up, way, Reaches, KnowsTheWay}
 use Rattle.mn_settled.specs.Arrival.{IsLeastWay}
-use Rattle.mn_settled.specs.Routes.{routes_of}
+use Rattle.mn_settled.specs.Routes.{eligible_of}
 use Rattle.mn_settled.proofs.Ways.{know_the_ways}
 use Rattle.mn_settled.proofs.LeastWay.{route_is_least}
-use Rattle.mn_settled.proofs.Lookup.{looks_up}
+use Rattle.mn_settled.proofs.Lookup.{chooses}
 use Rattle.mn_routing_model.proofs.Home.{among_edges}
 use Rattle.mn_net_moves.specs.Told.{hop_to}
 use Rattle.mn_net.specs.Settled.{IsByLinks}
@@ -102,8 +103,7 @@ module _ (t : Network) (es : List JournalEntry) (ps : List (List ℕ)) (node edg
 
 pub from_scratch : (t : Network) (es : List JournalEntry) (ps : List (List ℕ)) (v address : ℕ) → IsLawful t → IsLawfulJournal t es ps
     → IsSettled t (world_of t es) → v < length t.vrfs
-    → best (held t (world_of t es).config (world_of t es).peerings (edge_of t v) v) address
-    ≡ best (routes_of t (world_of t es).config (edge_of t v) v) address
+    → best (eligible t (world_of t es) (edge_of t v) v address) address ≡ best (eligible_of t (world_of t es) (edge_of t v) v address) address
 from_scratch t es ps v address lawful journal settled below =
-    looks_up t es ps lawful journal settled (edge_of t v) v address
+    chooses t es ps lawful journal settled (edge_of t v) v address
     (contained_in (edges t) (edge_of t v) (among_edges t v below (edge_there t v lawful below)))

@@ -1,20 +1,23 @@
 //! What is told of edges: the states of their sessions, and the routes that their VRFs hold.
-ghost use Rattle.std.specs.Prelude.{◌≡◌, ◌+◌, ◌<◌, ℕ, false, length, option_map};
+ghost use Rattle.std.specs.Prelude.{◌≡◌, ◌+◌, ◌<◌, ℕ, false, filter, length, option_map};
 ghost use Rattle.mn_ledger.specs.Ledger.{world_of};
 ghost use Rattle.mn_ledger.specs.Places.{edge_of};
 ghost use Rattle.mn_ledger.specs.Bgp.{bgp_state_of};
-ghost use Rattle.mn_ledger.specs.Held.{held, best};
+ghost use Rattle.mn_ledger.specs.Held.{HeldRoute, held, best};
+ghost use Rattle.mn_ledger.specs.Eligible.{eligible, is_resolved};
+ghost use Rattle.mn_frames.specs.Entries.{AreWays};
 ghost use Rattle.mn_frames.specs.Given.{given};
 ghost use Rattle.mn_frames.specs.Numbers.{labels_of};
-ghost use Rattle.mn_pe.specs.Entries.{as_held as given_held};
+ghost use Rattle.mn_pe.specs.Entries.{source_of, as_held as given_held};
 ghost use Rattle.mn_routing_model.specs.Sources.{as_held};
 ghost use Rattle.mn_ledger.specs.Settled.{IsSettled};
-ghost use Rattle.mn_settled.specs.Routes.{routes_of};
-ghost use Rattle.mn_net.specs.Tables.{held_at};
+ghost use Rattle.mn_settled.specs.Routes.{eligible_of};
+ghost use Rattle.mn_net.specs.Tables.{best_for, held_at};
 ghost use Rattle.mn_vrf.specs.Vrf.{IsHeldAt};
 
 use crate::net::Net;
 use mn_base::{NodeNo, VrfNo};
+use mn_net_look::MOST_NODES;
 use mn_prefix::Prefix;
 use mn_states::BgpState;
 use mn_vrf::Source;
@@ -30,19 +33,52 @@ impl Net {
         self.routes.bgp_state(at, peer)
     }
 
-    /// The best route of a VRF for an address, with its prefix: of the longest prefix that contains it, the preferred one. In a
-    /// settled network it is the best of those that the present configuration gives, whatever happened before.
+    /// The best route of a VRF for an address, with its prefix: of those that take part, and of the longest prefix that contains it, the
+    /// preferred one. In a settled network it is the best of those that the present configuration gives, whatever happened before.
     pub fn lookup(&self, vrf: VrfNo, address: u32) -> Option<(Prefix, Source)>
         requires works { self.now.failed ≡ false }
         requires vrf { vrf.0 < length self.now.topology.vrfs }
         ensures told { result ≡ option_map (as_held (labels_of self.now.topology self.now.journal))
-            (best (held self.now.topology (world_of self.now.topology self.now.journal).config (world_of self.now.topology self.now.journal).peerings (edge_of self.now.topology vrf.0) vrf.0) address) }
+            (best (eligible self.now.topology (world_of self.now.topology self.now.journal) (edge_of self.now.topology vrf.0) vrf.0 address) address) }
         ensures settled { IsSettled self.now.topology (world_of self.now.topology self.now.journal) →
             result ≡ option_map (as_held (labels_of self.now.topology self.now.journal))
-            (best (routes_of self.now.topology (world_of self.now.topology self.now.journal).config (edge_of self.now.topology vrf.0) vrf.0) address) }
+            (best (eligible_of self.now.topology (world_of self.now.topology self.now.journal) (edge_of self.now.topology vrf.0) vrf.0 address) address) }
     {
         self.topology.laws();
-        self.routes.lookup(&self.topology, vrf, address)
+        if !self.topology.resolve() {
+            return self.routes.lookup(&self.topology, vrf, address);
+        }
+        let ways = self.ways_of(vrf);
+        self.routes
+            .lookup_among(&self.topology, vrf, address, &ways)
+    }
+
+    /// Of each node, by number, whether the edge of a VRF can send towards it.
+    pub fn ways_of(&self, vrf: VrfNo) -> [bool; MOST_NODES]
+        requires works { self.now.failed ≡ false }
+        requires vrf { vrf.0 < length self.now.topology.vrfs }
+        ensures { AreWays self.now.topology (world_of self.now.topology self.now.journal) (edge_of self.now.topology vrf.0) result }
+    {
+        self.topology.laws();
+        let edge = self.topology.edge_of(vrf);
+        self.transport.ways(&self.topology, edge)
+    }
+
+    /// Where the best of the resolved routes of a prefix comes from, of those that a VRF holds; `ways` are those of its edge.
+    pub fn resolved_at(&self, vrf: VrfNo, prefix: Prefix, ways: &[bool]) -> Option<Source>
+        requires works { self.now.failed ≡ false }
+        requires vrf { vrf.0 < length self.now.topology.vrfs }
+        ensures { AreWays self.now.topology (world_of self.now.topology self.now.journal) (edge_of self.now.topology vrf.0) ways.now →
+            result ≡ option_map (λ (route : HeldRoute). source_of (given self.now.topology self.now.journal) route route.source)
+            (best_for (filter (is_resolved self.now.topology (world_of self.now.topology self.now.journal) (edge_of self.now.topology vrf.0))
+            (held self.now.topology (world_of self.now.topology self.now.journal).config (world_of self.now.topology self.now.journal).peerings (edge_of self.now.topology vrf.0) vrf.0)) prefix) }
+    {
+        self.topology.laws();
+        let node = self.topology.edge_of(vrf);
+        match self.routes.edge(node) {
+            Some(edge) => edge.open_at(vrf, prefix, ways),
+            None => None,
+        }
     }
 
     /// The prefix at a place, from 0, among those that a VRF holds, with the best of its routes; prefixes go by address and

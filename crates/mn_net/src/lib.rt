@@ -24,6 +24,7 @@
 //! - `sessions`: the steps of BGP, routes and targets
 //! - `sites`: the steps that attach and detach sites
 //! - `damage`: sessions that end by a damaged message
+//! - `entry`: what becomes of a packet that a site sends, and the way out for it
 //! - `moving`: the steps that move packets, and the one that lets time go by
 //! - `next`: what comes next
 //! - `nodes`: what is told of links and of the transport of nodes
@@ -37,6 +38,7 @@
 
 mod damage;
 mod edges;
+mod entry;
 mod flight;
 mod links;
 mod made;

@@ -1,48 +1,18 @@
 //! The steps that move packets, and the one that lets time go by.
-ghost use Rattle.std.specs.Prelude.{◌≡◌, ◌<◌, ℕ, List, [], length, OnOk, OnErr};
-ghost use Rattle.mn_topo.specs.declared.steps.JournalEntry.{JournalEntry};
+ghost use Rattle.std.specs.Prelude.{[], OnOk, OnErr};
 ghost use Rattle.mn_topo.specs.declared.steps.Step.TheVariants as step;
-ghost use Rattle.mn_ledger.specs.Ledger.{world_of};
-ghost use Rattle.mn_ledger.specs.Places.{home_of};
-ghost use Rattle.mn_frames.specs.Given.{given};
-ghost use Rattle.mn_pe.specs.Entries.{IsItsFate};
-ghost use Rattle.mn_transit.specs.Entering.{IsWayOut, OuterFits};
-ghost use Rattle.mn_transport_model.specs.Stands.{IsTransport};
 ghost use Rattle.mn_net_moves.specs.Done.{MayBeDone, IsDone, HasFailed, TakesRoom};
-ghost use Rattle.mn_net_moves.specs.Bound.{IsBoundBelow};
 
+use crate::entry::enter;
 use crate::net::Net;
-use mn_base::{LinkNo, NodeNo, SiteNo};
+use mn_base::{LinkNo, SiteNo};
 use mn_flight::Clock;
-use mn_net_look::{Transport, count_frame};
-use mn_pe::Entered;
+use mn_net_look::count_frame;
 use mn_routing_model::routes_stay_as_they_were;
-use mn_topo::{Damaged, JournalEntry, Step, Topology};
+use mn_topo::{Damaged, JournalEntry, Step};
 use mn_transport_model::a_transport_goes_on_as_it_was;
 use mn_wiring::Dir;
 use std::alloc::AllocError;
-
-/// What a node knows of the way out for a packet that enters there.
-fn way_out(
-    transport: &Transport,
-    topology: &Topology,
-    node: NodeNo,
-    entered: &Entered,
-) -> Option<(NodeNo, Option<u32>)>
-    requires node { node.0 < length topology.now.loopbacks }
-    requires edge { IsBoundBelow (length topology.now.loopbacks) entered.now }
-    requires stands { (journal : List JournalEntry) × IsTransport topology.now journal transport.now }
-    ensures told { (journal : List JournalEntry) → IsTransport topology.now journal transport.now →
-        (site : ℕ) (bytes : List ℕ) → node.0 ≡ home_of topology.now site →
-        IsItsFate topology.now (given topology.now journal) (world_of topology.now journal) site bytes entered.now →
-        IsWayOut topology.now (given topology.now journal) (world_of topology.now journal) node.0 entered.now result }
-    ensures fits { OuterFits result }
-{
-    match entered {
-        Entered::Tunnel { edge, .. } => transport.outer(topology, node, *edge),
-        Entered::Drop(_) | Entered::Local(_, _) => None,
-    }
-}
 
 impl Net {
     /// A frame arrives.
@@ -143,16 +113,15 @@ impl Net {
         self.failed = true;
         self.journal.reserve(1)?;
         self.tally.reserve(1)?;
-        let entered = self.routes.enter(&self.topology, site, packet)?;
+        let entry = enter(&self.routes, &self.transport, &self.topology, site, packet)?;
         let clock = Clock {
             tick: self.tick,
             number: self.made,
         };
         let node = self.topology.home_of(site);
-        let outer = way_out(&self.transport, &self.topology, node, &entered);
         let flies = self
             .transit
-            .inject(&self.topology, node, entered, outer, clock)?;
+            .inject(&self.topology, node, entry.entered, entry.outer, clock)?;
         self.transit.laws();
         count_frame(&mut self.tally, &self.topology, &self.transit, self.made);
         self.made += u64::from(flies);

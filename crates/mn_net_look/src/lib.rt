@@ -26,5 +26,5 @@ mod sites;
 pub use first::refusal;
 pub use mn_net_refusal::{Tally, count_frame, count_static};
 pub use mn_routing::Routes;
-pub use mn_transport::Transport;
+pub use mn_transport::{MOST_NODES, Transport};
 pub use next::{coming, pending};

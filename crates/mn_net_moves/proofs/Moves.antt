@@ -2,10 +2,10 @@
 use mir.Val.{bool_byte}
 use Rattle.std.proofs.Common.{ℕ, ◌≡◌, ◌+◌, ◌*◌, ◌^◌, ◌<◌, ◌≤◌, Bool, true, false, List, [], ◌++◌, ◌∷◌, length, refl, arith, sym, ap, ◌∙◌, subst, Option}
 use Rattle.std.proofs.Common.{Some, None}
-use Rattle.std.specs.Prelude.{◌≢◌, slice_index, slice_get, nat_le, nat_lt, ◌||◌}
+use Rattle.std.specs.Prelude.{◌≢◌, ◌==◌, ◌&&◌, is_some, is_none, slice_index, slice_get, nat_le, nat_lt, ◌||◌}
 use Rattle.std.specs.List.{All}
 use Rattle.std.proofs.lemmas.Bool.Decides.{nat_tests}
-use Rattle.mn_base.proofs.Bools.{no, less_tells, at_most_tells, and_right}
+use Rattle.mn_base.proofs.Bools.{no, clash, less_tells, at_most_tells, and_right, or_true}
 use Rattle.mn_wiring.specs.Wiring.{receiver}
 use Rattle.mn_wiring.specs.declared.links.Dir.{Dir}
 use Rattle.mn_base.specs.declared.numbers.LinkNo.{LinkNo}
@@ -20,6 +20,7 @@ use Rattle.mn_topo.specs.declared.steps.Step.TheVariants.{Carry, Lose, Inject, T
 use Rattle.mn_topo.specs.declared.steps.JournalEntry.{JournalEntry}
 use Rattle.mn_topo.specs.declared.steps.Damaged.TheVariants.{Undamaged}
 use Rattle.mn_ledger.specs.World.{World}
+use Rattle.mn_ledger.specs.Transport.{known, offers, usable}
 use Rattle.mn_ledger.specs.Places.{home_of}
 use Rattle.mn_ledger.specs.Refusal.{in_flight, bytes_flying}
 use Rattle.mn_ledger.specs.Packets.{Packets, channel, flying_on, packets_after}
@@ -43,11 +44,11 @@ use Rattle.mn_vrf.specs.declared.source.Source.TheVariants.{Own, Near, Far}
 use Rattle.mn_ledger.specs.Entry.{first_rule}
 use Rattle.mn_ledger.specs.Lawful.{IsLawfulJournal}
 use Rattle.mn_ledger.specs.Packets.{entry_rules}
-use Rattle.mn_frames.specs.Entries.{IsFit, IsFall}
+use Rattle.mn_frames.specs.Entries.{IsFit, IsFall, outer_over}
 use Rattle.mn_frames.proofs.Fit.{fits_or_falls}
 use Rattle.mn_pe.specs.Edge.{Edge}
 use Rattle.mn_pe.specs.Held.{site_label}
-use Rattle.mn_pe.specs.Entries.{IsItsFate, entered_at, entered_by, route_for}
+use Rattle.mn_pe.specs.Entries.{IsItsFate, IsWayOpen, IsBoundBelow, entered_at, entered_among, entered_by, route_for, route_among}
 use Rattle.mn_pe.specs.declared.entering.Entered.{Entered}
 use Rattle.mn_pe.specs.declared.entering.Entered.TheVariants.{Drop, Local, Tunnel}
 use Rattle.mn_transit.specs.Entering.{IsWayOut, OuterFits, HasRoom, size_of}
@@ -72,7 +73,7 @@ use Rattle.mn_net_now.proofs.Counting.{counts_as_it_did, counts_frames}
 use Rattle.mn_net_now.proofs.Few.{few_sent}
 use Rattle.mn_net_now.specs.Now.{NetNow, packed_in, StandsFor, IsNet}
 use Rattle.mn_net_now.specs.Done.{IsDone, MayBeDone}
-use Rattle.mn_net_moves.specs.Bound.{IsBoundBelow}
+use Rattle.mn_net_moves.specs.Bound.{is_cut_off}
 use Rattle.mn_ledger.specs.Time.{ticks_in, clock_after}
 use Rattle.mn_topo.specs.Steps.{fits}
 use Rattle.mn_net_moves.proofs.Times.{goes_forward}
@@ -330,6 +331,28 @@ room_by b None (Some (prefix, Far address rd edge label)) = (omega arith, omega 
 pub room_at : (edge : Edge) (site : ℕ) (b : List ℕ) (entered : Entered) → entered ≡ entered_at edge site b → HasRoom entered
 room_at edge site b entered e = subst HasRoom (sym e) (room_by b (first_rule (entry_rules (site_label edge site) b)) (route_for edge site (destination_of b)))
 
+pub room_among : (edge : Edge) (ways : List Bool) (site : ℕ) (b : List ℕ) (entered : Entered) → entered ≡ entered_among edge ways site b → HasRoom entered
+room_among edge ways site b entered e =
+    subst HasRoom (sym e) (room_by b (first_rule (entry_rules (site_label edge site) b)) (route_among edge ways site (destination_of b)))
+
+-- where there is a way out, the node offers the FEC of the edge
+offers_out : (t : Network) (g : Labelling) (w : World) (node to : ℕ) (o : Option (ℕ × ℕ)) → usable t w.config w.views w.sessions node to ≡ o →
+    is_none (outer_over g to o) ≡ false → offers (wiring_of t) (known t w node) node to ≡ true
+offers_out t g w node to None e h = absurd (clash h)
+offers_out t g w node to (Some hop) e h = ap (λ p. node == to || is_some p) e ∙ or_true (node == to)
+
+-- where the topology doesn't resolve next hops, or a packet isn't cut off, the way for it is open
+pub way_open : (t : Network) (g : Labelling) (w : World) (node : ℕ) (entered : Entered) (outer : Option (NodeNo × Option ℕ)) →
+    IsWayOut t g w node entered outer → (is_cut_off entered outer && t.resolve) ≡ false → IsWayOpen t w node entered
+way_open t g w node (Drop cause) outer way h = tt
+way_open t g w node (Local to frame) outer way h = tt
+way_open t g w node (Tunnel edge frame) outer way h = λ on.
+    offers_out t g w node edge.0 (usable t w.config w.views w.sessions node edge.0) refl (ap is_none (sym way) ∙ by (is_none outer) on h)
+  where
+    by : (b : Bool) → t.resolve ≡ true → (b && t.resolve) ≡ false → b ≡ false
+    by false on h = refl
+    by true on h = absurd (clash (sym on ∙ h))
+
 no_longer : (b : List ℕ) (packet : List ℕ) → IsGood b → packet ≡ aged b 1 → length packet ≤ length b
 no_longer b packet good e =
     let cut : length packet ≡ total_length b = ap length e ∙ length-aged b 1 good in
@@ -356,7 +379,7 @@ pub inject_done : (old : NetNow) (moving : Moving) (tally : Tally) (site : SiteN
     ((inputs : List (List ℕ)) → StandsFor old inputs → bytes_in old.moving.flying ≡ bytes_flying old.topology (packets_of old.topology old.journal inputs)) →
     node.0 ≡ home_of old.topology site.0 →
     ((journal : List JournalEntry) (inputs : List (List ℕ)) → IsLawfulJournal old.topology journal inputs → IsRoutes old.topology journal old.routes →
-    IsItsFate old.topology (given old.topology journal) (world_of old.topology journal) site.0 b entered) →
+    IsTransport old.topology journal old.transport → IsItsFate old.topology (given old.topology journal) (world_of old.topology journal) site.0 b entered) →
     size_of entered ≤ length b →
     ((journal : List JournalEntry) → IsTransport old.topology journal old.transport →
     IsItsFate old.topology (given old.topology journal) (world_of old.topology journal) site.0 b entered →
@@ -383,7 +406,7 @@ inject_done old moving tally site number b node entered outer made made_now stay
     let routes : IsRoutes t (pushed es old.tick s) old.routes = stay t es old.tick s old.routes lawful refl h.routes in
     let same : world_of t (pushed es old.tick s) ≡ later_world t es s = world_from-push t es (start t) (record { tick = old.tick; step = s; damaged = Undamaged }) in
     let step = may_step old s b lawful is may ps h in
-    let is_fate = fate (pushed es old.tick s) (ps ++ b ∷ []) (lawful_more t es old.tick s b ps h.stands.each h.stands.lawful step) routes in
+    let is_fate = fate (pushed es old.tick s) (ps ++ b ∷ []) (lawful_more t es old.tick s b ps h.stands.each h.stands.lawful step) routes still in
     let on = injected t es old.tick site number b ps (packed_in old) moving made h.stands step
     (moved_as (given t (pushed es old.tick s)) (later_world t es s) (packets_now t es ps old.tick s) site number b home
     (mapped_then old s b ps lawful h step)

@@ -1,9 +1,10 @@
--- Where a packet that leaves its edge is bound to.
-use Rattle.std.specs.Prelude.{◌<◌, ℕ, ⊤}
+-- Whether a packet that leaves its edge has a way out.
+use Rattle.std.specs.Prelude.{ℕ, Bool, false, is_none, Option}
+use Rattle.mn_base.specs.declared.numbers.NodeNo.{NodeNo}
 use Rattle.mn_pe.specs.declared.entering.Entered.{Entered}
 use Rattle.mn_pe.specs.declared.entering.Entered.TheVariants.{Tunnel}
 
--- the edge is one of so many nodes
-abbrev pub IsBoundBelow : ℕ → Entered → Type 0
-IsBoundBelow nodes (Tunnel edge frame) = edge.0 < nodes
-IsBoundBelow nodes _ = ⊤
+-- it is bound to another edge, and its node has no way there
+abbrev pub is_cut_off : Entered → Option (NodeNo × Option ℕ) → Bool
+is_cut_off (Tunnel edge frame) outer = is_none outer
+is_cut_off _ outer = false

@@ -8,7 +8,7 @@
 //! - `proofs/Moves`: the steps that move packets
 //! - `proofs/Turns`: the steps of links, LDP, BGP, routes and targets; `proofs/Sites`: a site is attached or detached
 //! - `proofs/Starts`: the start; `proofs/Refused`: a refusal
-//! - `specs/Bound`: where a packet that leaves its edge is bound to
+//! - `specs/Bound`: whether a packet that leaves its edge has a way out
 //! - `proofs/Told`, `proofs/Means`: what is told of nodes, and what labels mean
 //!
 //! RFC 3031, section 3.10; RFC 5036, section 2.5; RFC 4271, section 8.2.2; RFC 4364, section 4.3.

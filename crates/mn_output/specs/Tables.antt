@@ -1,7 +1,7 @@
 -- The tables that a script asks for, over what the ledger tells of the journal so far.
-use Rattle.std.specs.Prelude.{ℕ, ◌==◌, Bool, true, false, not, nat_lt, if◌then◌else◌, List, [], ◌∷◌, ◌++◌}
+use Rattle.std.specs.Prelude.{ℕ, ◌==◌, ◌&&◌, Bool, true, false, not, nat_lt, if◌then◌else◌, List, [], ◌∷◌, ◌++◌}
 use Rattle.std.specs.Prelude.{filter, fold, length, Option, Some, None, codes}
-use Rattle.std.specs.List.{flat_map}
+use Rattle.std.specs.List.{flat_map, list_any}
 use Rattle.std.specs.Fmt.{decimal}
 use Rattle.mn_base.specs.Ordered.{with_one}
 use Rattle.mn_wiring.specs.Wiring.{View, nodes_of, links_of, link, sender, receiver}
@@ -24,6 +24,7 @@ use Rattle.mn_ledger.specs.Transport.{view_of, lives}
 use Rattle.mn_ledger.specs.Transport as transport
 use Rattle.mn_ledger.specs.Exports.{comes_before}
 use Rattle.mn_ledger.specs.Held.{HeldRoute, Source, Own, Near, Far, unbeaten, first_of, held}
+use Rattle.mn_ledger.specs.Eligible.{is_resolved, only_if}
 use Rattle.mn_ledger.specs.Bgp as ledger_bgp
 use Rattle.mn_ledger.specs.Items.{Item, Frames, items_on, flight_of}
 use Rattle.mn_ledger.specs.Ledger.{world_of}
@@ -132,8 +133,35 @@ route_line topology given v (Some route) =
     text (codes "route " ∷ vrf_name topology v ∷ codes " " ∷ prefix_text route.prefix ∷ codes " " ∷ source_text topology given route route.source
     ∷ codes "\n" ∷ [])
 
-abbrev pub route_lines : Network → Labelling → ℕ → List HeldRoute → List ℕ
-route_lines topology given v routes = flat_map (λ prefix. route_line topology given v (best_for routes prefix)) (prefixes_of routes)
+-- the mark of a route that isn't resolved; one of the edge itself always is
+abbrev pub mark_text : Source → Bool → List ℕ
+mark_text (Far address rd) true = codes " unresolved"
+mark_text (Far address rd) false = []
+mark_text Own unresolved = []
+mark_text (Near v) unresolved = []
+
+abbrev pub marked_line : Network → Labelling → ℕ → Bool → HeldRoute → List ℕ
+marked_line topology given v unresolved route =
+    text (codes "route " ∷ vrf_name topology v ∷ codes " " ∷ prefix_text route.prefix ∷ codes " " ∷ source_text topology given route route.source
+    ∷ mark_text route.source unresolved ∷ codes "\n" ∷ [])
+
+-- where the topology resolves next hops, the route's can't be reached by a label path: RFC 4271, section 9.1.2
+abbrev pub is_unresolved : Network → World → ℕ → HeldRoute → Bool
+is_unresolved topology world edge route = topology.resolve && not (is_resolved topology world edge route)
+
+-- the routes of which a prefix's best is shown: where the topology resolves next hops, and one of the prefix is resolved, those that are; else all
+abbrev pub shown_among : Network → World → ℕ → AddressBlock → List HeldRoute → List HeldRoute
+shown_among topology world edge prefix routes =
+    only_if (topology.resolve && list_any (λ (route : HeldRoute). same_prefix route.prefix prefix) (filter (is_resolved topology world edge) routes))
+    (is_resolved topology world edge) routes
+
+abbrev pub shown_line : Network → World → Labelling → ℕ → Option HeldRoute → List ℕ
+shown_line topology world given v None = []
+shown_line topology world given v (Some route) = marked_line topology given v (is_unresolved topology world (edge_of topology v) route) route
+
+abbrev pub shown_lines : Network → World → Labelling → ℕ → List HeldRoute → List ℕ
+shown_lines topology world given v routes =
+    flat_map (λ prefix. shown_line topology world given v (best_for (shown_among topology world (edge_of topology v) prefix routes) prefix)) (prefixes_of routes)
 
 abbrev pub held_in : Network → World → ℕ → List HeldRoute
 held_in topology world v = held topology world.config world.peerings (edge_of topology v) v
@@ -165,6 +193,7 @@ table_text topology entries inputs packet Links = flat_map (link_line topology (
 table_text topology entries inputs packet (Tree node) = tree_lines topology (world_of topology entries) node.0
 table_text topology entries inputs packet Ldp = flat_map (ldp_line topology (world_of topology entries)) (links_of (wiring_of topology))
 table_text topology entries inputs packet Bgp = flat_map (bgp_lines topology (world_of topology entries)) (edges topology)
-table_text topology entries inputs packet (Vrf v) = route_lines topology (given topology entries) v.0 (held_in topology (world_of topology entries) v.0)
+table_text topology entries inputs packet (Vrf v) =
+    shown_lines topology (world_of topology entries) (given topology entries) v.0 (held_in topology (world_of topology entries) v.0)
 table_text topology entries inputs packet Flight = flight_lines topology (flight_of topology entries inputs).items
 table_text topology entries inputs packet (Frame node number) = frame_line topology entries node.0 number packet

@@ -3,6 +3,7 @@ use Rattle.std.proofs.Common.{ℕ, ◌≡◌, ◌<◌, inl, inr, false, List, []
 use Rattle.std.specs.Prelude.{◌==◌, not, nat_lt, is_none, option_map, slice_index, if◌then◌else◌}
 use Rattle.mn_base.proofs.Bools.{test_same, not_true}
 use Rattle.mn_base.proofs.Members.{In, in_append, in_contained, in_map, in_filter, in_flat_map}
+use Rattle.mn_prefix.specs.Prefix.{AddressBlock}
 use Rattle.mn_drops.specs.declared.drops.Rule.{Rule}
 use Rattle.mn_drops.specs.declared.drops.Rule.TheVariants as rule
 use Rattle.mn_ipv4.specs.Header.{is_not_ipv4, is_malformed, is_truncated, has_bad_checksum, ttl_of, destination_of}
@@ -11,6 +12,8 @@ use Rattle.mn_ledger.specs.Entry.{when, first_rule, is_unicast}
 use Rattle.mn_ledger.specs.Places.{home_of, vrf_of, edges}
 use Rattle.mn_ledger.specs.World.{World, Config, Export, Peerings}
 use Rattle.mn_ledger.specs.Exports.{present_with, exports_of}
+use Rattle.mn_ledger.specs.Eligible.{eligible, is_resolved}
+use Rattle.mn_ledger.proofs.Eligible.{in_those}
 use Rattle.mn_ledger.specs.Held.{HeldRoute, held, best, own_routes, near_routes, far_routes, held_by, imported, believed}
 use Rattle.mn_ledger.specs.Held as ledger_held
 use Rattle.mn_ledger.specs.Packets.{entry_rules}
@@ -20,15 +23,16 @@ use Rattle.mn_frames.specs.Entries.{Stays, Leaves, fate, fate_by, fate_of, IsAge
 use Rattle.mn_frames.proofs.Fit.{fits_or_falls}
 use Rattle.mn_pe.specs.Edge.{Edge}
 use Rattle.mn_pe.specs.Held.{site_label}
-use Rattle.mn_pe.specs.Entries.{alone, entered_at, entered_by, entered_over, route_for, as_held, source_of, StandsAtEntry, IsItsFate}
+use Rattle.mn_vrf.specs.declared.source.Source.{Source}
+use Rattle.mn_pe.specs.Entries.{alone, entered_by, entered_over, as_held, source_of, StandsAtEntry, IsItsFate}
 
 -- a route from the edge itself leads to a site of it, and one of a peer to another edge
-abbrev IsPlaced : ℕ → ℕ → ledger_held.Source → Type 0
+abbrev pub IsPlaced : ℕ → ℕ → ledger_held.Source → Type 0
 IsPlaced edge at ledger_held.Own = at ≡ edge
 IsPlaced edge at (ledger_held.Near v) = at ≡ edge
 IsPlaced edge at (ledger_held.Far address rd) = (at == edge) ≡ false
 
-placed : (t : Network) (c : Config) (p : Peerings) (edge v : ℕ) (r : HeldRoute) → In (held t c p edge v) r → IsPlaced edge r.edge r.source
+pub placed : (t : Network) (c : Config) (p : Peerings) (edge v : ℕ) (r : HeldRoute) → In (held t c p edge v) r → IsPlaced edge r.edge r.source
 unfolding held
 placed t c p edge v r i = elim (in_append (own_routes t c edge v) _ r i) [
   | inl j ↦ let m = in_map (held_by edge ledger_held.Own) (present_with t c v []) r j in subst (λ (x : HeldRoute). IsPlaced edge x.edge x.source) m.2 refl
@@ -44,7 +48,7 @@ placed t c p edge v r i = elim (in_append (own_routes t c edge v) _ r i) [
   ]
 ]
 
-rules_same : (attachment other : Option ℕ) (bytes : List ℕ) → is_none attachment ≡ is_none other →
+pub rules_same : (attachment other : Option ℕ) (bytes : List ℕ) → is_none attachment ≡ is_none other →
     first_rule (entry_rules attachment bytes) ≡ first_rule (entry_rules other bytes)
 rules_same attachment other bytes e =
     ap (λ b. first_rule (when b rule.SiteDown ∷ when (is_not_ipv4 bytes) rule.NotIpv4 ∷ when (is_malformed bytes) rule.Malformed ∷ when
@@ -52,13 +56,13 @@ rules_same attachment other bytes e =
     ∷ when (has_bad_checksum bytes) rule.BadChecksum ∷ when (nat_lt (ttl_of bytes) 2) rule.TtlExpired ∷ when
     (not (is_unicast (destination_of bytes))) rule.NotUnicast ∷ [])) e
 
-module _ (t : Network) (g : Labelling) (w : World) (edge : Edge) (s : ℕ) (bytes : List ℕ) (stands : StandsAtEntry edge t g w s bytes)
-    (small : (i : ℕ) → slice_index bytes i < 256) where
+module _ (t : Network) (g : Labelling) (w : World) (edge : Edge) (route : Option (AddressBlock × Source)) (s : ℕ) (bytes : List ℕ)
+    (stands : StandsAtEntry edge route t g w s bytes) (small : (i : ℕ) → slice_index bytes i < 256) where
   abbrev home : ℕ
   home = home_of t s
 
   abbrev routes : List HeldRoute
-  routes = held t w.config w.peerings home (vrf_of t s)
+  routes = eligible t w home (vrf_of t s) (destination_of bytes)
 
   abbrev found : Option HeldRoute
   found = best routes (destination_of bytes)
@@ -83,15 +87,17 @@ module _ (t : Network) (g : Labelling) (w : World) (edge : Edge) (s : ℕ) (byte
   over r e f (ledger_held.Near v) p = let is = stays r e f p in (is, older r.site is)
   over r e f (ledger_held.Far address rd) p = let is = leaves r e f p in (r, is, refl, record { stack = refl; packet = refl; sound = stands.sound r is })
 
-  by_cause : (o : Option Rule) → cause ≡ o → (r : Option HeldRoute) → found ≡ r → IsItsFate t g w s bytes (entered_by bytes o (option_map (as_held g) r))
-  by_cause (Some c) e r f = ap (fate_of home found) e
-  by_cause None e None f = ap (fate_of home found) e ∙ ap (fate_by home) f
-  by_cause None e (Some r) f = over r e f r.source (placed t w.config w.peerings home (vrf_of t s) r
-      (in_contained routes r (best_is routes (destination_of bytes) r f).held))
+  by_route : cause ≡ None → (r : Option HeldRoute) → found ≡ r → IsItsFate t g w s bytes (entered_by bytes None (option_map (as_held g) r))
+  by_route e None f = ap (fate_of home found) e ∙ ap (fate_by home) f
+  by_route e (Some r) f = over r e f r.source (placed t w.config w.peerings home (vrf_of t s) r
+      (in_those _ (is_resolved t w home) (held t w.config w.peerings home (vrf_of t s)) r
+      (in_contained routes r (best_is routes (destination_of bytes) r f).held)))
 
-  pub is_its_fate : IsItsFate t g w s bytes (entered_at edge s bytes)
+  by_cause : (o : Option Rule) → cause ≡ o → IsItsFate t g w s bytes (entered_by bytes o route)
+  by_cause (Some c) e = ap (fate_of home found) e
+  by_cause None e = subst (λ r. IsItsFate t g w s bytes (entered_by bytes None r)) (sym (stands.route e)) (by_route e found refl)
+
+  pub is_its_fate : IsItsFate t g w s bytes (entered_by bytes (first_rule (entry_rules (site_label edge s) bytes)) route)
   is_its_fate =
-      subst (IsItsFate t g w s bytes)
-      (sym (ap (λ o. entered_by bytes o (route_for edge s (destination_of bytes))) (rules_same (site_label edge s) (w.config.attached s) bytes stands.attached)
-      ∙ ap (entered_by bytes cause) stands.route))
-      (by_cause cause refl found refl)
+      subst (λ o. IsItsFate t g w s bytes (entered_by bytes o route))
+      (sym (rules_same (site_label edge s) (w.config.attached s) bytes stands.attached)) (by_cause cause refl)

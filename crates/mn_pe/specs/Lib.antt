@@ -6,3 +6,5 @@ pub mod Switched
 pub mod Exports
 pub mod Start
 pub mod Entries
+pub use Rattle.mn_drops.specs.declared.drops.Rule
+pub use Rattle.mn_ipv4.specs.Header

@@ -1,14 +1,15 @@
 // What the edge says of a packet that a site sends.
-ghost use Rattle.std.specs.Prelude.{◌≡◌, ◌≤◌, ◌<◌, ◌^◌, ◌-◌, ℕ, [], IsTrue, IfOk, length, take};
+ghost use Rattle.std.specs.Prelude.{◌≡◌, ◌≤◌, ◌<◌, ◌^◌, ◌-◌, ℕ, [], None, IsTrue, IfOk, IfSome, length, take};
 ghost use Rattle.mn_ipv4.specs.Header.{good, total_length, ttl_of, aged};
 ghost use Rattle.mn_ipv4.specs.Check.{head_of};
 ghost use Rattle.mn_stack.specs.Grammar.{is_packet};
 ghost use Rattle.mn_ledger.specs.Entry.{is_unicast, header_rule};
-ghost use Rattle.mn_pe.specs.Entries.{Passes, IsFit, alone, behind, entered_over, HasLabel};
+ghost use Rattle.mn_pe.specs.Entries.{Passes, IsFit, alone, behind, entered_over, entered_by, HasLabel};
 
 use mn_base::{NodeNo, SiteNo};
 use mn_drops::Rule;
 use mn_ipv4::{Bad, Head, check};
+use mn_prefix::Prefix;
 use mn_stack::Frame;
 use mn_vrf::Source;
 use std::alloc::{AllocError, Global};
@@ -75,7 +76,7 @@ fn aged_frame(alloc: Global, packet: &[u8], head: &Head) -> Result<Frame, AllocE
 }
 
 /// What becomes of a packet with this best route.
-pub(crate) fn entered_over(
+fn entered_over(
     alloc: Global,
     packet: &[u8],
     head: &Head,
@@ -92,5 +93,22 @@ pub(crate) fn entered_over(
             frame.push(label, head.ttl - 1);
             Ok(Entered::Tunnel { edge, frame })
         }
+    }
+}
+
+/// What becomes of a packet that passes the rules on its bytes, with the best route if there is one.
+pub(crate) fn entered_by(
+    alloc: Global,
+    packet: &[u8],
+    head: &Head,
+    found: Option<(Prefix, Source)>,
+) -> Result<Entered, AllocError>
+    requires fit { IsFit packet.now head.now }
+    requires label { IfSome found (λ route. HasLabel route.1) }
+    ensures { IfOk result (λ entered. entered ≡ entered_by packet.now None found) }
+{
+    match found {
+        Some((_, source)) => entered_over(alloc, packet, head, source),
+        None => Ok(Entered::Drop(Rule::NoRoute)),
     }
 }

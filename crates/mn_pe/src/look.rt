@@ -1,7 +1,8 @@
 // What the VRF of a number holds, a site's label, and a node's loopback.
-ghost use Rattle.std.specs.Prelude.{◌≡◌, ◌+◌, ℕ, drop, slice_get, slice_index_or, None, Some, option_map};
-ghost use Rattle.mn_prefix.specs.Table.{longest_match};
+ghost use Rattle.std.specs.Prelude.{◌≡◌, ◌+◌, ℕ, drop, filter, slice_get, slice_index_or, None, Some, option_map};
+ghost use Rattle.mn_prefix.specs.Table.{longest_match, first_of};
 ghost use Rattle.mn_vrf.specs.Vrf.{Holding, heads, IsHeldAt};
+ghost use Rattle.mn_vrf.specs.Routes.{found_among, is_open, sources_of};
 ghost use Rattle.mn_pe.specs.Pe.{numbered};
 
 use mn_base::{NodeNo, SiteNo, VrfNo};
@@ -15,6 +16,40 @@ pub(crate) fn lookup_in(vrfs: &[Vrf], number: VrfNo, address: u32) -> Option<(Pr
     for vrf in vrfs {
         if vrf.number().0 == number.0 {
             return vrf.lookup(address);
+        }
+    }
+    None
+}
+
+/// The best of the open routes of the VRF of this number, and where there is none, the best of all.
+pub(crate) fn lookup_among_in(
+    vrfs: &[Vrf],
+    number: VrfNo,
+    address: u32,
+    ways: &[bool],
+) -> Option<(Prefix, Source)>
+    ensures { result ≡ numbered number.0 (λ (holding : Holding). found_among ways.now address holding.held) vrfs.now }
+{
+    for vrf in vrfs {
+        if vrf.number().0 == number.0 {
+            return vrf.lookup_among(address, ways);
+        }
+    }
+    None
+}
+
+/// Where the best of the open routes of a prefix comes from, in the VRF of this number.
+pub(crate) fn open_at_in(
+    vrfs: &[Vrf],
+    number: VrfNo,
+    prefix: Prefix,
+    ways: &[bool],
+) -> Option<Source>
+    ensures { result ≡ numbered number.0 (λ (holding : Holding). first_of (filter (is_open ways.now) (sources_of prefix holding.held))) vrfs.now }
+{
+    for vrf in vrfs {
+        if vrf.number().0 == number.0 {
+            return vrf.open_at(prefix, ways);
         }
     }
     None

@@ -1,30 +1,33 @@
 // One edge, whole.
-ghost use Rattle.std.specs.Prelude.{◌≡◌, ◌+◌, ◌↔◌, ◌<◌, ℕ, true, false, None, Some, option_map, Err, length, OnOk, OnErr, IfOk, IfErr, IsErr, slice_index, slice_index_or, slice_get};
-ghost use Rattle.mn_prefix.specs.Table.{longest_match};
+ghost use Rattle.std.specs.Prelude.{◌≡◌, ◌+◌, ◌↔◌, ◌<◌, ℕ, true, false, None, Some, option_map, Err, length, OnOk, OnErr, IfOk, IfErr, IsErr, filter, slice_index, slice_index_or, slice_get};
+ghost use Rattle.mn_vrf.specs.Routes.{found_among, is_open, sources_of};
+ghost use Rattle.mn_prefix.specs.Table.{longest_match, first_of};
 ghost use Rattle.mn_targets.specs.Targets.{target_set};
 ghost use Rattle.mn_vrf.specs.Vrf.{VrfState, heads, IsHeldAt, with_static, without_static, with_imports, with_exports, add_refused, del_refused, set_refused, refusal_of};
 ghost use Rattle.mn_pe.specs.Edge.{Edge, after_update, after_forget, after_attach, after_detach, after_vrf, vrf_of_site};
 ghost use Rattle.mn_pe.specs.Held.{held_by, exports_of};
 ghost use Rattle.mn_pe.specs.Exports.{exports_at, exports_over, export_of};
 ghost use Rattle.mn_pe.specs.Start.{edge_at_start};
-ghost use Rattle.mn_pe.specs.Entries.{entered_at, StandsAtEntry, IsItsFate};
+ghost use Rattle.mn_pe.specs.Entries.{route_for, route_among, entered_at, entered_among, StandsAtEntry, IsItsFate};
+ghost use Rattle.mn_ipv4.specs.Header.{destination_of};
 ghost use Rattle.mn_pe.specs.Pe.{PeNow, AreLabelled, found_in, is_want};
 ghost use Rattle.mn_topo.specs.Network.{Network};
 ghost use Rattle.mn_ledger.specs.World.{World};
 ghost use Rattle.mn_frames.specs.Given.{Labelling};
 
 use crate::changes::{add_in, del_in, export_in, import_in, is_want, set_label};
-use crate::entering::{entered_over, head_at_entry};
+use crate::entering::{entered_by, head_at_entry};
 use crate::export::{export_of_in, exports_at_in, exports_in, exports_over_in};
 use crate::hearing::{forget_in_all, hear_reached, hear_withdrawn};
-use crate::look::{after_in, held_in, label_at, lookup_in, loopback_at, vrf_in};
+use crate::look::{
+    after_in, held_in, label_at, lookup_among_in, lookup_in, loopback_at, open_at_in, vrf_in,
+};
 use crate::spreading::spread_present;
 use crate::start::{loopbacks_of, no_labels, nothing_heard, sites_of, vrfs_of};
 use crate::switching::{switch_export, switch_import, switch_site};
 use crate::{Entered, Export, NoMemory};
 use mn_base::{NodeNo, Rt, SiteNo, VrfNo};
 use mn_bgp_wire::Update;
-use mn_drops::Rule;
 use mn_prefix::Prefix;
 use mn_rib_in::RibIn;
 use mn_topo::Topology;
@@ -349,6 +352,21 @@ impl Pe {
         lookup_in(&self.vrfs, vrf, address)
     }
 
+    /// The best of the open routes that a VRF holds for an address, while the edge hasn't failed: own routes, those of its other VRFs,
+    /// and those of edges that are among these, by number; where there is none, the best of all. It takes no memory.
+    pub fn lookup_among(&self, vrf: VrfNo, address: u32, ways: &[bool]) -> Option<(Prefix, Source)>
+        ensures { self.now.failed ≡ false → result ≡ found_in vrf.0 (λ (state : VrfState). found_among ways.now address (held_by self.now.edge state)) self.now.edge.vrfs }
+    {
+        lookup_among_in(&self.vrfs, vrf, address, ways)
+    }
+
+    /// Where the best of the open routes of a prefix comes from that a VRF holds, while the edge hasn't failed. It takes no memory.
+    pub fn open_at(&self, vrf: VrfNo, prefix: Prefix, ways: &[bool]) -> Option<Source>
+        ensures { self.now.failed ≡ false → result ≡ found_in vrf.0 (λ (state : VrfState). first_of (filter (is_open ways.now) (sources_of prefix (held_by self.now.edge state)))) self.now.edge.vrfs }
+    {
+        open_at_in(&self.vrfs, vrf, prefix, ways)
+    }
+
     /// The held prefix of this place in a VRF, with the best of its routes, while the edge hasn't failed. It takes no memory.
     pub fn held(&self, vrf: VrfNo, k: u32) -> Option<(Prefix, Source)>
         ensures { self.now.failed ≡ false → result ≡ found_in vrf.0 (λ (state : VrfState). slice_get (heads (held_by self.now.edge state)) k) self.now.edge.vrfs }
@@ -376,13 +394,32 @@ impl Pe {
         ensures answer { IfOk result (λ entered. entered ≡ entered_at self.now.edge site.0 packet.now) }
         // Where the edge stands for the ledger's world, it is the ledger's fate of the packet.
         ensures fate { IfOk result (λ entered. (topology : Network) (given : Labelling) (world : World) →
-            StandsAtEntry self.now.edge topology given world site.0 packet.now → IsItsFate topology given world site.0 packet.now entered) }
+            StandsAtEntry self.now.edge (route_for self.now.edge site.0 (destination_of packet.now)) topology given world site.0 packet.now → IsItsFate topology given world site.0 packet.now entered) }
         ensures failed { self.now.failed ≡ true → IsErr result }
     {
         if self.failed {
             return Err(NoMemory);
         }
         self.entered(site, packet)
+    }
+
+    /// The same where the open routes come first: own ones, those of the edge's other VRFs, and those of edges that are among these,
+    /// by number.
+    pub fn enter_among(
+        &self,
+        site: SiteNo,
+        packet: &[u8],
+        ways: &[bool],
+    ) -> Result<Entered, NoMemory>
+        ensures answer { IfOk result (λ entered. entered ≡ entered_among self.now.edge ways.now site.0 packet.now) }
+        ensures fate { IfOk result (λ entered. (topology : Network) (given : Labelling) (world : World) →
+            StandsAtEntry self.now.edge (route_among self.now.edge ways.now site.0 (destination_of packet.now)) topology given world site.0 packet.now → IsItsFate topology given world site.0 packet.now entered) }
+        ensures failed { self.now.failed ≡ true → IsErr result }
+    {
+        if self.failed {
+            return Err(NoMemory);
+        }
+        self.entered_among(site, packet, ways)
     }
 
     /// By the first rule that applies, and then by the best route.
@@ -395,10 +432,25 @@ impl Pe {
             Ok(head) => head,
             Err(rule) => return Ok(Entered::Drop(rule)),
         };
-        let Some((_, source)) = self.lookup(self.vrf_of(site), head.destination) else {
-            return Ok(Entered::Drop(Rule::NoRoute));
+        let found = self.lookup(self.vrf_of(site), head.destination);
+        let Ok(entered) = entered_by(self.alloc, packet, &head, found) else {
+            return Err(NoMemory);
         };
-        let Ok(entered) = entered_over(self.alloc, packet, &head, source) else {
+        Ok(entered)
+    }
+
+    /// By the first rule that applies, and then by the best of the open routes.
+    fn entered_among(&self, site: SiteNo, packet: &[u8], ways: &[bool]) -> Result<Entered, NoMemory>
+        requires works { self.now.failed ≡ false }
+        ensures answer { IfOk result (λ entered. entered ≡ entered_among self.now.edge ways.now site.0 packet.now) }
+        ensures bytes { (i : ℕ) → slice_index packet.now i < 256 }
+    {
+        let head = match head_at_entry(self.attached(site), packet) {
+            Ok(head) => head,
+            Err(rule) => return Ok(Entered::Drop(rule)),
+        };
+        let found = self.lookup_among(self.vrf_of(site), head.destination, ways);
+        let Ok(entered) = entered_by(self.alloc, packet, &head, found) else {
             return Err(NoMemory);
         };
         Ok(entered)

@@ -10,7 +10,10 @@ fn head(alloc: Global, topology: &Topology) -> Answer {
     let asn = topology.asn();
     let notice = topology.notice_delay();
     let bgp = topology.bgp_delay();
-    Ok(Some(format!(in alloc; "as {asn}, notice_delay {notice}, bgp_delay {bgp}")?))
+    let resolve = topology.resolve();
+    Ok(Some(format!(in alloc;
+        "as {asn}, notice_delay {notice}, bgp_delay {bgp}, resolve {resolve}"
+    )?))
 }
 
 /// An entry by its kind and its number from 0.

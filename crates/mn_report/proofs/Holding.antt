@@ -1,7 +1,9 @@
 -- Each prefix that a VRF holds has a best route.
 use Rattle.std.proofs.Common.{◌≡◌, ◌<◌, ◌≤◌, ℕ, zero, suc, inl, inr, Bool, true, List, [], ◌∷◌, length, Some, None, refl, ap, sym, ◌∙◌}
 use Rattle.std.proofs.Common.{subst, arith}
-use Rattle.std.specs.Prelude.{◌==◌, map, filter, fold, slice_get, nat_le, if◌then◌else◌}
+use Rattle.std.specs.Prelude.{◌==◌, not, map, filter, fold, slice_get, nat_le, if◌then◌else◌}
+use Rattle.std.specs.List.{list_any}
+use Rattle.std.proofs.lemmas.Option.{same_Some}
 use Rattle.mn_base.specs.Ordered.{with_one}
 use Rattle.mn_base.proofs.Bools.{two_ways, and_on, same_test, at_most_tells, not_at_most_tells}
 use Rattle.mn_base.proofs.Members.{In, in_map, in_filter, filter_in}
@@ -9,7 +11,7 @@ use Rattle.mn_base.proofs.Kept.{fold_in}
 use Rattle.mn_prefix.specs.Prefix.{AddressBlock, same_prefix, contains, first_bits}
 use Rattle.mn_prefix.proofs.Tables.{same_exact}
 use Rattle.mn_ledger.specs.Exports.{comes_before}
-use Rattle.mn_ledger.specs.Held.{HeldRoute, matching, unbeaten, first_of}
+use Rattle.mn_ledger.specs.Held.{HeldRoute, matching, unbeaten, first_of, is_better}
 use Rattle.mn_ledger.proofs.Choice.{none_matches}
 use Rattle.mn_net.specs.Tables.{prefixes_of, best_for, best_at}
 
@@ -33,14 +35,27 @@ prefix_in routes prefix i =
       | inr there ↦ there
     ]
 
-same_as_itself : (p q : AddressBlock) → p ≡ q → same_prefix p q ≡ true
+pub same_as_itself : (p q : AddressBlock) → p ≡ q → same_prefix p q ≡ true
 same_as_itself p q is = ap (same_prefix p) (sym is) ∙ and_on (p.address == p.address) (p.length == p.length) (same_test p.address) (same_test p.length)
 
 contains_itself : (p : AddressBlock) → contains p p.address ≡ true
 contains_itself p = same_test (first_bits p.length p.address)
 
+first_in : (xs : List HeldRoute) (x : HeldRoute) → first_of xs ≡ Some x → In xs x
+first_in [] x is = absurd (let none : None ≡ Some x → ⊥ = (λ e. cc) in none is)
+first_in (y ∷ ys) x is = inl (same_Some y x is)
+
+-- the best route of a prefix is one of the routes, and has it
+pub best_has : (routes : List HeldRoute) (prefix : AddressBlock) (x : HeldRoute) → best_for routes prefix ≡ Some x → In routes x × (x.prefix ≡ prefix)
+best_has routes prefix x is =
+    let ys : List HeldRoute = filter (λ (route : HeldRoute). same_prefix route.prefix prefix) routes in
+    let its =
+    in_filter (λ (route : HeldRoute). same_prefix route.prefix prefix) routes x
+    (in_filter (λ route. not (list_any (λ other. is_better other route) ys)) ys x (first_in (unbeaten ys) x is)).0 in
+    (its.0, same_exact x.prefix prefix its.1)
+
 -- no prefix of a route is without a best route
-none_best : (routes : List HeldRoute) (prefix : AddressBlock) → In (map (λ (route : HeldRoute). route.prefix) routes) prefix → best_for routes prefix ≡ None → ⊥
+pub none_best : (routes : List HeldRoute) (prefix : AddressBlock) → In (map (λ (route : HeldRoute). route.prefix) routes) prefix → best_for routes prefix ≡ None → ⊥
 none_best routes prefix i none =
     let ys : List HeldRoute = filter (λ (route : HeldRoute). same_prefix route.prefix prefix) routes in
     let found = in_map (λ (route : HeldRoute). route.prefix) routes prefix i in

@@ -5,3 +5,4 @@ pub mod Routed
 pub mod PacketLines
 pub mod Holding
 pub mod Frames
+pub mod Showing

@@ -1,6 +1,6 @@
 -- The routes that a VRF holds, one after another.
-use Rattle.std.proofs.Common.{◌≡◌, ◌<◌, ℕ, zero, suc, List, [], ◌∷◌, length, get_or, Option, Some, None, refl, ap, sym, arith}
-use Rattle.std.specs.Prelude.{slice_get, option_map}
+use Rattle.std.proofs.Common.{◌≡◌, ◌<◌, ℕ, zero, suc, Bool, List, [], ◌∷◌, length, get_or, Option, Some, None, refl, ap, sym, ◌∙◌, arith}
+use Rattle.std.specs.Prelude.{codes, slice_get, option_map}
 use Rattle.mn_prefix.specs.Prefix.{AddressBlock}
 use Rattle.mn_vrf.specs.declared.source.Source.{Source}
 use Rattle.mn_vrf.specs.declared.source.Source.TheVariants as from
@@ -14,7 +14,13 @@ use Rattle.mn_base.specs.declared.numbers.Rd.{Rd}
 use Rattle.mn_pe.specs.Entries.{as_held, source_of}
 use Rattle.mn_net.specs.Tables.{prefixes_of, best_for, best_at, held_at}
 use Rattle.mn_topo.specs.Network.{Network}
-use Rattle.mn_output.specs.Tables.{route_line}
+use Rattle.mn_ledger.specs.World.{World}
+use Rattle.mn_ledger.specs.Places.{edge_of}
+use Rattle.mn_output.specs.Tables.{vrf_name, source_text, mark_text, route_line, marked_line, shown_among, shown_line}
+use Rattle.mn_text.specs.Addresses.{prefix_text}
+use Rattle.mn_lines.specs.Lines.{text}
+use Rattle.mn_report.specs.Routes.{IsShown}
+use Rattle.mn_report.proofs.Holding.{best_has}
 
 -- 1. A source tells the ledger's
 
@@ -85,11 +91,25 @@ is_far given route loopback rd edge label is =
     let all = far_by given route route.source loopback rd edge label is in
     record { address = all.0; rd = all.1; source_is = all.2; edge_is = all.3; label_is = all.4 }
 
+-- a route of the edge itself has no mark
+module _ (topology : Network) (given : Labelling) (v : ℕ) (unresolved : Bool) (route : HeldRoute) where
+  abbrev with_mark : List ℕ → List ℕ
+  with_mark mark =
+      text (codes "route " ∷ vrf_name topology v ∷ codes " " ∷ prefix_text route.prefix ∷ codes " " ∷ source_text topology given route route.source
+      ∷ mark ∷ codes "\n" ∷ [])
+
+  pub own_line : route.source ≡ ledger_held.Own → route_line topology given v (Some route) ≡ marked_line topology given v unresolved route
+  own_line is = ap with_mark (sym (ap (λ s. mark_text s unresolved) is))
+
+  pub near_line : (other : ℕ) → route.source ≡ ledger_held.Near other → route_line topology given v (Some route) ≡ marked_line topology given v unresolved route
+  near_line other is = ap with_mark (sym (ap (λ s. mark_text s unresolved) is))
+
 -- 2. The route at a place
 
--- the line at a place
-abbrev pub line_at : Network → Labelling → ℕ → List HeldRoute → AddressBlock → List ℕ
-line_at topology given v routes prefix = route_line topology given v (best_for routes prefix)
+-- the line of a prefix
+abbrev pub line_at : Network → World → Labelling → ℕ → List HeldRoute → AddressBlock → List ℕ
+line_at topology world given v routes prefix =
+    shown_line topology world given v (best_for (shown_among topology world (edge_of topology v) prefix routes) prefix)
 
 -- the prefix at a place that holds something
 pub record HeldThere (given : Labelling) (routes : List HeldRoute) (place : ℕ) (prefix : AddressBlock) (source : Source) : Type 0 where
@@ -129,11 +149,25 @@ held_there given routes place prefix source is =
     let there = at_place routes (prefixes_of routes) place found.0 found.1 in
     record { route = found.0; below = there.0; best = there.1; prefix_is = found.2; source_is = found.3 }
 
+-- it is the one at that place
+pub prefix_there : (given : Labelling) (routes : List HeldRoute) (place : ℕ) (prefix : AddressBlock) (source : Source) →
+    (there : HeldThere given routes place prefix source) → get_or (prefixes_of routes) place (record { address = 0; length = 0 }) ≡ prefix
+prefix_there given routes place prefix source there =
+    sym (best_has routes (get_or (prefixes_of routes) place (record { address = 0; length = 0 })) there.route there.best).1 ∙ sym there.prefix_is
+
+pub best_there : (given : Labelling) (routes : List HeldRoute) (place : ℕ) (prefix : AddressBlock) (source : Source) →
+    (there : HeldThere given routes place prefix source) → best_for routes prefix ≡ Some there.route
+best_there given routes place prefix source there = ap (best_for routes) (sym (prefix_there given routes place prefix source there)) ∙ there.best
+
 -- the text of a route that is put is the line at its place
-pub line_is : (topology : Network) (given : Labelling) (v : ℕ) (routes : List HeldRoute) (place : ℕ) (prefix : AddressBlock) (source : Source)
-    → (there : HeldThere given routes place prefix source)
-    → route_line topology given v (Some there.route) ≡ line_at topology given v routes (get_or (prefixes_of routes) place (record { address = 0; length = 0 }))
-line_is topology given v routes place prefix source there = ap (route_line topology given v) (sym there.best)
+pub line_is : (topology : Network) (world : World) (given : Labelling) (v : ℕ) (routes : List HeldRoute) (place : ℕ) (prefix : AddressBlock)
+    (held source : Source) (unresolved : Bool) → (there : HeldThere given routes place prefix held)
+    → (shown : IsShown topology world given v routes prefix source unresolved) → marked_line topology given v unresolved shown.route
+    ≡ line_at topology world given v routes (get_or (prefixes_of routes) place (record { address = 0; length = 0 }))
+line_is topology world given v routes place prefix held source unresolved there shown =
+    ap (λ b. marked_line topology given v b shown.route) shown.mark_is
+    ∙ ap (shown_line topology world given v) (sym shown.best)
+    ∙ ap (line_at topology world given v routes) (sym (prefix_there given routes place prefix held there))
 
 pub nothing_held : (given : Labelling) (routes : List HeldRoute) (place : ℕ) → None ≡ option_map (as_held given) (held_at routes place) →
     held_at routes place ≡ None

@@ -2,3 +2,4 @@ pub mod Rows
 pub mod Shown
 pub mod Packets
 pub mod Frames
+pub mod Routes

@@ -4,8 +4,11 @@ ghost use Rattle.mn_text.specs.Addresses.{prefix_text};
 ghost use Rattle.mn_ledger.specs.Held.{HeldRoute};
 ghost use Rattle.mn_ledger.specs.Ledger.{world_of};
 ghost use Rattle.mn_frames.specs.Given.{Labelling, given};
-ghost use Rattle.mn_pe.specs.Entries.{as_held, source_of};
-ghost use Rattle.mn_output.specs.Tables.{route_line, route_lines, held_in};
+ghost use Rattle.mn_pe.specs.Entries.{source_of};
+ghost use Rattle.mn_ledger.specs.Places.{edge_of};
+ghost use Rattle.mn_frames.specs.Entries.{AreWays};
+ghost use Rattle.mn_output.specs.Tables.{best_for, marked_line, shown_lines, held_in};
+ghost use Rattle.mn_report.specs.Routes.{IsShown};
 ghost use Rattle.mn_tables.specs.Telling.{standing, Tells};
 
 use mn_base::VrfNo;
@@ -18,6 +21,13 @@ use mn_text::put_prefix;
 use mn_topo::Topology;
 use mn_vrf::Source;
 
+/// The route that is shown of a prefix: where it comes from, and whether it isn't resolved though next hops are to be.
+#[derive(Clone, Copy)]
+struct Shown {
+    source: Source,
+    unresolved: bool,
+}
+
 /// Puts the line of a route from a source. The prefix comes as its text.
 fn put_from<O: Sink>(
     out: &mut O,
@@ -25,24 +35,33 @@ fn put_from<O: Sink>(
     topology: &Topology,
     vrf: VrfNo,
     prefix: &[u8],
-    source: Source,
+    shown: Shown,
 ) -> Result<(), DeviceBad>
-    ensures { (given : Labelling) (route : HeldRoute) → prefix.now ≡ prefix_text route.prefix → source ≡ source_of given route route.source →
-        Tells (route_line topology.now given vrf.0 (Some route))
+    ensures { (given : Labelling) (route : HeldRoute) → prefix.now ≡ prefix_text route.prefix → shown.source ≡ source_of given route route.source →
+        Tells (marked_line topology.now given vrf.0 shown.unresolved route)
         (standing page.old (O.written out.old) (O.faults out.old)) (standing page.new (O.written out.new) (O.faults out.new)) result }
 {
-    match source {
+    match shown.source {
         Source::Own(site) => put_own_route(out, page, topology, vrf, prefix, site),
         Source::Near(other, site) => {
             put_near_route(out, page, topology, vrf, prefix, other, site)
         }
         Source::Far { edge, label, .. } => {
-            put_far_route(out, page, topology, vrf, prefix, edge, label)
+            put_far_route(
+                out,
+                page,
+                topology,
+                vrf,
+                prefix,
+                edge,
+                label,
+                shown.unresolved,
+            )
         }
     }
 }
 
-/// Puts the line of the best route of a prefix. `line` is written anew.
+/// Puts the line of the route that is shown of a prefix. `line` is written anew.
 fn put_route<O: Sink>(
     out: &mut O,
     page: &mut Page,
@@ -50,18 +69,47 @@ fn put_route<O: Sink>(
     topology: &Topology,
     vrf: VrfNo,
     prefix: Prefix,
-    source: Source,
+    shown: Shown,
 ) -> Result<(), DeviceBad>
-    ensures { (given : Labelling) (route : HeldRoute) → prefix ≡ route.prefix → source ≡ source_of given route route.source →
-        Tells (route_line topology.now given vrf.0 (Some route))
+    ensures { (given : Labelling) (route : HeldRoute) → prefix ≡ route.prefix → shown.source ≡ source_of given route route.source →
+        Tells (marked_line topology.now given vrf.0 shown.unresolved route)
         (standing page.old (O.written out.old) (O.faults out.old)) (standing page.new (O.written out.new) (O.faults out.new)) result }
 {
     line.clear();
     put_prefix(line, prefix)?;
-    put_from(out, page, topology, vrf, line.as_slice(), source)
+    put_from(out, page, topology, vrf, line.as_slice(), shown)
 }
 
-/// Puts the lines of the best routes of all prefixes that a VRF holds, in order.
+/// What is shown of a prefix that a VRF holds, whose best route comes from this source: where next hops are to be resolved, the best of its
+/// resolved routes; where there is none, the best of all, as unresolved. `ways` are those of the VRF's edge.
+fn shown_of(net: &Net, vrf: VrfNo, prefix: Prefix, source: Source, ways: &[bool]) -> Shown
+    requires works { net.now.failed ≡ false }
+    requires vrf { vrf.0 < length net.now.topology.vrfs }
+    ensures { AreWays net.now.topology (world_of net.now.topology net.now.journal) (edge_of net.now.topology vrf.0) ways.now →
+        (route : HeldRoute) → best_for (held_in net.now.topology (world_of net.now.topology net.now.journal) vrf.0) prefix ≡ Some route → prefix ≡ route.prefix →
+        source ≡ source_of (given net.now.topology net.now.journal) route route.source →
+        IsShown net.now.topology (world_of net.now.topology net.now.journal) (given net.now.topology net.now.journal) vrf.0
+        (held_in net.now.topology (world_of net.now.topology net.now.journal) vrf.0) prefix result.source result.unresolved }
+{
+    if !net.topology().resolve() {
+        return Shown {
+            source,
+            unresolved: false,
+        };
+    }
+    match net.resolved_at(vrf, prefix, ways) {
+        Some(source) => Shown {
+            source,
+            unresolved: false,
+        },
+        None => Shown {
+            source,
+            unresolved: true,
+        },
+    }
+}
+
+/// Puts the lines of the routes that are shown of all prefixes that a VRF holds, in order.
 pub(crate) fn put_routes<O: Sink>(
     out: &mut O,
     page: &mut Page,
@@ -71,15 +119,17 @@ pub(crate) fn put_routes<O: Sink>(
 ) -> Result<(), DeviceBad>
     requires works { net.now.failed ≡ false }
     requires vrf { vrf.0 < length net.now.topology.vrfs }
-    ensures { Tells (route_lines net.now.topology (given net.now.topology net.now.journal) vrf.0 (held_in net.now.topology (world_of net.now.topology net.now.journal) vrf.0))
+    ensures { Tells (shown_lines net.now.topology (world_of net.now.topology net.now.journal) (given net.now.topology net.now.journal) vrf.0 (held_in net.now.topology (world_of net.now.topology net.now.journal) vrf.0))
         (standing page.old (O.written out.old) (O.faults out.old)) (standing page.new (O.written out.new) (O.faults out.new)) result }
 {
+    let ways = net.ways_of(vrf);
     let mut route = net.held(vrf, 0);
     for _ in 0..u32::MAX {
         match route {
             None => return Ok(()),
             Some(found) => {
-                put_route(out, page, line, net.topology(), vrf, found.0, found.1)?;
+                let shown = shown_of(net, vrf, found.0, found.1, &ways);
+                put_route(out, page, line, net.topology(), vrf, found.0, shown)?;
                 route = net.held_after(vrf, found.0);
             }
         }

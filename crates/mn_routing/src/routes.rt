@@ -1,16 +1,19 @@
 //! The routes, and what its edges and sessions are.
-ghost use Rattle.std.specs.Prelude.{◌≡◌, ◌<◌, ℕ, List, None, [], length, is_some, option_map, slice_index, slice_index_or, IfOk};
+ghost use Rattle.std.specs.Prelude.{◌≡◌, ◌<◌, ℕ, true, List, None, [], length, is_some, option_map, slice_index, slice_index_or, IfOk};
 ghost use Rattle.mn_topo.specs.Network.{Network};
 ghost use Rattle.mn_ledger.specs.World.{World};
 ghost use Rattle.mn_topo.specs.declared.steps.JournalEntry.{JournalEntry};
-ghost use Rattle.mn_ledger.specs.Places.{edge_of};
+ghost use Rattle.mn_ledger.specs.Places.{edge_of, home_of};
 ghost use Rattle.mn_ledger.specs.Held.{held, best};
 ghost use Rattle.mn_ledger.specs.Ledger.{world_of};
 ghost use Rattle.mn_ledger.specs.Lawful.{IsLawfulJournal};
+ghost use Rattle.mn_ledger.specs.Eligible.{eligible};
 ghost use Rattle.mn_frames.specs.Given.{Labelling, given};
+ghost use Rattle.mn_frames.specs.Entries.{AreWays};
+ghost use Rattle.mn_pe.specs.Header.{destination_of};
 ghost use Rattle.mn_frames.specs.Numbers.{labels_of};
 ghost use Rattle.mn_pe.specs.Edge.{Edge};
-ghost use Rattle.mn_pe.specs.Entries.{IsItsFate, StandsAtEntry, entered_at};
+ghost use Rattle.mn_pe.specs.Entries.{IsItsFate, StandsAtEntry, IsWayOpen, IsBoundBelow, route_for, route_among, entered_at, entered_among};
 ghost use Rattle.mn_routing_model.specs.Sources.{as_held};
 ghost use Rattle.mn_routing_model.specs.Routed.{IsRoutes};
 ghost use Rattle.mn_routing_model.specs.Sending.{bgp_state_by};
@@ -65,11 +68,29 @@ impl Model for Routes {
 /// What becomes of a packet that a site of an edge sends.
 fn enter_at(pe: &Pe, site: SiteNo, packet: &[u8]) -> Result<Entered, AllocError>
     ensures fate { IfOk result (λ entered. (topology : Network) (given : Labelling) (world : World) →
-        StandsAtEntry pe.now.edge topology given world site.0 packet.now → IsItsFate topology given world site.0 packet.now entered) }
+        StandsAtEntry pe.now.edge (route_for pe.now.edge site.0 (destination_of packet.now)) topology given world site.0 packet.now → IsItsFate topology given world site.0 packet.now entered) }
     ensures answer { IfOk result (λ entered. entered ≡ entered_at pe.now.edge site.0 packet.now) }
     ensures bytes { (i : ℕ) → slice_index packet.now i < 256 }
 {
     match pe.enter(site, packet) {
+        Ok(entered) => Ok(entered),
+        Err(_) => Err(AllocError),
+    }
+}
+
+/// The same by the routes that are open first.
+fn enter_among_at(
+    pe: &Pe,
+    site: SiteNo,
+    packet: &[u8],
+    ways: &[bool],
+) -> Result<Entered, AllocError>
+    ensures fate { IfOk result (λ entered. (topology : Network) (given : Labelling) (world : World) →
+        StandsAtEntry pe.now.edge (route_among pe.now.edge ways.now site.0 (destination_of packet.now)) topology given world site.0 packet.now → IsItsFate topology given world site.0 packet.now entered) }
+    ensures answer { IfOk result (λ entered. entered ≡ entered_among pe.now.edge ways.now site.0 packet.now) }
+    ensures bytes { (i : ℕ) → slice_index packet.now i < 256 }
+{
+    match pe.enter_among(site, packet, ways) {
         Ok(entered) => Ok(entered),
         Err(_) => Err(AllocError),
     }
@@ -130,7 +151,30 @@ impl Routes {
         pe.lookup(vrf, address)
     }
 
-    /// What becomes of a packet that a site sends. The packet is copied once, cut to its total length.
+    /// The best of the routes that take part where the topology resolves next hops, by the nodes towards which the VRF's edge can send.
+    pub fn lookup_among(
+        &self,
+        topology: &Topology,
+        vrf: VrfNo,
+        address: u32,
+        ways: &[bool],
+    ) -> Option<(Prefix, Source)>
+        requires vrf { vrf.0 < length topology.now.vrfs }
+        requires stands { (journal : List JournalEntry) × IsRoutes topology.now journal self.now }
+        ensures best { topology.now.resolve ≡ true → (journal : List JournalEntry) (inputs : List (List ℕ)) → IsLawfulJournal topology.now journal inputs → IsRoutes topology.now journal self.now →
+            AreWays topology.now (world_of topology.now journal) (edge_of topology.now vrf.0) ways.now →
+            result ≡ option_map (as_held (labels_of topology.now journal)) (best (eligible topology.now (world_of topology.now journal) (edge_of topology.now vrf.0) vrf.0 address) address) }
+    {
+        topology.laws();
+        let home = topology.edge_of(vrf);
+        let Some(pe) = self.edge(home) else {
+            unreachable!()
+        };
+        pe.lookup_among(vrf, address, ways)
+    }
+
+    /// What becomes of a packet that a site sends, by the best route of all: it is the packet's fate where the way there is open, or the
+    /// topology doesn't resolve next hops. The packet is copied once, cut to its total length.
     pub fn enter(
         &self,
         topology: &Topology,
@@ -140,7 +184,10 @@ impl Routes {
         requires site { site.0 < length topology.now.sites }
         requires stands { (journal : List JournalEntry) × IsRoutes topology.now journal self.now }
         ensures fate { IfOk result (λ entered. (journal : List JournalEntry) (inputs : List (List ℕ)) → IsLawfulJournal topology.now journal inputs → IsRoutes topology.now journal self.now →
+            IsWayOpen topology.now (world_of topology.now journal) (home_of topology.now site.0) entered →
             IsItsFate topology.now (given topology.now journal) (world_of topology.now journal) site.0 packet.now entered) }
+        ensures node { (journal : List JournalEntry) (inputs : List (List ℕ)) → IsLawfulJournal topology.now journal inputs → IsRoutes topology.now journal self.now →
+            IfOk result (λ entered. IsBoundBelow (length topology.now.loopbacks) entered) }
         ensures answer { IfOk result (λ entered. (edge : Edge) × (entered ≡ entered_at edge site.0 packet.now)) }
     {
         topology.laws();
@@ -149,5 +196,29 @@ impl Routes {
             unreachable!()
         };
         enter_at(pe, site, packet)
+    }
+
+    /// The same where the topology resolves next hops, by the best of the routes that take part: it is the packet's fate where `ways` are
+    /// the nodes towards which its edge can send.
+    pub fn enter_among(
+        &self,
+        topology: &Topology,
+        site: SiteNo,
+        packet: &[u8],
+        ways: &[bool],
+    ) -> Result<Entered, AllocError>
+        requires site { site.0 < length topology.now.sites }
+        requires stands { (journal : List JournalEntry) × IsRoutes topology.now journal self.now }
+        ensures fate { topology.now.resolve ≡ true → IfOk result (λ entered. (journal : List JournalEntry) (inputs : List (List ℕ)) → IsLawfulJournal topology.now journal inputs → IsRoutes topology.now journal self.now →
+            AreWays topology.now (world_of topology.now journal) (home_of topology.now site.0) ways.now →
+            IsItsFate topology.now (given topology.now journal) (world_of topology.now journal) site.0 packet.now entered) }
+        ensures answer { IfOk result (λ entered. (edge : Edge) × (entered ≡ entered_among edge ways.now site.0 packet.now)) }
+    {
+        topology.laws();
+        let home = topology.home_of(site);
+        let Some(pe) = self.edge(home) else {
+            unreachable!()
+        };
+        enter_among_at(pe, site, packet, ways)
     }
 }

@@ -7,13 +7,16 @@ use Rattle.std.proofs.lemmas.Option.{same_Some}
 use Rattle.mn_base.proofs.Bools.{same_test}
 use Rattle.mn_base.proofs.Members.{In, in_filter, contained_in}
 use Rattle.mn_prefix.specs.Prefix.{AddressBlock, contains}
-use Rattle.mn_prefix.specs.Table.{longest_match}
 use Rattle.mn_ipv4.specs.Header.{destination_of}
 use Rattle.mn_topo.specs.Network.{Network}
 use Rattle.mn_topo.specs.Lawful.{IsLawful}
 use Rattle.mn_topo.specs.declared.steps.JournalEntry.{JournalEntry}
 use Rattle.mn_ledger.specs.Places.{home_of, edge_of, vrf_of}
 use Rattle.mn_ledger.specs.World.{World}
+use Rattle.mn_ledger.specs.Entry.{first_rule}
+use Rattle.mn_ledger.specs.Packets.{entry_rules}
+use Rattle.mn_ledger.specs.Eligible.{eligible, is_resolved}
+use Rattle.mn_ledger.proofs.Eligible.{in_those}
 use Rattle.mn_ledger.specs.Held.{HeldRoute, held, best, first_of, unbeaten, matching, is_better}
 use Rattle.mn_ledger.specs.Held as ledger_held
 use Rattle.mn_ledger.specs.Ledger.{world_of}
@@ -25,17 +28,12 @@ use Rattle.mn_frames.proofs.Anew.{gives_to_no_other}
 use Rattle.mn_frames.proofs.Named.{all_have_labels, leaves_sound}
 use Rattle.mn_bgp_spelling.specs.Spelling.{Labels}
 use Rattle.mn_vrf.specs.declared.source.Source.{Source}
-use Rattle.mn_vrf.specs.Vrf.{VrfState}
-use Rattle.mn_pe.specs.Held.{held_by, far_over}
+use Rattle.mn_pe.specs.Held.{site_label, far_over}
 use Rattle.mn_pe.specs.Entries as entry
-use Rattle.mn_pe.specs.Entries.{StandsAtEntry, route_for}
-use Rattle.mn_pe.specs.Pe.{found_in}
+use Rattle.mn_pe.specs.Entries.{StandsAtEntry}
 use Rattle.mn_routing_model.specs.Sources.{as_held, source_from}
 use Rattle.mn_routing_model.specs.Standing.{site_label_now, edge_in}
 use Rattle.mn_routing_model.proofs.Tables.{map_numbers_at}
-use Rattle.mn_routing_model.proofs.Lawful.{finds_best}
-use Rattle.mn_routing_model.proofs.News.{vrf_of_site_is}
-use Rattle.mn_routing_model.proofs.Refusing.{found}
 
 no_none : {A B : Type 0} (f : A → B) (o : Option A) → is_none (option_map f o) ≡ is_none o
 no_none f None = refl
@@ -80,27 +78,34 @@ module _ (t : Network) (lawful : IsLawful t) (es : List JournalEntry) (ps : List
       let there = (all_have_labels t es ps lawful journal).held v route below (contained_in (held t w.config w.peerings (edge_of t v) v) route i) in
       ap (λ e. label_at (given t es) e route.site route.attachment) (gives_to_no_other t es ps route.edge route.site route.attachment journal there).home
 
-  best_as : (v address : ℕ) → v < length t.vrfs → (o : Option HeldRoute) → best (held t w.config w.peerings (edge_of t v) v) address ≡ o →
+  best_as : (v address : ℕ) → v < length t.vrfs → (o : Option HeldRoute) → best (eligible t w (edge_of t v) v address) address ≡ o →
       option_map (as_held l) o ≡ option_map (entry.as_held (given t es)) o
   best_as v address below None e = refl
   best_as v address below (Some route) e =
-      ap (λ x. Some x) (held_as route (label_is v route below (best_in (held t w.config w.peerings (edge_of t v) v) address route e)))
+      ap (λ x. Some x) (held_as route (label_is v route below
+      (in_those _ (is_resolved t w (edge_of t v)) (held t w.config w.peerings (edge_of t v) v) route
+      (best_in (eligible t w (edge_of t v) v address) address route e))))
 
-  pub stands_at_entry : (site : ℕ) (bytes : List ℕ) → site < length t.sites → ((i : ℕ) → slice_index bytes i < 256)
-      → StandsAtEntry (edge_in t l w.config w.peerings (home_of t site)) t (given t es) w site bytes
-  stands_at_entry site bytes there small =
+  -- its site has a label while it is attached
+  pub attached_so : (site : ℕ) → site < length t.sites →
+      is_none (site_label (edge_in t l w.config w.peerings (home_of t site)) site) ≡ is_none (w.config.attached site)
+  attached_so site there =
+      ap is_none (map_numbers_at (site_label_now t l w.config (home_of t site)) (length t.sites) site None there
+      ∙ ap (λ b. if b then option_map (l site) (w.config.attached site) else None) (same_test (home_of t site)))
+      ∙ no_none (l site) (w.config.attached site)
+
+  -- where it finds the ledger's choice
+  pub stands_at_entry : (site : ℕ) (bytes : List ℕ) (route : Option (AddressBlock × Source)) → site < length t.sites →
+      ((i : ℕ) → slice_index bytes i < 256)
+      → (first_rule (entry_rules (w.config.attached site) bytes) ≡ None → route
+      ≡ option_map (as_held l) (best (eligible t w (home_of t site) (vrf_of t site) (destination_of bytes)) (destination_of bytes)))
+      → StandsAtEntry (edge_in t l w.config w.peerings (home_of t site)) route t (given t es) w site bytes
+  stands_at_entry site bytes route there small finds =
       let v : ℕ = vrf_of t site in
       let below = vrf_there t site lawful there in
       record {
-        attached = ap is_none (map_numbers_at (site_label_now t l w.config (home_of t site)) (length t.sites) site None there
-            ∙ ap (λ b. if b then option_map (l site) (w.config.attached site) else None) (same_test (home_of t site)))
-            ∙ no_none (l site) (w.config.attached site);
-        route = ap
-            (λ n. found_in n (λ (vrf : VrfState). longest_match (destination_of bytes) (held_by (edge_in t l w.config w.peerings (home_of t site)) vrf))
-            (edge_in t l w.config w.peerings (home_of t site)).vrfs) (vrf_of_site_is t l w.config w.peerings (home_of t site) site)
-            ∙ found t l w.config w.peerings v
-            (λ (vrf : VrfState). longest_match (destination_of bytes) (held_by (edge_in t l w.config w.peerings (home_of t site)) vrf)) below
-            ∙ finds_best t l es ps (home_of t site) v (destination_of bytes) lawful journal refl
-            ∙ best_as v (destination_of bytes) below (best (held t w.config w.peerings (edge_of t v) v) (destination_of bytes)) refl;
-        sound = λ route leaves. leaves_sound t es ps site bytes route lawful journal there small leaves;
+        attached = attached_so site there;
+        route = λ passes. finds passes
+            ∙ best_as v (destination_of bytes) below (best (eligible t w (edge_of t v) v (destination_of bytes)) (destination_of bytes)) refl;
+        sound = λ leaving leaves. leaves_sound t es ps site bytes leaving lawful journal there small leaves;
       }

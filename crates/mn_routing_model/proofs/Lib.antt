@@ -41,3 +41,5 @@ pub mod AtEntry
 pub mod Enters
 pub mod Opening
 pub mod Starts
+pub mod Choosing
+pub mod Chosen

@@ -29,6 +29,7 @@ use Rattle.mn_answer.specs.Endings.{OutcomeIs, FilesAre, TextIs}
 use Rattle.mn_laws.proofs.Accounted.{accounts}
 use Rattle.mn_course.proofs.Entered.{lawful_run}
 use Rattle.mn_arrival.proofs.Arriving.{it_arrives}
+use Rattle.mn_arrival.proofs.Resolving.{arrives_where_it_can}
 use Rattle.mn_capture.specs.Packets.{packets_in}
 use Rattle.mn_run.specs.declared.load.Inputs.{Inputs}
 use Rattle.mn_run.specs.Jobs.{AreRead, AreMade}
@@ -65,6 +66,7 @@ promise topology script capture folder files before after written inputs read is
       told = each_packet_has_its_line inputs.topology packets inputs.lines.items;
       accounts = accounts inputs.topology run.past.entries (inputs_of packets run.past.entries) is_lawful goes.past.journal goes.past.each;
       arrives = it_arrives inputs.topology run.past.entries (inputs_of packets run.past.entries) is_lawful goes.past.journal;
+      arrives_where_it_can = arrives_where_it_can inputs.topology run.past.entries (inputs_of packets run.past.entries) is_lawful goes.past.journal;
       drained = each_is_drained inputs.topology is_lawful packets inputs.lines.items fits few;
       lines = text_is;
       written_files = files_are;
@@ -205,6 +207,7 @@ total_told number made are is_lawful before written Done o t =
       told = each_packet_has_its_line made.topology packets made.lines.items;
       accounts = accounts made.topology run.past.entries (inputs_of packets run.past.entries) is_lawful goes.past.journal goes.past.each;
       arrives = it_arrives made.topology run.past.entries (inputs_of packets run.past.entries) is_lawful goes.past.journal;
+      arrives_where_it_can = arrives_where_it_can made.topology run.past.entries (inputs_of packets run.past.entries) is_lawful goes.past.journal;
       drained = each_is_drained made.topology is_lawful packets made.lines.items are.over.fit are.over.few;
       lines = t ∙ ap (λ b. Some (before ++ cond b (codes "too large steps\n")
           (generated_line number ++ total_line (totals_of run (packets_of made.topology run.past.entries (inputs_of packets run.past.entries)).verdicts))))

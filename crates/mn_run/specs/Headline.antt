@@ -10,7 +10,7 @@ use Rattle.mn_script.specs.Script.{script_of}
 use Rattle.mn_topo.specs.Network.{Network}
 use Rattle.mn_topo_toml.specs.Topology.{topology_of}
 use Rattle.mn_laws.specs.Accounts.{Accounts}
-use Rattle.mn_arrival.specs.Arrival.{ItArrives}
+use Rattle.mn_arrival.specs.Arrival.{ItArrives, ArrivesWhereItCan}
 use Rattle.mn_course.specs.Course.{inputs_of, played}
 use Rattle.mn_course.specs.Drains.{DrainsAll}
 use Rattle.mn_course.specs.Expansion.{Expansion, expanded}
@@ -61,6 +61,7 @@ pub record KeepsItsPromise (topology_name script_name capture_name folder : List
   pub told : AreSentBy script run
   pub accounts : Accounts topology run.past.entries (inputs_of packets run.past.entries)
   pub arrives : ItArrives topology run.past.entries (inputs_of packets run.past.entries)
+  pub arrives_where_it_can : ArrivesWhereItCan topology run.past.entries (inputs_of packets run.past.entries)
   pub drained : DrainsEach topology packets script
   pub lines : written ≡ Some (before ++ report topology packets run)
   pub written_files : after ≡ Some (laid (output folder topology packets run.past.entries) files)
@@ -87,6 +88,7 @@ pub record TellsTotal (number : ℕ) (before : List ℕ) (written : Option (List
   pub told : AreSentBy script run
   pub accounts : Accounts topology run.past.entries (inputs_of packets run.past.entries)
   pub arrives : ItArrives topology run.past.entries (inputs_of packets run.past.entries)
+  pub arrives_where_it_can : ArrivesWhereItCan topology run.past.entries (inputs_of packets run.past.entries)
   pub drained : DrainsEach topology packets script
   pub lines : written ≡ Some
       (before ++ (generated_line number ++ total_line (totals_of run (packets_of topology run.past.entries (inputs_of packets run.past.entries)).verdicts)))

@@ -25,7 +25,8 @@ use Rattle.mn_ledger.specs.Places.{home_of, vrf_of, edges}
 use Rattle.mn_ledger.specs.World.{World}
 use Rattle.mn_ledger.specs.Transport.{usable, sessions_after}
 use Rattle.mn_ledger.specs.Bgp.{peerings_after}
-use Rattle.mn_ledger.specs.Held.{HeldRoute, held, best}
+use Rattle.mn_ledger.specs.Held.{HeldRoute, best}
+use Rattle.mn_ledger.specs.Eligible.{eligible}
 use Rattle.mn_ledger.specs.Packets.{Token, Packets, channel, flying_on, away_from, judged, drop_at, visited, deliver, hop_over, hop_on, entry_rules, bound}
 use Rattle.mn_ledger.specs.Packets.{route_by, enter_by, enter, one_more, without_place, taken, is_attachment, leave, arrive, carry, before_step, packets_after}
 use Rattle.mn_ledger.specs.Verdicts.{one_if, injections, times_in, times_by, verdict_on, AreInOnePlace}
@@ -141,7 +142,7 @@ keeps-route t w j p a b e (Some r) d =
 
 keeps-enter : (t : Network) (w : World) (j p : ℕ) (a : Packets) (b : List ℕ) (e v : ℕ) (o : Option Rule) → j ≢ p → Keeps j a (enter_by t w a p b e v o)
 keeps-enter t w j p a b e v (Some cause) d = keeps-judged j p a (Dropped cause (record { 0 = e })) d
-keeps-enter t w j p a b e v None d = keeps-route t w j p a b e (best (held t w.config w.peerings e v) (destination_of b)) d
+keeps-enter t w j p a b e v None d = keeps-route t w j p a b e (best (eligible t w e v (destination_of b)) (destination_of b)) d
 
 push-before : {A : Type 0} (xs : List A) (x d : A) (j : ℕ) → j < length xs → get_or (xs ++ x ∷ []) j d ≡ get_or xs j d
 push-before xs x d j h = grind (arith, common_steps, h)

@@ -19,6 +19,8 @@ use Rattle.mn_ledger.specs.Held.{HeldRoute, Own, Near, Far, held_by, own_routes,
 use Rattle.mn_ledger.specs.Exports.{meet}
 use Rattle.mn_ledger.specs.Held.{heard_of, believed, believed_from, far_routes, held, is_better, matching, unbeaten, first_of, best}
 use Rattle.mn_ledger.specs.Ledger.{after, start, no_packets, next_of, left_by, world_from, world_of, packets_by}
+use Rattle.mn_ledger.specs.Eligible.{eligible, is_resolved}
+use Rattle.mn_ledger.proofs.Eligible.{in_those}
 use Rattle.mn_ledger.specs.Packets.{Packets, packets_after}
 use Rattle.mn_ledger.specs.Lawful.{IsLawfulFrom, IsLawfulJournal}
 use Rattle.mn_ledger.specs.Turns.{IsInTurn, IsPeerTalk}
@@ -242,11 +244,12 @@ module _ (t : Network) (w : World) (turn : IsInTurn t w) (settled : IsSettled t 
       (in_filter (λ route. not (list_any (λ other. is_better other route) (matching address rs))) (matching address rs) r
       (first-in (unbeaten (matching address rs)) r e)).0).0
 
-  pub best-attached : (edge v address : ℕ) (r : HeldRoute) → In (edges t) edge → best (held t w.config w.peerings edge v) address ≡ Some r
+  pub best-attached : (edge v address : ℕ) (r : HeldRoute) → In (edges t) edge → best (eligible t w edge v address) address ≡ Some r
       → (w.config.attached r.site ≡ Some r.attachment) × In (edges t) r.edge
   best-attached edge v address r i e =
       route-attached edge v r i (in_contained (routes_of t w.config edge v) r
-      ((holds edge v i r).only (contained_in (held t w.config w.peerings edge v) r (best-in (held t w.config w.peerings edge v) address r e))))
+      ((holds edge v i r).only (contained_in (held t w.config w.peerings edge v) r
+      (in_those _ (is_resolved t w edge) (held t w.config w.peerings edge v) r (best-in (eligible t w edge v address) address r e)))))
 
 pub hold_their_routes : (t : Network) (es : List JournalEntry) (ps : List (List ℕ)) → IsLawful t → IsLawfulJournal t es ps → IsSettled t (world_of t es)
     → (edge v : ℕ) (route : HeldRoute) → Contains (edges t) edge → HoldsItsRoutes t (world_of t es) edge v route

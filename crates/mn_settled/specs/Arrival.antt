@@ -8,7 +8,8 @@ use Rattle.mn_ipv4.specs.Header.{ttl_of, destination_of}
 use Rattle.mn_ledger.specs.Entry.{first_rule}
 use Rattle.mn_ledger.specs.Places.{home_of, vrf_of}
 use Rattle.mn_ledger.specs.World.{World}
-use Rattle.mn_ledger.specs.Held.{HeldRoute, held, best}
+use Rattle.mn_ledger.specs.Held.{HeldRoute, best}
+use Rattle.mn_ledger.specs.Eligible.{eligible}
 use Rattle.mn_ledger.specs.Packets.{Packets, entry_rules}
 use Rattle.mn_ledger.specs.Verdicts.{verdict_on}
 use Rattle.mn_ledger.specs.Ledger.{left_by}
@@ -27,10 +28,10 @@ GoesBy topology world [] node to = node ≡ to
 GoesBy topology world (hop ∷ hops) node to =
     (node ≢ to) × (l : ℕ) × (way topology world node to ≡ Some (hop, l)) × (hop ≡ across (wiring_of topology) l node) × GoesBy topology world hops hop to
 
--- no rule but that on routes drops the packet at the site's edge, and this is the best of the VRF's routes
+-- no rule but that on routes drops the packet at the site's edge, and this is the best of the VRF's routes that take part
 pub record IsAddressed (topology : Network) (world : World) (site : ℕ) (bytes : List ℕ) (to : HeldRoute) : Type 0 where
   pub passes : first_rule (entry_rules (world.config.attached site) bytes) ≡ None
-  pub best_is : best (held topology world.config world.peerings (home_of topology site) (vrf_of topology site)) (destination_of bytes) ≡ Some to
+  pub best_is : best (eligible topology world (home_of topology site) (vrf_of topology site) (destination_of bytes)) (destination_of bytes) ≡ Some to
 
 -- the nodes by which a packet goes from a site towards a route
 abbrev pub route_to : Network → World → ℕ → HeldRoute → List ℕ

@@ -36,8 +36,9 @@ ghost use Rattle.mn_topo.specs.declared.steps.Step.TheVariants.{Inject};
 ghost use Rattle.mn_ipv4.specs.Header.{ttl_of};
 ghost use Rattle.std.specs.List.{Contains};
 ghost use Rattle.mn_ledger.specs.Places.{home_of, edges};
-ghost use Rattle.mn_settled.specs.Routes.{TellTheirExports, HoldsItsRoutes, routes_of};
+ghost use Rattle.mn_settled.specs.Routes.{TellTheirExports, HoldsItsRoutes, routes_of, eligible_of};
 ghost use Rattle.mn_ledger.specs.Held.{HeldRoute, held, best};
+ghost use Rattle.mn_ledger.specs.Eligible.{eligible};
 ghost use Rattle.mn_ledger.specs.Verdicts.{injections};
 ghost use Rattle.mn_settled.specs.Ways.{AreUpWhereOdd, KnowTheWays, Reaches};
 ghost use Rattle.mn_settled.specs.TwoLinks.{TwoLinksCarryAPacket};
@@ -98,6 +99,15 @@ pub fn settled_edges_look_up_their_routes()
         (edge v address : ℕ) → Contains (edges topology) edge →
         best (held topology (world_of topology entries).config (world_of topology entries).peerings edge v) address
         ≡ best (routes_of topology (world_of topology entries).config edge v) address }
+{}
+
+/// And the chosen one of those that take part is the best of those that take part of what the present configuration gives it.
+pub fn settled_edges_choose_among_their_routes()
+    ensures { (topology : Network) (entries : List JournalEntry) (inputs : List (List ℕ)) →
+        IsLawful topology → IsLawfulJournal topology entries inputs → IsSettled topology (world_of topology entries) →
+        (edge v address : ℕ) → Contains (edges topology) edge →
+        best (eligible topology (world_of topology entries) edge v address) address
+        ≡ best (eligible_of topology (world_of topology entries) edge v address) address }
 {}
 
 // 3. Arrival

@@ -1,5 +1,5 @@
 -- Lines, from their pieces.
-use Rattle.std.proofs.Common.{◌≡◌, ◌<◌, ℕ, true, false, List, [], ◌∷◌, ◌++◌, length, Option, Some, None, refl, ap, ◌∙◌, append_assoc}
+use Rattle.std.proofs.Common.{◌≡◌, ◌<◌, ℕ, Bool, true, false, List, [], ◌∷◌, ◌++◌, length, Option, Some, None, refl, ap, ◌∙◌, append_assoc}
 use Rattle.std.proofs.Common.{arith, ◌⊎◌, inl, inr}
 use Rattle.std.specs.Prelude.{codes, decimal, if◌then◌else◌}
 use Rattle.mn_wiring.specs.Wiring.{View, link, sender, receiver}
@@ -19,7 +19,7 @@ use Rattle.mn_frames.specs.Given.{Labelling, label_at}
 use Rattle.mn_ledger.specs.Items.{Item}
 use Rattle.mn_lines.specs.Lines.{text}
 use Rattle.mn_output.specs.Files.{node_name}
-use Rattle.mn_output.specs.Tables.{up_or_down, link_line, walk_text, tree_line, ldp_name, ldp_text, ldp_line, bgp_name, bgp_line, frames_line, route_line}
+use Rattle.mn_output.specs.Tables.{up_or_down, link_line, walk_text, tree_line, ldp_name, ldp_text, ldp_line, bgp_name, bgp_line, frames_line, route_line, mark_text, marked_line}
 use Rattle.mn_output.specs.Tables.{vrf_name, site_name}
 use Rattle.mn_tables.specs.States.{state_at, state_name}
 
@@ -123,9 +123,10 @@ pub near_row : (topology : Network) (given : Labelling) (v : ℕ) (route : HeldR
 near_row topology given v route from site a p m b is_a is_p is_m is_b is_near is_site =
     rw (is_a, is_p, is_m, is_b ∙ ap (site_name topology) is_site, is_near) (simp append_assoc)
 
-pub far_row : (topology : Network) (given : Labelling) (v : ℕ) (route : HeldRoute) (address rd edge label : ℕ) (a p m b : List ℕ)
-    → a ≡ vrf_name topology v → p ≡ prefix_text route.prefix → m ≡ node_name topology edge → b ≡ decimal label
+pub far_row : (topology : Network) (given : Labelling) (v : ℕ) (route : HeldRoute) (address rd edge label : ℕ) (unresolved : Bool) (a p m b k : List ℕ)
+    → a ≡ vrf_name topology v → p ≡ prefix_text route.prefix → m ≡ node_name topology edge → b ≡ decimal label → k ≡ mark_text (Far address rd) unresolved
     → route.source ≡ Far address rd → edge ≡ route.edge → label ≡ label_at given route.edge route.site route.attachment
-    → text (codes "route " ∷ a ∷ codes " " ∷ p ∷ codes " edge " ∷ m ∷ codes " label " ∷ b ∷ codes "\n" ∷ []) ≡ route_line topology given v (Some route)
-far_row topology given v route address rd edge label a p m b is_a is_p is_m is_b is_far is_edge is_label =
-    rw (is_a, is_p, is_m ∙ ap (node_name topology) is_edge, is_b ∙ ap decimal is_label, is_far) (simp append_assoc)
+    → text (codes "route " ∷ a ∷ codes " " ∷ p ∷ codes " edge " ∷ m ∷ codes " label " ∷ b ∷ k ∷ codes "\n" ∷ [])
+    ≡ marked_line topology given v unresolved route
+far_row topology given v route address rd edge label unresolved a p m b k is_a is_p is_m is_b is_k is_far is_edge is_label =
+    rw (is_a, is_p, is_m ∙ ap (node_name topology) is_edge, is_b ∙ ap decimal is_label, is_k, is_far) (simp append_assoc)

@@ -1,9 +1,9 @@
 //! The routes of a VRF (RFC 4364, section 3).
-ghost use Rattle.std.specs.Prelude.{◌≡◌, ℕ};
+ghost use Rattle.std.specs.Prelude.{◌≡◌, ℕ, Bool};
 ghost use Rattle.mn_text.specs.Addresses.{prefix_text};
 ghost use Rattle.mn_ledger.specs.Held.{HeldRoute, Own, Near, Far};
 ghost use Rattle.mn_frames.specs.Given.{Labelling, label_at};
-ghost use Rattle.mn_output.specs.Tables.{route_line};
+ghost use Rattle.mn_output.specs.Tables.{mark_text, marked_line, route_line};
 ghost use Rattle.mn_tables.specs.Telling.{standing, Tells};
 
 use crate::names::{digits, vrf_name};
@@ -62,19 +62,27 @@ pub fn put_near_route<O: Sink>(
     )
 }
 
-/// Puts the line of a route that another edge told, by the label that it gave.
-pub fn put_far_route<O: Sink>(
+/// The mark of a route of another edge, to which no label path leads where next hops are to be resolved.
+fn mark(unresolved: bool) -> &'static str
+    ensures { (address rd : ℕ) → result.now ≡ mark_text (Far address rd) unresolved }
+{
+    if unresolved { " unresolved" } else { "" }
+}
+
+/// Puts the line of a route that another edge told, by the label that it gave, with the text of its mark.
+fn put_with_mark<'a, O: Sink>(
     out: &mut O,
     page: &mut Page,
     topology: &Topology,
     vrf: VrfNo,
-    prefix: &[u8],
+    prefix: &'a [u8],
     edge: NodeNo,
     label: u32,
+    mark: &'a [u8],
 ) -> Result<(), DeviceBad>
-    ensures { (given : Labelling) (route : HeldRoute) (address rd : ℕ) → prefix.now ≡ prefix_text route.prefix → route.source ≡ Far address rd → edge.0 ≡ route.edge →
-        label ≡ label_at given route.edge route.site route.attachment →
-        Tells (route_line topology.now given vrf.0 (Some route))
+    ensures { (given : Labelling) (route : HeldRoute) (address rd : ℕ) (unresolved : Bool) → prefix.now ≡ prefix_text route.prefix → route.source ≡ Far address rd → edge.0 ≡ route.edge →
+        label ≡ label_at given route.edge route.site route.attachment → mark.now ≡ mark_text (Far address rd) unresolved →
+        Tells (marked_line topology.now given vrf.0 unresolved route)
         (standing page.old (O.written out.old) (O.faults out.old)) (standing page.new (O.written out.new) (O.faults out.new)) result }
 {
     let table = vrf_name(topology, vrf);
@@ -85,7 +93,27 @@ pub fn put_far_route<O: Sink>(
         out,
         page,
         &[
-            b"route ", table, b" ", prefix, b" edge ", teller, b" label ", number, b"\n",
+            b"route ", table, b" ", prefix, b" edge ", teller, b" label ", number, mark, b"\n",
         ],
     )
+}
+
+/// Puts the line of a route that another edge told, by the label that it gave, with the mark of one that isn't resolved.
+pub fn put_far_route<O: Sink>(
+    out: &mut O,
+    page: &mut Page,
+    topology: &Topology,
+    vrf: VrfNo,
+    prefix: &[u8],
+    edge: NodeNo,
+    label: u32,
+    unresolved: bool,
+) -> Result<(), DeviceBad>
+    ensures { (given : Labelling) (route : HeldRoute) (address rd : ℕ) → prefix.now ≡ prefix_text route.prefix → route.source ≡ Far address rd → edge.0 ≡ route.edge →
+        label ≡ label_at given route.edge route.site route.attachment →
+        Tells (marked_line topology.now given vrf.0 unresolved route)
+        (standing page.old (O.written out.old) (O.faults out.old)) (standing page.new (O.written out.new) (O.faults out.new)) result }
+{
+    let mark = mark(unresolved).as_bytes();
+    put_with_mark(out, page, topology, vrf, prefix, edge, label, mark)
 }

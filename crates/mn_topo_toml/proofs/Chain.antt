@@ -84,12 +84,12 @@ pub whole : (top : Members) (head : Head) (nodes : NodeTable) (links : List Link
       vrfs = vrfs.vrfs;
       site_names = sites.names;
       sites = sites.sites;
-      resolve = false;
+      resolve = head.resolve;
     })
 whole top head nodes links vrfs sites h s =
     up_to_sites top head nodes links vrfs h
     ∙ ap (λ read. read >>= after_sites top nodes links vrfs) s
-    ∙ rw (h.head_is.asn_is, h.head_is.notice_delay_is, h.head_is.bgp_delay_is) refl
+    ∙ rw (h.head_is.asn_is, h.head_is.notice_delay_is, h.head_is.bgp_delay_is, h.head_is.resolve_is) refl
 
 -- the whole is lawful
 pub whole_lawful : (top : Members) (head : Head) (nodes : NodeTable) (links : List LinkEnds) (vrfs : VrfTable) (sites : SiteTable) →
@@ -107,6 +107,6 @@ pub whole_lawful : (top : Members) (head : Head) (nodes : NodeTable) (links : Li
       vrfs = vrfs.vrfs;
       site_names = sites.names;
       sites = sites.sites;
-      resolve = false;
+      resolve = head.resolve;
     })
 whole_lawful top head nodes links vrfs sites h s = network_lawful top _ (whole top head nodes links vrfs sites h s)

@@ -1,5 +1,5 @@
 -- A topology that is read is lawful.
-use Rattle.std.proofs.Common.{◌≡◌, ◌≤◌, ◌+◌, ℕ, arith, length, ◌||◌, List, [], ◌∷◌, None, codes, Result, Ok, Err, refl, sym, subst}
+use Rattle.std.proofs.Common.{◌≡◌, ◌≤◌, ◌+◌, ℕ, arith, length, ◌||◌, List, [], ◌∷◌, None, is_none, codes, Result, Ok, Err, refl, sym, subst}
 use Rattle.std.specs.List.{IsDistinct}
 use Rattle.std.proofs.lemmas.Bool.{ltb-false, or_parts}
 use Rattle.toml.specs.Data.{Members}
@@ -18,7 +18,7 @@ use Rattle.mn_topo_toml.specs.Vrfs.{vrfs_from}
 use Rattle.mn_topo.specs.SiteTable.{SiteTable, no_sites}
 use Rattle.mn_topo_toml.specs.Sites.{sites_from}
 use Rattle.mn_topo.specs.Network.{Network}
-use Rattle.mn_topo_toml.specs.Topology.{top_keys, has_wrong_number, has_wrong_array, has_too_many, top_rule, network_with, ◌>>=◌, arrays_of, network_of}
+use Rattle.mn_topo_toml.specs.Topology.{top_keys, resolve_at, has_wrong_number, has_wrong_array, has_too_many, top_rule, network_with, ◌>>=◌, arrays_of, network_of}
 use Rattle.mn_topo.specs.Lawful.{AreNames, AreNodes, AreLinks, AreVrfs, AreSites, IsLawful}
 use Rattle.mn_topo_toml.proofs.LawfulEntries.{all_kept, kept, reads_on, nodes_lawful, nodes_count}
 use Rattle.mn_topo_toml.proofs.LawfulLinks.{number_within, links_lawful, links_count}
@@ -62,9 +62,10 @@ parts_lawful : (top : Members) (nodes : NodeTable) (links : List LinkEnds) (vrfs
 unfolding top_rule
 parts_lawful top nodes links vrfs sites lawful n l v s =
     let all =
-    all_kept (broken (has_unknown_key top_keys top) UnknownKey ∷ broken (has_wrong_number top || has_wrong_array top) WrongKind
+    all_kept (broken (has_unknown_key top_keys top) UnknownKey ∷ broken ((has_wrong_number top || is_none (resolve_at top)) || has_wrong_array top) WrongKind
     ∷ broken (has_too_many top) TooMany ∷ []) lawful in
-    let numbers = or_parts _ _ (or_parts (has_wrong_number top) (has_wrong_array top) (kept _ WrongKind all.1.0)).0 in
+    let values = or_parts (has_wrong_number top || is_none (resolve_at top)) (has_wrong_array top) (kept _ WrongKind all.1.0) in
+    let numbers = or_parts _ _ (or_parts (has_wrong_number top) (is_none (resolve_at top)) values.0).0 in
     let delays = or_parts _ _ numbers.0 in
     let counts = or_parts _ _ (kept (has_too_many top) TooMany all.1.1.0) in
     let three = or_parts _ _ counts.0 in

@@ -5,7 +5,7 @@ use Rattle.std.specs.List.{list_any, list_all}
 use Rattle.std.specs.Borrow.{Bor}
 use Rattle.std.specs.Option.{option_map_or}
 use Rattle.std.specs.Str.{bytes_eq}
-use Rattle.toml.specs.Data.{Data, string, array, table, Items, no_items, item, Members, no_members, member, get_member, as_str, as_integer}
+use Rattle.toml.specs.Data.{Data, string, array, table, Items, no_items, item, Members, no_members, member, get_member, as_str, as_integer, as_bool}
 
 -- the bytes of some texts
 abbrev pub texts_now : List (Bor (List ℕ)) → List (List ℕ)
@@ -45,6 +45,10 @@ number_at key low high default entry = option_map_or (λ value. number_in low hi
 -- nothing is at the key, or an integer
 abbrev pub is_integer_at : List ℕ → Members → Bool
 is_integer_at key entry = option_map_or (λ value. is_some (as_integer value)) (get_member key entry) true
+
+-- the boolean at the key, false where nothing is there, and none where it isn't a boolean
+abbrev pub boolean_at : List ℕ → Members → Option Bool
+boolean_at key entry = option_map_or as_bool (get_member key entry) (Some false)
 
 abbrev pub items_in : Data → Option Items
 items_in (array items) = Some items

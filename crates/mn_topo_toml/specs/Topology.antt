@@ -12,7 +12,7 @@ use Rattle.mn_topo_toml.specs.declared.refusal.TopoRule.TheVariants.{NotToml, Un
 use Rattle.mn_topo_toml.specs.declared.refusal.Place.{Place}
 use Rattle.mn_topo_toml.specs.declared.refusal.Place.TheVariants.{Top}
 use Rattle.mn_topo_toml.specs.declared.top.Head.{Head}
-use Rattle.mn_topo_toml.specs.Tables.{has_unknown_key, number_at, is_tables_at, tables_at, tables_of}
+use Rattle.mn_topo_toml.specs.Tables.{has_unknown_key, number_at, boolean_at, is_tables_at, tables_at, tables_of}
 use Rattle.mn_topo_toml.specs.Rules.{broken, first_broken, unless_broken}
 use Rattle.mn_topo.specs.Nodes.{NodeTable, no_nodes}
 use Rattle.mn_topo_toml.specs.Nodes.{nodes_from}
@@ -25,7 +25,8 @@ use Rattle.mn_topo.specs.Network.{Network}
 pub use Rattle.mn_base.specs.Refusals.{◌>>=◌}
 
 abbrev pub top_keys : List (List ℕ)
-top_keys = codes "as" ∷ codes "notice_delay" ∷ codes "bgp_delay" ∷ codes "node" ∷ codes "link" ∷ codes "vrf" ∷ codes "site" ∷ []
+top_keys =
+    codes "as" ∷ codes "notice_delay" ∷ codes "bgp_delay" ∷ codes "resolve" ∷ codes "node" ∷ codes "link" ∷ codes "vrf" ∷ codes "site" ∷ []
 
 abbrev pub asn_at : Members → Option ℕ
 asn_at top = number_at (codes "as") 1 65535 65000 top
@@ -35,6 +36,10 @@ notice_delay_at top = number_at (codes "notice_delay") 1 1000 1 top
 
 abbrev pub bgp_delay_at : Members → Option ℕ
 bgp_delay_at top = number_at (codes "bgp_delay") 1 1000 1 top
+
+-- routes without a label path to their edge stand aside
+abbrev pub resolve_at : Members → Option Bool
+resolve_at top = boolean_at (codes "resolve") top
 
 abbrev pub has_wrong_number : Members → Bool
 has_wrong_number top = (is_none (asn_at top) || is_none (notice_delay_at top)) || is_none (bgp_delay_at top)
@@ -57,11 +62,11 @@ has_too_many top =
 unfoldable pub top_rule : Members → Option TopoRule
 top_rule top = first_broken (
     broken (has_unknown_key top_keys top) UnknownKey
-    ∷ broken (has_wrong_number top || has_wrong_array top) WrongKind
+    ∷ broken ((has_wrong_number top || is_none (resolve_at top)) || has_wrong_array top) WrongKind
     ∷ broken (has_too_many top) TooMany
     ∷ [])
 
--- what nodes, links, VRFs and sites make with the numbers of the top table; no key says that routes without a label path are left out
+-- what nodes, links, VRFs and sites make with the numbers and the boolean of the top table
 abbrev pub network_with : Members → NodeTable → List LinkEnds → VrfTable → SiteTable → Network
 network_with top nodes links vrfs sites = record {
   asn = unwrap_or (asn_at top) 0;
@@ -74,7 +79,7 @@ network_with top nodes links vrfs sites = record {
   vrfs = vrfs.vrfs;
   site_names = sites.names;
   sites = sites.sites;
-  resolve = false;
+  resolve = unwrap_or (resolve_at top) false;
 }
 
 -- the arrays, one after another
@@ -104,6 +109,7 @@ pub record IsHead (top : Members) (head : Head) : Type 0 where
   pub asn_is : asn_at top ≡ Some head.asn
   pub notice_delay_is : notice_delay_at top ≡ Some head.notice_delay
   pub bgp_delay_is : bgp_delay_at top ≡ Some head.bgp_delay
+  pub resolve_is : resolve_at top ≡ Some head.resolve
   pub nodes_are : tables_of (items_view head.nodes.now) ≡ tables_at (codes "node") top
   pub links_are : tables_of (items_view head.links.now) ≡ tables_at (codes "link") top
   pub vrfs_are : tables_of (items_view head.vrfs.now) ≡ tables_at (codes "vrf") top

@@ -41,7 +41,7 @@ fn read_network(alloc: Global, top: &Table) -> Result<Topology, TopoBad>
         links,
         vrfs,
         sites,
-        resolve: false,
+        resolve: head.resolve,
     }))
 }
 

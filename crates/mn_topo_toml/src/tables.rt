@@ -7,7 +7,7 @@ ghost use Rattle.toml.specs.Data.{get_member};
 ghost use Rattle.toml.specs.View.{view, table_view, items_view};
 ghost use Rattle.mn_topo.specs.Tables.{is_name_byte, is_name};
 ghost use Rattle.mn_topo_toml.specs.Names.{named_at};
-ghost use Rattle.mn_topo_toml.specs.Tables.{texts_now, has_unknown_key, lacks, text_at, number_in, number_at, is_integer_at, array_at, are_tables, is_tables_at, tables_of, tables_at, are_texts, is_texts_at, items_at};
+ghost use Rattle.mn_topo_toml.specs.Tables.{texts_now, has_unknown_key, lacks, text_at, number_in, number_at, is_integer_at, boolean_at, array_at, are_tables, is_tables_at, tables_of, tables_at, are_texts, is_texts_at, items_at};
 
 use mn_topo::Names;
 use toml::{Table, Value};
@@ -95,6 +95,16 @@ pub(crate) fn is_integer_at(key: &str, table: &Table) -> bool
     match value_at(key, table) {
         Some(value) => value.is_integer(),
         None => true,
+    }
+}
+
+/// The boolean at the key, false where nothing is there, and `None` where it isn't a boolean.
+pub(crate) fn boolean_at(key: &str, table: &Table) -> Option<bool>
+    ensures { result ≡ boolean_at key.now (table_view table.now) }
+{
+    match value_at(key, table) {
+        Some(value) => value.as_bool(),
+        None => Some(false),
     }
 }
 

@@ -3,7 +3,7 @@ ghost use Rattle.std.specs.Prelude.{◌≡◌, ◌≤◌};
 ghost use Rattle.toml.specs.View.{table_view};
 
 use crate::TopoRule;
-use crate::tables::{has_unknown_key, number_at, tables_at};
+use crate::tables::{boolean_at, has_unknown_key, number_at, tables_at};
 use toml::{Table, Value};
 
 const MOST_ASN: u32 = 65_535;
@@ -30,6 +30,7 @@ pub(crate) struct Head<'a> {
     pub(crate) asn: u16,
     pub(crate) notice_delay: u32,
     pub(crate) bgp_delay: u32,
+    pub(crate) resolve: bool,
     pub(crate) nodes: &'a [Value],
     pub(crate) links: &'a [Value],
     pub(crate) vrfs: &'a [Value],
@@ -38,7 +39,7 @@ pub(crate) struct Head<'a> {
 
 ghost use Rattle.mn_topo_toml.specs.Topology.{ReadsHead};
 
-/// The numbers and the arrays of the top table.
+/// The numbers, the boolean and the arrays of the top table.
 #[tactic(auto, unfolding(crate::specs::Topology::top_rule))]
 pub(crate) fn head_of(top: &Table) -> Result<Head<'_>, TopoRule>
     ensures { ReadsHead (table_view top.now) result }
@@ -48,6 +49,7 @@ pub(crate) fn head_of(top: &Table) -> Result<Head<'_>, TopoRule>
             "as",
             "notice_delay",
             "bgp_delay",
+            "resolve",
             "node",
             "link",
             "vrf",
@@ -64,6 +66,7 @@ pub(crate) fn head_of(top: &Table) -> Result<Head<'_>, TopoRule>
     let bgp_delay = number_at("bgp_delay", 1, MOST_DELAY, DEFAULT_DELAY, top).ok_or(
         TopoRule::WrongKind,
     )?;
+    let resolve = boolean_at("resolve", top).ok_or(TopoRule::WrongKind)?;
     let nodes = tables_at("node", top).ok_or(TopoRule::WrongKind)?;
     let links = tables_at("link", top).ok_or(TopoRule::WrongKind)?;
     let vrfs = tables_at("vrf", top).ok_or(TopoRule::WrongKind)?;
@@ -79,6 +82,7 @@ pub(crate) fn head_of(top: &Table) -> Result<Head<'_>, TopoRule>
         asn: asn as u16,
         notice_delay,
         bgp_delay,
+        resolve,
         nodes,
         links,
         vrfs,

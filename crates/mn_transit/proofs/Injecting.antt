@@ -13,7 +13,8 @@ use Rattle.mn_ledger.specs.declared.verdict.Verdict.TheVariants.{Delivered, Drop
 use Rattle.mn_ledger.specs.Entry.{first_rule}
 use Rattle.mn_ledger.specs.Places.{home_of, vrf_of}
 use Rattle.mn_ledger.specs.World.{World}
-use Rattle.mn_ledger.specs.Held.{HeldRoute, held, best}
+use Rattle.mn_ledger.specs.Held.{HeldRoute, best}
+use Rattle.mn_ledger.specs.Eligible.{eligible}
 use Rattle.mn_ledger.specs.Packets.{Packets, entry_rules, bound, hop_on, one_more, before_step, packets_after}
 use Rattle.mn_frames.specs.Given.{Labelling}
 use Rattle.mn_frames.specs.Entries.{Fate, Falls, Stays, Leaves, fate_of, fate, entered, IsAged}
@@ -150,7 +151,7 @@ leaves_apart edge route (Some found) None h same = leaves_by edge route found (f
 pub leaves_home : (t : Network) (w : World) (node : ℕ) (site : SiteNo) (bytes : List ℕ) (route : HeldRoute) → node ≡ home_of t site.0 →
     fate t w site.0 bytes ≡ Leaves route → node ≢ route.edge
 leaves_home t w node site bytes route home leaves same =
-    leaves_apart (home_of t site.0) route (best (held t w.config w.peerings (home_of t site.0) (vrf_of t site.0)) (destination_of bytes))
+    leaves_apart (home_of t site.0) route (best (eligible t w (home_of t site.0) (vrf_of t site.0) (destination_of bytes)) (destination_of bytes))
     (first_rule (entry_rules (w.config.attached site.0) bytes)) leaves (sym same ∙ home)
 
 pub stands_gone : (t : Network) (g : Labelling) (w : World) (more new : Moving) (k : Packets) (node : NodeNo) (packet number : ℕ) (site : SiteNo)

@@ -1,3 +1,4 @@
 pub mod Few
 pub mod Life
 pub mod Spent
+pub mod Ways

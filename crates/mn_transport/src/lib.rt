@@ -21,4 +21,4 @@ mod steps;
 mod transport;
 
 pub use flying::{Messages, Notices};
-pub use transport::Transport;
+pub use transport::{MOST_NODES, Transport};

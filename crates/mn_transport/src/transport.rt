@@ -4,7 +4,9 @@ ghost use Rattle.mn_labels.specs.Labels.{greatest};
 ghost use Rattle.mn_linkdb.specs.Changes.{is_link_up};
 ghost use Rattle.mn_topo.specs.declared.steps.JournalEntry.{JournalEntry};
 ghost use Rattle.mn_ledger.specs.Ledger.{world_of};
-ghost use Rattle.mn_frames.specs.Entries.{outer_for};
+ghost use Rattle.mn_topo.specs.Network.{wiring_of};
+ghost use Rattle.mn_ledger.specs.Transport.{known, offers};
+ghost use Rattle.mn_frames.specs.Entries.{outer_for, AreWays};
 ghost use Rattle.mn_frames.specs.Given.{given};
 ghost use Rattle.mn_lsr.specs.Standing.{FitsOuter};
 ghost use Rattle.mn_transport_model.specs.Stands.{IsTransport};
@@ -15,6 +17,9 @@ use mn_linkdb::LinkDb;
 use mn_lsr::Lsr;
 use mn_topo::Topology;
 use std::marker::Model;
+
+/// The most nodes of a topology.
+pub const MOST_NODES: usize = 256;
 
 /// The transport of all nodes.
 ///
@@ -116,6 +121,33 @@ impl Transport {
     {
         topology.laws();
         self.nodes[usize::from(node.0)].outer(edge)
+    }
+
+    /// Whether a node can send towards another, or is that node: it offers its FEC.
+    fn offers(&self, topology: &Topology, node: NodeNo, to: NodeNo) -> bool
+        requires node { node.0 < length topology.now.loopbacks }
+        requires to { to.0 < length topology.now.loopbacks }
+        requires stands { (journal : List JournalEntry) × IsTransport topology.now journal self.now }
+        ensures { (journal : List JournalEntry) → IsTransport topology.now journal self.now →
+            result ≡ offers (wiring_of topology.now) (known topology.now (world_of topology.now journal) node.0) node.0 to.0 }
+    {
+        let way = self.outer(topology, node, to);
+        node.0 == to.0 || way.is_some()
+    }
+
+    /// Of each node, by number, whether a node can send towards it. It takes no memory.
+    pub fn ways(&self, topology: &Topology, node: NodeNo) -> [bool; MOST_NODES]
+        requires node { node.0 < length topology.now.loopbacks }
+        requires stands { (journal : List JournalEntry) × IsTransport topology.now journal self.now }
+        ensures { (journal : List JournalEntry) → IsTransport topology.now journal self.now →
+            AreWays topology.now (world_of topology.now journal) node.0 result }
+    {
+        topology.laws();
+        let mut ways = [false; MOST_NODES];
+        for to in 0..topology.nodes().len() {
+            ways[to] = self.offers(topology, node, NodeNo(to as u16));
+        }
+        ways
     }
 
     /// The notices in flight.

@@ -1,11 +1,12 @@
 //! An edge: `pe new NODE` makes it of the topology in the text. `pe attach SITE LABEL`, `pe detach SITE`, `pe attached SITE`;
 //! `pe add SITE PREFIX`, `pe del SITE PREFIX`; `pe import VRF TARGET on`, `off`, `pe export ..`; `pe hear NODE UPDATE`,
 //! `pe forget NODE`; `pe lookup VRF ADDRESS`, `pe held VRF K`; `pe exports`, `pe exports_at VRF`, `pe exports_over SITE`,
-//! `pe export_of SITE PREFIX`, which answer each as `VRF RD PREFIX LABEL SITE TARGET ..`; `pe enter SITE PACKET`.
+//! `pe export_of SITE PREFIX`, which answer each as `VRF RD PREFIX LABEL SITE TARGET ..`; `pe enter SITE PACKET`,
+//! `pe enter_among SITE WAYS PACKET`, where WAYS has a digit for each node, 1 where there is a way to it.
 ghost use Rattle.std.specs.Prelude.{IfOk, IfSome};
 ghost use Rattle.mn_pe.specs.Pe.{AreLabelled};
 
-use crate::routes::route;
+use crate::routes::{route, ways};
 use crate::targets::target_words;
 use mn_base::{NodeNo, SiteNo, VrfNo};
 use mn_bgp_wire::{BgpMessage, BgpWireBad, Update, read_bgp};
@@ -117,11 +118,8 @@ fn told(alloc: Global, found: Result<Vec<Export>, NoMemory>) -> Answer {
     }
 }
 
-fn enter(alloc: Global, pe: &Pe, call: Call<'_>, site: SiteNo) -> Answer {
-    let Some(packet) = call.bytes(alloc, 3)? else {
-        return Ok(None);
-    };
-    match pe.enter(site, &packet) {
+fn entered(alloc: Global, entered: Result<Entered, NoMemory>) -> Answer {
+    match entered {
         Ok(Entered::Drop(rule)) => shown(alloc, &rule),
         Ok(Entered::Local(site, frame)) => {
             let bytes = in_hex(alloc, frame.bytes())?;
@@ -135,6 +133,21 @@ fn enter(alloc: Global, pe: &Pe, call: Call<'_>, site: SiteNo) -> Answer {
     }
 }
 
+fn enter(alloc: Global, pe: &Pe, call: Call<'_>, site: SiteNo) -> Answer {
+    let Some(packet) = call.bytes(alloc, 3)? else {
+        return Ok(None);
+    };
+    entered(alloc, pe.enter(site, &packet))
+}
+
+fn enter_among(alloc: Global, pe: &Pe, call: Call<'_>, site: SiteNo) -> Answer {
+    let Some(packet) = call.bytes(alloc, 4)? else {
+        return Ok(None);
+    };
+    let ways = ways(alloc, call)?;
+    entered(alloc, pe.enter_among(site, &packet, &ways))
+}
+
 fn of_site(alloc: Global, pe: &mut Pe, call: Call<'_>, site: SiteNo) -> Answer {
     match call.verb() {
         b"attach" => match call.number_u32(3) {
@@ -145,6 +158,7 @@ fn of_site(alloc: Global, pe: &mut Pe, call: Call<'_>, site: SiteNo) -> Answer {
         b"attached" => shown(alloc, &pe.attached(site)),
         b"exports_over" => told(alloc, pe.exports_over(site)),
         b"enter" => enter(alloc, pe, call, site),
+        b"enter_among" => enter_among(alloc, pe, call, site),
         _ => of_prefix(alloc, pe, call, site),
     }
 }

@@ -53,3 +53,14 @@ pub(crate) fn route(alloc: Global, found: Option<(Prefix, Source)>) -> Answer {
         None => String::from_str(alloc, "none")?,
     }))
 }
+
+/// The ways that a row names at its fourth word: a digit for each node, 1 where there is one.
+pub(crate) fn ways(alloc: Global, call: Call<'_>) -> Result<Vec<bool>, AllocError> {
+    let mut ways = Vec::new(alloc);
+    if let Some(digits) = call.word(3) {
+        for digit in digits {
+            ways.push(*digit == b'1')?;
+        }
+    }
+    Ok(ways)
+}

@@ -1,12 +1,13 @@
 //! The VRF 0 with the distinguisher 65000:1: `vrf first PREFIX SOURCE` makes it anew, with this route offered;
-//! `vrf replace PREFIX SOURCE`, `vrf withdraw PREFIX SOURCE`, `vrf retract PREFIX SOURCE`; `vrf lookup ADDRESS`, `vrf held K`, and
+//! `vrf replace PREFIX SOURCE`, `vrf withdraw PREFIX SOURCE`, `vrf retract PREFIX SOURCE`; `vrf lookup ADDRESS`,
+//! `vrf lookup_among ADDRESS WAYS`, `vrf open_at PREFIX WAYS`, where WAYS has a digit for each node, `vrf held K`, and
 //! `vrf sources PREFIX`, which tells its sources and how many prefixes of its length there are. `vrf add PREFIX SITE`,
 //! `vrf del PREFIX SITE`, `vrf static K`, `vrf statics`; `vrf import TARGET on`, `off`, `vrf export ..`, `vrf imports`,
 //! `vrf exports`, `vrf name`. `vrf take` takes all that it holds out, `vrf hold` gives it what was taken out and then nothing.
 //! `vrf says REFUSAL` is a refusal as text.
 ghost use Rattle.std.specs.Prelude.{◌≡◌, []};
 
-use crate::routes::{route, source, source_words};
+use crate::routes::{route, source, source_words, ways};
 use crate::targets::target_list;
 use mn_base::{Rd, SiteNo, VrfNo};
 use mn_prefix::{Prefix, PrefixTable};
@@ -129,6 +130,25 @@ fn at_number(alloc: Global, vrf: &Vrf, call: Call<'_>) -> Answer {
     }
 }
 
+fn open_at(alloc: Global, vrf: &Vrf, call: Call<'_>) -> Answer {
+    let Some(prefix) = call.prefix(2) else {
+        return Ok(None);
+    };
+    let ways = ways(alloc, call)?;
+    Ok(Some(match vrf.open_at(prefix, &ways) {
+        Some(source) => source_words(alloc, &source)?,
+        None => String::from_str(alloc, "none")?,
+    }))
+}
+
+fn lookup_among(alloc: Global, vrf: &Vrf, call: Call<'_>) -> Answer {
+    let Some(address) = call.address(2) else {
+        return Ok(None);
+    };
+    let ways = ways(alloc, call)?;
+    route(alloc, vrf.lookup_among(address, &ways))
+}
+
 /// What a VRF says without a change.
 fn look(alloc: Global, vrf: &Vrf, call: Call<'_>) -> Answer {
     match call.verb() {
@@ -141,6 +161,8 @@ fn look(alloc: Global, vrf: &Vrf, call: Call<'_>) -> Answer {
             Some(address) => route(alloc, vrf.lookup(address)),
             None => Ok(None),
         },
+        b"lookup_among" => lookup_among(alloc, vrf, call),
+        b"open_at" => open_at(alloc, vrf, call),
         b"sources" => match call.prefix(2) {
             Some(prefix) => sources(alloc, vrf, prefix),
             None => Ok(None),

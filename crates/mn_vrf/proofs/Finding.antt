@@ -39,7 +39,7 @@ sources_append p xs ys =
     ∙ map-append (λ (r : AddressBlock × Source). r.1) (filter (λ (r : AddressBlock × Source). same_prefix p r.0) xs)
     (filter (λ (r : AddressBlock × Source). same_prefix p r.0) ys)
 
-sources_same : (p q : AddressBlock) (ss : List Source) → same_prefix p q ≡ true → sources_of p (map (λ s. (q, s)) ss) ≡ ss
+pub sources_same : (p q : AddressBlock) (ss : List Source) → same_prefix p q ≡ true → sources_of p (map (λ s. (q, s)) ss) ≡ ss
 sources_same p q [] h = refl
 sources_same p q (s ∷ ss) h =
     ap (λ b. map (λ (r : AddressBlock × Source). r.1)
@@ -188,7 +188,7 @@ held_is table ks p s kept = ap (is_that s) (one_is table ks p s kept) ∙ by (on
     by (Some r) = refl
 
 -- 3. The first route of each prefix
-abbrev top_of : AddressBlock → List Source → List (AddressBlock × Source)
+abbrev pub top_of : AddressBlock → List Source → List (AddressBlock × Source)
 top_of p [] = []
 top_of p (s ∷ ss) = (p, s) ∷ []
 
@@ -300,7 +300,7 @@ fold_again address best k s [] = refl
 fold_again address best k s (t ∷ ss) =
     ap (λ b. fold (chosen address) b (map (λ s. (k, s)) ss)) (chosen_again address best k s t) ∙ fold_again address best k s ss
 
-fold_top : (address : ℕ) (best : Option (AddressBlock × Source)) (k : AddressBlock) (ss : List Source) →
+pub fold_top : (address : ℕ) (best : Option (AddressBlock × Source)) (k : AddressBlock) (ss : List Source) →
     fold (chosen address) best (map (λ s. (k, s)) ss) ≡ fold (chosen address) best (top_of k ss)
 fold_top address best k [] = refl
 fold_top address best k (s ∷ ss) = fold_again address best k s ss
@@ -352,7 +352,7 @@ top_keys table (k ∷ ks) filled = by (those k table) filled.0 (top_keys table k
     by [] some more = absurd (omega (arith, some))
     by (s ∷ ss) some more = ap (λ js. k ∷ js) more
 
-distinct_in_order : (ks : List AddressBlock) → Ascends prefix_before ks → IsDistinct same_prefix ks
+pub distinct_in_order : (ks : List AddressBlock) → Ascends prefix_before ks → IsDistinct same_prefix ks
 unfolding IsDistinct
 distinct_in_order [] h = tt
 distinct_in_order (k ∷ ks) h = (apart ks h.0, distinct_in_order ks h.1)

@@ -1,6 +1,7 @@
 -- The routes that a VRF holds: by prefix, and of one prefix by preference. RFC 4364, sections 4.3 and 5; RFC 1812, section 5.2.4.3.
-use Rattle.std.specs.Prelude.{◌&&◌, ◌==◌, nat_lt, Bool, true, false, if◌then◌else◌, Option, Some, None, List, [], ◌∷◌, map, filter}
+use Rattle.std.specs.Prelude.{ℕ, slice_index_or, ◌&&◌, ◌==◌, nat_lt, Bool, true, false, if◌then◌else◌, Option, Some, None, List, [], ◌∷◌, map, filter}
 use Rattle.mn_prefix.specs.Prefix.{AddressBlock, same_prefix}
+use Rattle.mn_prefix.specs.Table.{longest_match}
 use Rattle.mn_base.specs.Ordered.{first_by, one_at, without_one}
 use Rattle.mn_vrf.specs.declared.source.Source.{Source}
 use Rattle.mn_vrf.specs.declared.source.Source.TheVariants.{Own, Near, Far}
@@ -56,3 +57,20 @@ is_source source (Some other) = same_source source other
 
 abbrev pub has_source : Source → List Source → Bool
 has_source source sources = is_source source (one_at source_before source sources)
+
+-- the route is one of the edge itself, or of an edge that is among these: RFC 4271, section 9.1.2
+abbrev pub is_open : List Bool → Source → Bool
+is_open ways (Far address rd edge label) = slice_index_or ways edge.0 false
+is_open ways source = true
+
+abbrev pub open_among : List Bool → List (AddressBlock × Source) → List (AddressBlock × Source)
+open_among ways routes = filter (λ (route : AddressBlock × Source). is_open ways route.1) routes
+
+-- the first, if there is one
+abbrev pub or_else : {A : Type 0} → Option A → Option A → Option A
+or_else None other = other
+or_else (Some x) other = Some x
+
+-- the first open route of the longest prefix that contains the address and has one; where there is none, the first of the longest of all
+abbrev pub found_among : List Bool → ℕ → List (AddressBlock × Source) → Option (AddressBlock × Source)
+found_among ways address routes = or_else (longest_match address (open_among ways routes)) (longest_match address routes)

@@ -1,10 +1,11 @@
 // The routes that a VRF holds: the sources of each prefix in a table, and the prefixes in order.
-ghost use Rattle.std.specs.Prelude.{◌≡◌, ◌+◌, ℕ, [], Some, IsSome, OnOk, OnErr, slice_get, option_map};
-ghost use Rattle.mn_prefix.specs.Prefix.{AddressBlock};
+ghost use Rattle.std.specs.Prelude.{◌≡◌, ◌+◌, ℕ, [], Some, IsSome, OnOk, OnErr, slice_get, option_map, ◌≢◌, ◌≤◌, filter};
+ghost use Rattle.mn_prefix.specs.Prefix.{AddressBlock, IsPrefix};
 ghost use Rattle.mn_prefix.specs.Table.{longest_match, value_at, ChangesOnly, first_of};
 ghost use Rattle.mn_base.specs.Ordered.{with_one, without_one};
-ghost use Rattle.mn_vrf.specs.Routes.{route_before, is_held, sources_of, unless_empty};
+ghost use Rattle.mn_vrf.specs.Routes.{route_before, is_held, sources_of, unless_empty, is_open, open_among, found_among};
 ghost use Rattle.mn_vrf.specs.Vrf.{heads, IsHeldAt};
+ghost use Rattle.mn_lpm.specs.Levels.{prefix_at};
 
 use crate::{Source, Sources};
 use mn_lpm::LengthTable;
@@ -145,6 +146,56 @@ impl Routes {
     {
         match self.table.longest(address) {
             Some(found) => best_of(found.0, found.1),
+            None => None,
+        }
+    }
+
+    /// The first open route of the prefix of this length that contains the address.
+    fn at_length(&self, length: u8, address: u32, ways: &[bool]) -> Option<(Prefix, Source)>
+        requires { length ≤ 32 }
+        ensures found { result ≡ option_map (λ source. (prefix_at length address, source)) (first_of (filter (is_open ways.now) (sources_of (prefix_at length address) self.now))) }
+        ensures formed { (p : AddressBlock) → sources_of p self.now ≢ [] → IsPrefix p.address p.length }
+    {
+        match self.table.of_length(length, address) {
+            Some(found) => match found.1.first_open(ways) {
+                Some(source) => Some((found.0, source)),
+                None => None,
+            },
+            None => None,
+        }
+    }
+
+    /// The first open route of the longest prefix that contains the address and has one: own routes, those of other VRFs of
+    /// the edge, and those of the edges that are among these. It takes no memory.
+    pub fn lookup_open(&self, address: u32, ways: &[bool]) -> Option<(Prefix, Source)>
+        ensures { result ≡ longest_match address (open_among ways.now self.now) }
+    {
+        let _ = &self.table;
+        for shorter in 0..33 {
+            let found = self.at_length(32 - shorter, address, ways);
+            if found.is_some() {
+                return found;
+            }
+        }
+        None
+    }
+
+    /// The same, and where no route is open the first of the longest prefix of all. It takes no memory.
+    pub fn lookup_among(&self, address: u32, ways: &[bool]) -> Option<(Prefix, Source)>
+        ensures { result ≡ found_among ways.now address self.now }
+    {
+        match self.lookup_open(address, ways) {
+            Some(found) => Some(found),
+            None => self.lookup(address),
+        }
+    }
+
+    /// The first open route of a prefix. It takes no memory.
+    pub(crate) fn open_at(&self, prefix: Prefix, ways: &[bool]) -> Option<Source>
+        ensures { result ≡ first_of (filter (is_open ways.now) (sources_of prefix self.now)) }
+    {
+        match self.table.get(prefix) {
+            Some(sources) => sources.first_open(ways),
             None => None,
         }
     }

@@ -1,6 +1,6 @@
 // Where a route comes from, and which of two is preferred.
 ghost use Rattle.std.specs.Prelude.{◌≡◌};
-ghost use Rattle.mn_vrf.specs.Routes.{source_before, same_source};
+ghost use Rattle.mn_vrf.specs.Routes.{source_before, same_source, is_open};
 
 use mn_base::{NodeNo, Rd, SiteNo, VrfNo};
 
@@ -52,6 +52,19 @@ impl Source {
             }
             (Source::Far { .. }, _) => false,
         }
+    }
+}
+
+/// Whether a source is one of the edge itself, or of an edge that is among these, by number.
+pub(crate) fn is_open(source: &Source, ways: &[bool]) -> bool
+    ensures { result ≡ is_open ways.now source.now }
+{
+    match *source {
+        Source::Far { edge, .. } => match ways.get(edge.0 as usize) {
+            Some(is_open) => *is_open,
+            None => false,
+        },
+        Source::Own(_) | Source::Near(_, _) => true,
     }
 }
 

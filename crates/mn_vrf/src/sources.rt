@@ -1,10 +1,12 @@
 // The sources of one prefix, by a binary search over a vector.
 ghost use Rattle.std.specs.Prelude.{◌≡◌, ◌==◌, [], true, false, length, OnOk, OnErr};
 ghost use Rattle.mn_base.specs.Ordered.{IsPlaceFor, StandsAt, StandsBehind, with_one, without_one};
-ghost use Rattle.mn_vrf.specs.Routes.{source_before, has_source};
+ghost use Rattle.mn_vrf.specs.Routes.{source_before, has_source, is_open};
+ghost use Rattle.mn_prefix.specs.Table.{first_of};
+ghost use Rattle.std.specs.Prelude.{filter};
 
 use crate::Source;
-use crate::source::are_same;
+use crate::source::{are_same, is_open};
 use std::alloc::{AllocError, Global};
 use std::marker::Model;
 
@@ -42,6 +44,18 @@ impl Sources {
         ensures { result.now ≡ self.now }
     {
         &self.sources
+    }
+
+    /// The preferred of those that are open.
+    pub(crate) fn first_open(&self, ways: &[bool]) -> Option<Source>
+        ensures { result ≡ first_of (filter (is_open ways.now) self.now) }
+    {
+        for source in self.as_slice() {
+            if is_open(source, ways) {
+                return Some(*source);
+            }
+        }
+        None
     }
 
     /// Whether there is none.

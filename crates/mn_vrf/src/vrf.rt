@@ -1,11 +1,11 @@
 // One VRF, as it is told.
-ghost use Rattle.std.specs.Prelude.{◌≡◌, ◌+◌, ℕ, [], true, false, None, Some, OnOk, OnErr, IfOk, slice_get, if◌then◌else◌, option_map};
+ghost use Rattle.std.specs.Prelude.{◌≡◌, ◌+◌, ℕ, [], true, false, None, Some, OnOk, OnErr, IfOk, slice_get, filter, if◌then◌else◌, option_map};
 ghost use Rattle.std.specs.Map.Iter.{ShowsInOrder, deref};
 ghost use Rattle.mn_prefix.specs.Prefix.{AddressBlock};
-ghost use Rattle.mn_prefix.specs.Table.{longest_match, value_at};
+ghost use Rattle.mn_prefix.specs.Table.{longest_match, value_at, first_of};
 ghost use Rattle.mn_base.specs.Ordered.{with_one, without_one, one_at};
 ghost use Rattle.mn_targets.specs.Targets.{target_set, has_target};
-ghost use Rattle.mn_vrf.specs.Routes.{route_before, without_route, sources_of, unless_empty};
+ghost use Rattle.mn_vrf.specs.Routes.{route_before, without_route, sources_of, unless_empty, is_open, found_among};
 ghost use Rattle.mn_vrf.specs.Vrf.{Static, Holding, with_static, without_static, with_imports, with_exports, add_refused, del_refused, set_refused, refusal_of, static_of, heads, IsHeldAt};
 
 use crate::{Routes, Source, Sources, StaticRoute, Statics, VrfBad};
@@ -208,6 +208,21 @@ impl Vrf {
         ensures { result ≡ longest_match address self.now.held }
     {
         self.held.lookup(address)
+    }
+
+    /// The best of the open routes whose prefix contains the address: own routes, those of other VRFs of the edge, and those of
+    /// edges that are among these, by number; where there is none, the best of all. It takes no memory.
+    pub fn lookup_among(&self, address: u32, ways: &[bool]) -> Option<(Prefix, Source)>
+        ensures { result ≡ found_among ways.now address self.now.held }
+    {
+        self.held.lookup_among(address, ways)
+    }
+
+    /// Where the best of the open routes of a prefix comes from. It takes no memory.
+    pub fn open_at(&self, prefix: Prefix, ways: &[bool]) -> Option<Source>
+        ensures { result ≡ first_of (filter (is_open ways.now) (sources_of prefix self.now.held)) }
+    {
+        self.held.open_at(prefix, ways)
     }
 
     /// The held prefix of this number, with the best of its routes. It takes no memory.

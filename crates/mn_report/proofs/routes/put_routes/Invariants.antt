@@ -14,7 +14,7 @@ use Rattle.mn_report.proofs.routes.put_routes.Given as goal
 abbrev pub invariant-loop : goal.invariant-loop
 invariant-loop g l = record {
   told :
-      Told (flat_map (line_at l.net.topology (given l.net.topology l.net.journal) l.vrf.0
+      Told (flat_map (line_at l.net.topology (world_of l.net.topology l.net.journal) (given l.net.topology l.net.journal) l.vrf.0
       (held_in l.net.topology (world_of l.net.topology l.net.journal) l.vrf.0))
       (take l.counter (prefixes_of (held_in l.net.topology (world_of l.net.topology l.net.journal) l.vrf.0))))
       (standing l.fn.page (g.O.Sink.written l.fn.out) (g.O.Sink.faults l.fn.out)) (standing l.page (g.O.Sink.written l.out) (g.O.Sink.faults l.out));

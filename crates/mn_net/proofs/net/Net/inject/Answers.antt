@@ -5,7 +5,8 @@ use Rattle.mn_net_look.specs.Tallies.{Tally, frame_of}
 use Rattle.mn_topo.specs.declared.steps.Step.TheVariants as step
 use Rattle.mn_ledger.specs.Ledger.{world_of}
 use Rattle.mn_frames.specs.Given.{given}
-use Rattle.mn_net_moves.proofs.Moves.{net_may, net_done, as_it_is, numbers, one_more, counted_so, few_frames, bound_below, room_at, size_small}
+use Rattle.mn_transit.specs.Entering.{IsWayOut}
+use Rattle.mn_net_moves.proofs.Moves.{net_may, net_done, as_it_is, numbers, one_more, counted_so, few_frames, size_small}
 use Rattle.mn_net_moves.proofs.Moves.{verdicts_few, copies_fit}
 use Rattle.mn_net_moves.proofs.Moves.{inject_done}
 use Rattle.mn_net.proofs.Few.{made_fits, at_most_one}
@@ -21,26 +22,7 @@ pub enter-requires-clause-stands : goal.enter-requires-clause-stands
 enter-requires-clause-stands c =
     let may = net_may _ _ (step.Inject c.args.site c.args.number) c.args.packet.now c.self.view_is c.requires.may in
     let is = c.self.invariant may.works in
-    (c.self.inside.journal.items, is.stands.routes)
-
-pub inject-requires-clause-room : goal.inject-requires-clause-room
-inject-requires-clause-room c =
-    room_at c.in_ok-entered.ensures.answer.0 c.args.site.0 c.args.packet.now c.in_ok-entered.entered c.in_ok-entered.ensures.answer.1
-
-pub way_out-outer-requires-clause-edge : goal.way_out-outer-requires-clause-edge
-way_out-outer-requires-clause-edge c =
-    let may = net_may _ _ (step.Inject c.args.site c.args.number) c.args.packet.now c.self.view_is c.requires.may in
-    let is = c.self.invariant may.works in
-    let t = c.self.inside.topology in
-    let es = c.self.inside.journal.items in
-    bound_below t (given t es) (world_of t es) c.args.site.0 c.args.packet.now c.in_ok-entered.entered
-    (c.in_ok-entered.ensures.fate es is.inputs is.stands.stands.lawful is.stands.routes)
-
-pub way_out-outer-requires-clause-stands : goal.way_out-outer-requires-clause-stands
-way_out-outer-requires-clause-stands c =
-    let may = net_may _ _ (step.Inject c.args.site c.args.number) c.args.packet.now c.self.view_is c.requires.may in
-    let is = c.self.invariant may.works in
-    (c.self.inside.journal.items, is.stands.transport)
+    (c.self.inside.journal.items, is.inputs, is.stands.stands.lawful, is.stands.routes, is.stands.transport)
 
 pub inject-requires-clause-number : goal.inject-requires-clause-number
 inject-requires-clause-number c =
@@ -91,15 +73,16 @@ invariant_of-self-2 c = λ works.
     let may = net_may _ _ (step.Inject c.args.site c.args.number) c.args.packet.now c.self.view_is c.requires.may in
     let is = c.self.invariant may.works in
     (as_it_is _ _ (step.Inject c.args.site c.args.number) c.args.packet.now c.reserve.new.self.items c.push_reserved.new.self.items _
-    (inject_done _ c.inject.new.self c.count_frame.new.tally c.args.site c.args.number c.args.packet.now c.home_of-node.result c.in_ok-entered.entered
-    c.way_out-outer.result c.in_ok-flies.flies
+    (inject_done _ c.inject.new.self c.count_frame.new.tally c.args.site c.args.number c.args.packet.now c.home_of-node.result c.in_ok-entry.entry.entered
+    c.in_ok-entry.entry.outer c.in_ok-flies.flies
     (c.self.inside.made + c.from.result) c.a_transport_goes_on_as_it_was.ensures c.routes_stay_as_they_were.ensures c.laws.ensures is may
     (λ ps h. sym c.flying_bytes-flying.ensures.counted ∙ c.flying_bytes-flying.ensures.told _ _ _ is.channels h.stands.packets)
-    c.home_of-node.ensures.home c.in_ok-entered.ensures.fate
+    c.home_of-node.ensures.home c.in_ok-entry.ensures.fate
     (size_small c.self.inside.topology (given c.self.inside.topology c.self.inside.journal.items)
-    (world_of c.self.inside.topology c.self.inside.journal.items) c.args.site.0 c.args.packet.now c.in_ok-entered.entered (λ i. (c.type_inv.packet i).fits)
-    (c.in_ok-entered.ensures.fate c.self.inside.journal.items is.inputs is.stands.stands.lawful is.stands.routes))
-    (λ es stands fate. c.way_out-outer.ensures.told es stands c.args.site.0 c.args.packet.now c.home_of-node.ensures.home fate)
+    (world_of c.self.inside.topology c.self.inside.journal.items) c.args.site.0 c.args.packet.now c.in_ok-entry.entry.entered (λ i. (c.type_inv.packet i).fits)
+    (c.in_ok-entry.ensures.fate c.self.inside.journal.items is.inputs is.stands.stands.lawful is.stands.routes is.stands.transport))
+    (λ es stands fate. subst (λ n. IsWayOut c.self.inside.topology (given c.self.inside.topology es) (world_of c.self.inside.topology es) n
+    c.in_ok-entry.entry.entered c.in_ok-entry.entry.outer) (sym c.home_of-node.ensures.home) (c.in_ok-entry.ensures.way es stands))
     c.in_ok-flies.ensures.moved c.in_ok-flies.ensures.made c.in_ok-flies.ensures.counts
     (ap (λ n. c.self.inside.made + n) (c.from.ensures ∙ one_more c.in_ok-flies.flies))
     (counted_so c.self.inside.topology (frame_of c.self.inside.made c.inject.new.self.flying) c.self.inside.tally c.reserve-2.new.self
@@ -111,15 +94,16 @@ returns-clause-done c =
     let is = c.self.invariant may.works in
     net_done _ _ _ (step.Inject c.args.site c.args.number) c.args.packet.now c.self.view_is
     (as_it_is _ _ (step.Inject c.args.site c.args.number) c.args.packet.now c.reserve.new.self.items c.push_reserved.new.self.items _
-    (inject_done _ c.inject.new.self c.count_frame.new.tally c.args.site c.args.number c.args.packet.now c.home_of-node.result c.in_ok-entered.entered
-    c.way_out-outer.result c.in_ok-flies.flies
+    (inject_done _ c.inject.new.self c.count_frame.new.tally c.args.site c.args.number c.args.packet.now c.home_of-node.result c.in_ok-entry.entry.entered
+    c.in_ok-entry.entry.outer c.in_ok-flies.flies
     (c.self.inside.made + c.from.result) c.a_transport_goes_on_as_it_was.ensures c.routes_stay_as_they_were.ensures c.laws.ensures is may
     (λ ps h. sym c.flying_bytes-flying.ensures.counted ∙ c.flying_bytes-flying.ensures.told _ _ _ is.channels h.stands.packets)
-    c.home_of-node.ensures.home c.in_ok-entered.ensures.fate
+    c.home_of-node.ensures.home c.in_ok-entry.ensures.fate
     (size_small c.self.inside.topology (given c.self.inside.topology c.self.inside.journal.items)
-    (world_of c.self.inside.topology c.self.inside.journal.items) c.args.site.0 c.args.packet.now c.in_ok-entered.entered (λ i. (c.type_inv.packet i).fits)
-    (c.in_ok-entered.ensures.fate c.self.inside.journal.items is.inputs is.stands.stands.lawful is.stands.routes))
-    (λ es stands fate. c.way_out-outer.ensures.told es stands c.args.site.0 c.args.packet.now c.home_of-node.ensures.home fate)
+    (world_of c.self.inside.topology c.self.inside.journal.items) c.args.site.0 c.args.packet.now c.in_ok-entry.entry.entered (λ i. (c.type_inv.packet i).fits)
+    (c.in_ok-entry.ensures.fate c.self.inside.journal.items is.inputs is.stands.stands.lawful is.stands.routes is.stands.transport))
+    (λ es stands fate. subst (λ n. IsWayOut c.self.inside.topology (given c.self.inside.topology es) (world_of c.self.inside.topology es) n
+    c.in_ok-entry.entry.entered c.in_ok-entry.entry.outer) (sym c.home_of-node.ensures.home) (c.in_ok-entry.ensures.way es stands))
     c.in_ok-flies.ensures.moved c.in_ok-flies.ensures.made c.in_ok-flies.ensures.counts
     (ap (λ n. c.self.inside.made + n) (c.from.ensures ∙ one_more c.in_ok-flies.flies))
     (counted_so c.self.inside.topology (frame_of c.self.inside.made c.inject.new.self.flying) c.self.inside.tally c.reserve-2.new.self

@@ -1,16 +1,46 @@
-use Rattle.std.proofs.Common.{◌≡◌, ◌<◌, ◌∙◌, ap, sym, subst, length}
-use Rattle.std.specs.Prelude.{option_map}
+use Rattle.std.proofs.Common.{ℕ, ◌≡◌, ◌<◌, ◌∙◌, ap, sym, subst, false, length, Option}
+use Rattle.std.specs.Prelude.{◌&&◌, option_map}
+use Rattle.mn_prefix.specs.Prefix.{AddressBlock}
+use Rattle.mn_topo.specs.Network.{Network}
+use Rattle.mn_topo.specs.Lawful.{IsLawful}
+use Rattle.mn_ledger.specs.World.{World}
 use Rattle.mn_ledger.specs.Ledger.{world_of}
 use Rattle.mn_ledger.specs.Places.{edge_of}
 use Rattle.mn_ledger.specs.Held.{held, best}
-use Rattle.mn_frames.specs.Numbers.{labels_of}
-use Rattle.mn_routing_model.specs.Sources.{as_held}
-use Rattle.mn_net_moves.specs.Now.{NetNow}
-use Rattle.mn_net_moves.proofs.Told.{net_is}
+use Rattle.mn_ledger.specs.Eligible.{eligible, is_resolved, only_if, some_resolves}
 use Rattle.mn_ledger.specs.Settled.{IsSettled}
-use Rattle.mn_settled.specs.Routes.{routes_of}
+use Rattle.mn_settled.specs.Routes.{eligible_of}
+use Rattle.mn_frames.specs.Entries.{AreWays}
+use Rattle.mn_frames.specs.Numbers.{labels_of}
+use Rattle.mn_vrf.specs.declared.source.Source.{Source}
+use Rattle.mn_routing_model.specs.Sources.{as_held}
+use Rattle.mn_net_moves.specs.Now.{NetNow, IsNet}
+use Rattle.mn_net_moves.proofs.Told.{net_is}
 use Rattle.mn_net.proofs.Settled.{from_scratch}
 use Rattle.mn_net.proofs.net.Net.lookup.Goals as goal
+
+-- where the topology doesn't resolve next hops, all routes take part
+all_take_part : (t : Network) (w : World) (e v address : ℕ) → t.resolve ≡ false → held t w.config w.peerings e v ≡ eligible t w e v address
+all_take_part t w e v address off =
+    sym (ap (λ b. only_if (b && some_resolves t w e v address) (is_resolved t w e) (held t w.config w.peerings e v)) off)
+
+module _ (inside now : NetNow) (same : inside ≡ now) (v address : ℕ) (lawful : IsLawful inside.topology) (is : IsNet inside)
+    (below : v < length inside.topology.vrfs) (result : Option (AddressBlock × Source))
+    (found : result ≡ option_map (as_held (labels_of inside.topology inside.journal))
+    (best (eligible inside.topology (world_of inside.topology inside.journal) (edge_of inside.topology v) v address) address)) where
+  is_told : result ≡ option_map (as_held (labels_of now.topology now.journal))
+      (best (eligible now.topology (world_of now.topology now.journal) (edge_of now.topology v) v address) address)
+  is_told = found
+      ∙ ap (λ (n : NetNow). option_map (as_held (labels_of n.topology n.journal))
+      (best (eligible n.topology (world_of n.topology n.journal) (edge_of n.topology v) v address) address)) same
+
+  is_settled : IsSettled now.topology (world_of now.topology now.journal) → result ≡ option_map (as_held (labels_of now.topology now.journal))
+      (best (eligible_of now.topology (world_of now.topology now.journal) (edge_of now.topology v) v address) address)
+  is_settled =
+      subst (λ (n : NetNow). IsSettled n.topology (world_of n.topology n.journal) → result ≡ option_map (as_held (labels_of n.topology n.journal))
+      (best (eligible_of n.topology (world_of n.topology n.journal) (edge_of n.topology v) v address) address)) same
+      (λ settled. found ∙ ap (option_map (as_held (labels_of inside.topology inside.journal)))
+      (from_scratch inside.topology inside.journal is.inputs v address lawful is.stands.stands.lawful settled below))
 
 pub lookup-requires-clause-vrf : goal.lookup-requires-clause-vrf
 lookup-requires-clause-vrf c = subst (λ (n : NetNow). c.args.vrf.0 < length n.topology.vrfs) (sym c.self.view_is) c.requires.vrf
@@ -20,25 +50,38 @@ lookup-requires-clause-stands c =
     let is = net_is _ _ c.self.view_is c.self.invariant c.requires.works in
     (c.self.inside.journal.items, is.stands.routes)
 
-pub returns : goal.returns
-returns c =
+pub returns-then-not-resolve : goal.returns-then-not-resolve
+returns-then-not-resolve c =
     let is = net_is _ _ c.self.view_is c.self.invariant c.requires.works in
     let t = c.self.inside.topology in
     let es = c.self.inside.journal.items in
-    let w = world_of t es in
-    let v = subst (λ (n : NetNow). c.args.vrf.0 < length n.topology.vrfs) (sym c.self.view_is) c.requires.vrf in
-    let told : c.lookup.result
-    ≡ option_map (as_held (labels_of t es)) (best (held t w.config w.peerings (edge_of t c.args.vrf.0) c.args.vrf.0) c.args.address) =
-    c.lookup.ensures.best es is.inputs is.stands.stands.lawful is.stands.routes in
+    let below = subst (λ (n : NetNow). c.args.vrf.0 < length n.topology.vrfs) (sym c.self.view_is) c.requires.vrf in
+    let found = c.lookup.ensures.best es is.inputs is.stands.stands.lawful is.stands.routes
+    ∙ ap (λ rs. option_map (as_held (labels_of t es)) (best rs c.args.address))
+    (all_take_part t (world_of t es) (edge_of t c.args.vrf.0) c.args.vrf.0 c.args.address (sym c.resolve.ensures ∙ c.if-not-resolve.true)) in
     record {
-      told = told
-          ∙ ap (λ (n : NetNow). option_map (as_held (labels_of n.topology n.journal))
-          (best (held n.topology (world_of n.topology n.journal).config (world_of n.topology n.journal).peerings
-          (edge_of n.topology c.args.vrf.0) c.args.vrf.0) c.args.address)) c.self.view_is;
-      settled =
-          subst (λ (n : NetNow). IsSettled n.topology (world_of n.topology n.journal)
-          → c.lookup.result ≡ option_map (as_held (labels_of n.topology n.journal))
-          (best (routes_of n.topology (world_of n.topology n.journal).config (edge_of n.topology c.args.vrf.0) c.args.vrf.0) c.args.address)) c.self.view_is
-          (λ settled. told ∙ ap (option_map (as_held (labels_of t es)))
-          (from_scratch t es is.inputs c.args.vrf.0 c.args.address c.laws.ensures is.stands.stands.lawful settled v));
+      told = is_told _ _ c.self.view_is c.args.vrf.0 c.args.address c.laws.ensures is below c.lookup.result found;
+      settled = is_settled _ _ c.self.view_is c.args.vrf.0 c.args.address c.laws.ensures is below c.lookup.result found;
+    }
+
+pub lookup_among-requires-clause-vrf : goal.lookup_among-requires-clause-vrf
+lookup_among-requires-clause-vrf c = subst (λ (n : NetNow). c.args.vrf.0 < length n.topology.vrfs) (sym c.self.view_is) c.requires.vrf
+
+pub lookup_among-requires-clause-stands : goal.lookup_among-requires-clause-stands
+lookup_among-requires-clause-stands c =
+    let is = net_is _ _ c.self.view_is c.self.invariant c.requires.works in
+    (c.self.inside.journal.items, is.stands.routes)
+
+pub returns : goal.returns
+returns c =
+    let is = net_is _ _ c.self.view_is c.self.invariant c.requires.works in
+    let below = subst (λ (n : NetNow). c.args.vrf.0 < length n.topology.vrfs) (sym c.self.view_is) c.requires.vrf in
+    let are =
+    subst (λ (n : NetNow). AreWays n.topology (world_of n.topology n.journal) (edge_of n.topology c.args.vrf.0) c.ways_of-ways.result) (sym c.self.view_is)
+    c.ways_of-ways.ensures in
+    let found = c.lookup_among.ensures.best (sym c.resolve.ensures ∙ c.if-not-resolve.false) c.self.inside.journal.items is.inputs is.stands.stands.lawful
+    is.stands.routes are in
+    record {
+      told = is_told _ _ c.self.view_is c.args.vrf.0 c.args.address c.laws.ensures is below c.lookup_among.result found;
+      settled = is_settled _ _ c.self.view_is c.args.vrf.0 c.args.address c.laws.ensures is below c.lookup_among.result found;
     }

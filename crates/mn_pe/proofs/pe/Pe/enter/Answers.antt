@@ -12,4 +12,4 @@ if_ok (Err e) P Q f h = h
 pub returns-clause-fate : goal.returns-clause-fate
 returns-clause-fate c =
     if_ok c.entered.result _ _ (λ entered e t g w stands. subst (IsItsFate t g w c.args.site.0 c.args.packet.now) (sym e)
-    (is_its_fate t g w c.args.self.now.edge c.args.site.0 c.args.packet.now stands c.entered.ensures.bytes)) c.entered.ensures.answer
+    (is_its_fate t g w c.args.self.now.edge _ c.args.site.0 c.args.packet.now stands c.entered.ensures.bytes)) c.entered.ensures.answer
