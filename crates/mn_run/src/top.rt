@@ -56,7 +56,8 @@ pub fn command<S: Shelf, O: Sink>(
         (S.read_faults shelf.old, S.write_faults shelf.old, O.faults out.old)
         (S.read_faults shelf.new, S.write_faults shelf.new, O.faults out.new) result) }
     // Where all was done by `run`, each packet that was sent has one line and is accounted for: it reached only the
-    // site of the best route that its VRF held, unchanged but for TTL and checksum, or it fell to the first rule that
+    // site of the best route that its VRF held (of those that took part, where the topology resolves next hops), unchanged but
+    // for TTL and checksum, or it fell to the first rule that
     // applies, or it is on its way; sent in a steady stretch of a settled network with a way to its route's edge, it
     // arrives. Each `drain` without a number did no more steps than its bound, and settled the network where the journal had
     // room for them. The journal is the script's, and lawful; report and files are its own, and no other file changed. By
