@@ -1,4 +1,5 @@
-"""Each must-fail edit can be applied: its old text stands in its file exactly once."""
+"""Each must-fail edit and each wrong definition can be applied: its old text stands in its file exactly once, and no two edits are the same."""
+import re
 import unittest
 from pathlib import Path
 
@@ -9,6 +10,8 @@ def edits():
     for path in sorted([*TOP.glob("crates/*/must-fail/*.edit"), *TOP.glob("scripts/edits/*/*.edit")]):
         crate = path.parent.name if path.parent.name != "must-fail" else path.parents[1].name
         yield path, TOP / "crates" / crate
+    for path in sorted(TOP.glob("scripts/definitions/*.edit")):
+        yield path, TOP / "crates" / "mn_ledger"  # their files are named from its folder
 
 
 def fault(path, crate):
@@ -28,7 +31,7 @@ def fault(path, crate):
         elif word == "new" and old is not None:
             texts[source] = texts[source].replace(old, rest)
             changed, old = True, None
-        else:
+        elif word != "crate" or path.parent.name != "definitions":
             return f"a line that isn't file, old or new: {line}"
     return "" if changed and any(text != path.read_text() for path, text in texts.items()) else "it changes nothing"
 
@@ -37,6 +40,14 @@ class Edits(unittest.TestCase):
     def test_each_applies(self):
         faults = [f"{path.relative_to(TOP)}: {why}" for path, crate in edits() if (why := fault(path, crate))]
         self.assertEqual([], faults)
+
+    def test_none_stands_twice(self):
+        seen, twice = {}, []
+        for path, crate in edits():
+            wrong = (crate, re.sub(r"[ ]+", " ", path.read_text().strip()))
+            twice += [f"{path.name} is {seen[wrong]}"] if wrong in seen else []
+            seen[wrong] = path.name
+        self.assertEqual([], twice)
 
     def test_there_are_some(self):
         self.assertGreater(len(list(edits())), 300)

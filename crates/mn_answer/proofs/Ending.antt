@@ -10,13 +10,15 @@ use Rattle.mn_topo_toml.specs.declared.refusal.TopoRule.{TopoRule}
 use Rattle.mn_topo_toml.specs.declared.refusal.Place.{Place}
 use Rattle.mn_answer.specs.declared.outcome.Limit.TheVariants.{TopologyBytes, ScriptBytes, ScriptLines}
 use Rattle.std.proofs.lemmas.List.{take-append-drop, append-nil}
+use Rattle.mn_edge.specs.Faults.{Grew, GrewUnless, Rose}
+use Rattle.mn_edge.specs.FaultLaws.{grew_by, grew_rose, grew_not}
 use Rattle.mn_edge.specs.Files.{Files}
 use Rattle.mn_edge.specs.Written.{laid, PartWritten}
 use Rattle.mn_answer.specs.declared.outcome.Outcome.{Outcome}
 use Rattle.mn_answer.specs.declared.outcome.Outcome.TheVariants.{Done, Usage, ReadFault, WriteFault, NoMemory, BadTopology, BadScript, BadCapture, BadSecond, BadJoints, TooLarge}
 use Rattle.mn_lines.specs.Putting.{PartPut}
 use Rattle.mn_answer.specs.Answer.{Answer, refusal_of, if_lawful, if_accepted, most_topology_bytes, most_script_bytes}
-use Rattle.mn_answer.specs.Endings.{PartText, PartFiles, OutcomeIs, FilesAre, TextIs, IsLate, IsUnread, Answers, CausedBy, Completes, Counts, UsageIff}
+use Rattle.mn_answer.specs.Endings.{PartText, PartFiles, OutcomeIs, FilesAre, TextIs, IsLate, IsUnread, Answers, CausedBy, SinkCausedBy, Completes, Counts, UsageIff, NoRise, AreSound, EndsSoundly}
 
 -- the first bytes of the next piece
 pub part_put : (done piece rest t : List ℕ) (n : ℕ) (after : Option (List ℕ)) → after ≡ Some ((t ++ done) ++ take n piece) →
@@ -54,18 +56,43 @@ given None o h x e = absurd h
 given (Some y) o h x e = let s : y ≡ x = cc in sym h ∙ ap (λ z. z.outcome) s
 
 -- an answer that comes is the one, or a fault that rose, or want of memory
-pub completes : (a : Option Answer) (old new : Counts) (o : Outcome) → OutcomeIs a o → CausedBy old new o → Completes a old new o
-completes a old new ReadFault h c x e none = absurd (none.0 c.0.1)
-completes a old new WriteFault h c x e none = elim c.1 [ inl p ↦ absurd (none.1 p.0.1) | inr p ↦ absurd (none.2 p.0.1) ]
-completes a old new NoMemory h c x e none = inr refl
-completes a old new Done h c x e none = inl (given a Done h x e)
-completes a old new Usage h c x e none = inl (given a Usage h x e)
-completes a old new (BadTopology rule place) h c x e none = inl (given a (BadTopology rule place) h x e)
-completes a old new (BadScript rule line) h c x e none = inl (given a (BadScript rule line) h x e)
-completes a old new (BadCapture rule place) h c x e none = inl (given a (BadCapture rule place) h x e)
-completes a old new (BadSecond rule place) h c x e none = inl (given a (BadSecond rule place) h x e)
-completes a old new (BadJoints rule line) h c x e none = inl (given a (BadJoints rule line) h x e)
-completes a old new (TooLarge which limit) h c x e none = inl (given a (TooLarge which limit) h x e)
+pub completes : (a : Option Answer) (unread : Type 0) (old new : Counts) (o : Outcome) → (unread → a ≡ None) → OutcomeIs a o → CausedBy unread old new o →
+    Completes a old new o
+completes a unread old new ReadFault missing h c x e none =
+    absurd (let n : ◌≡◌ {A = Option Answer} None (Some x) = sym (missing (grew_not unread old.0 new.0 c.0 none.0)) ∙ e in cc)
+completes a unread old new WriteFault missing h c x e none =
+    elim c.1 [ inl p ↦ absurd (none.1 (grew_rose old.1 new.1 p.0)) | inr p ↦ absurd (none.2 (grew_rose old.2 new.2 p.0)) ]
+completes a unread old new NoMemory missing h c x e none = inr refl
+completes a unread old new Done missing h c x e none = inl (given a Done h x e)
+completes a unread old new Usage missing h c x e none = inl (given a Usage h x e)
+completes a unread old new (BadTopology rule place) missing h c x e none = inl (given a (BadTopology rule place) h x e)
+completes a unread old new (BadScript rule line) missing h c x e none = inl (given a (BadScript rule line) h x e)
+completes a unread old new (BadCapture rule place) missing h c x e none = inl (given a (BadCapture rule place) h x e)
+completes a unread old new (BadSecond rule place) missing h c x e none = inl (given a (BadSecond rule place) h x e)
+completes a unread old new (BadJoints rule line) missing h c x e none = inl (given a (BadJoints rule line) h x e)
+completes a unread old new (TooLarge which limit) missing h c x e none = inl (given a (TooLarge which limit) h x e)
+
+-- no count of a sound device rises
+no_rise : (old new : Counts) → AreSound old → NoRise old new
+no_rise old new sound = (λ rose. subst (λ n. Rose n new.0) sound.0 rose, λ rose. subst (λ n. Rose n new.1) sound.1 rose, λ rose. subst (λ n. Rose n new.2) sound.2 rose)
+
+-- over sound devices an answer that comes is the one, and where there is none a read's fault comes, or want of memory
+pub soundly : (a : Option Answer) (unread : Type 0) (old new : Counts) (o : Outcome) → (unread → a ≡ None) → OutcomeIs a o → CausedBy unread old new o →
+    EndsSoundly a old o
+soundly (Some x) unread old new o missing h c sound = completes (Some x) unread old new o missing h c x refl (no_rise old new sound)
+soundly None unread old new ReadFault missing h c sound = inl refl
+soundly None unread old new NoMemory missing h c sound = inr refl
+soundly None unread old new WriteFault missing h c sound =
+    let none = no_rise old new sound in
+    elim c.1 [ inl p ↦ absurd (none.1 (grew_rose old.1 new.1 p.0)) | inr p ↦ absurd (none.2 (grew_rose old.2 new.2 p.0)) ]
+soundly None unread old new Done missing h c sound = absurd h
+soundly None unread old new Usage missing h c sound = absurd h
+soundly None unread old new (BadTopology rule place) missing h c sound = absurd h
+soundly None unread old new (BadScript rule line) missing h c sound = absurd h
+soundly None unread old new (BadCapture rule place) missing h c sound = absurd h
+soundly None unread old new (BadSecond rule place) missing h c sound = absurd h
+soundly None unread old new (BadJoints rule line) missing h c sound = absurd h
+soundly None unread old new (TooLarge which limit) missing h c sound = absurd h
 
 -- the words were a command line
 pub not_usage : (good : Bool) (o : Outcome) → good ≡ true → (o ≡ Usage → ⊥) → UsageIff good o
@@ -106,10 +133,10 @@ nothing_put None m after before written is = tt
 nothing_put (Some x) m after before written is = inr ([], (x.early, refl), is ∙ ap Some (sym (append-nil before)))
 
 -- no read fails in a call on the sink alone
-pub sink_unread : (a : Option Answer) (m : Files) (after : Option Files) (before : List ℕ) (written : Option (List ℕ)) (old new : ℕ) (o : Outcome) →
-    CausedBy (0, 0, old) (0, 0, new) o
+pub sink_unread : (a : Option Answer) (m : Files) (after : Option Files) (before : List ℕ) (written : Option (List ℕ)) (old new : Option ℕ) (o : Outcome) →
+    SinkCausedBy old new o
     → IsUnread a m after before written o
-sink_unread a m after before written old new ReadFault h = absurd (let e : 1 ≤ 0 = h.0.1 in omega (arith, e))
+sink_unread a m after before written old new ReadFault h = absurd h.0.0
 sink_unread a m after before written old new Done h = tt
 sink_unread a m after before written old new Usage h = tt
 sink_unread a m after before written old new WriteFault h = tt
@@ -169,8 +196,8 @@ late_stays (Some a) m after before written none same = whole_untouched a m after
 late_stays None m after before written none same = tt
 
 -- a call on the sink alone, whose answer writes no file
-pub sink_answers : (a : Option Answer) (m : Files) (after : Option Files) (before written : Option (List ℕ)) (old new : ℕ) (o : Outcome) → WritesNone a →
-    after ≡ Some m → OutcomeIs a o → ForSome before (λ text. TextIs a text written o) → CausedBy (0, 0, old) (0, 0, new) o →
+pub sink_answers : (a : Option Answer) (m : Files) (after : Option Files) (before written : Option (List ℕ)) (old new : Option ℕ) (o : Outcome) → WritesNone a →
+    after ≡ Some m → OutcomeIs a o → ForSome before (λ text. TextIs a text written o) → SinkCausedBy old new o →
     Answers a m after before written o
 sink_answers a m after before written old new o none same outcome text cause = record {
   outcome_is = outcome;
@@ -202,11 +229,11 @@ memory_answers a m after before same = record {
 }
 
 -- words that are no command line are refused so
-pub is_usage : (old new : ℕ) (o : Outcome) → OutcomeIs (Some (refusal_of Usage)) o → CausedBy (0, 0, old) (0, 0, new) o → UsageIff false o
+pub is_usage : (old new : Option ℕ) (o : Outcome) → OutcomeIs (Some (refusal_of Usage)) o → SinkCausedBy old new o → UsageIff false o
 is_usage old new Usage h c = refl
 is_usage old new WriteFault h c = tt
 is_usage old new NoMemory h c = tt
-is_usage old new ReadFault h c = absurd (let e : 1 ≤ 0 = c.0.1 in omega (arith, e))
+is_usage old new ReadFault h c = absurd c.0.0
 is_usage old new Done h c = absurd (let e : Usage ≡ Done = h in cc)
 is_usage old new (BadTopology rule place) h c = absurd (let e : Usage ≡ BadTopology rule place = h in cc)
 is_usage old new (BadScript rule line) h c = absurd (let e : Usage ≡ BadScript rule line = h in cc)
@@ -214,3 +241,44 @@ is_usage old new (BadCapture rule place) h c = absurd (let e : Usage ≡ BadCapt
 is_usage old new (BadSecond rule place) h c = absurd (let e : Usage ≡ BadSecond rule place = h in cc)
 is_usage old new (BadJoints rule line) h c = absurd (let e : Usage ≡ BadJoints rule line = h in cc)
 is_usage old new (TooLarge which limit) h c = absurd (let e : Usage ≡ TooLarge which limit = h in cc)
+
+-- a call on the sink alone leaves the shelf's counts
+pub sink_caused : (unread : Type 0) (old new : Counts) (o : Outcome) → new.0 ≡ old.0 → new.1 ≡ old.1 → SinkCausedBy old.2 new.2 o → CausedBy unread old new o
+sink_caused unread old new ReadFault reads writes c = absurd c.0.0
+sink_caused unread old new WriteFault reads writes c = elim c.1 [ inl p ↦ absurd p.0.0 | inr p ↦ (reads, inr (p.0, writes)) ]
+sink_caused unread old new Usage reads writes c = (reads, writes, c.2)
+sink_caused unread old new NoMemory reads writes c = (reads, writes, c.2)
+sink_caused unread old new Done reads writes c = (reads, writes, c.2)
+sink_caused unread old new (BadTopology rule place) reads writes c = (reads, writes, c.2)
+sink_caused unread old new (BadScript rule line) reads writes c = (reads, writes, c.2)
+sink_caused unread old new (BadCapture rule place) reads writes c = (reads, writes, c.2)
+sink_caused unread old new (BadSecond rule place) reads writes c = (reads, writes, c.2)
+sink_caused unread old new (BadJoints rule line) reads writes c = (reads, writes, c.2)
+sink_caused unread old new (TooLarge which limit) reads writes c = (reads, writes, c.2)
+
+-- a later call's cause is one of the whole, where the calls before left the shelf's counts
+pub caused_after : (one other : Type 0) (first before now : Counts) (o : Outcome) → before.0 ≡ first.0 → before.1 ≡ first.1 → before.2 ≡ first.2 → (one → other) →
+    CausedBy one before now o → CausedBy other first now o
+caused_after one other first before now ReadFault reads writes puts so c =
+    (subst (λ n. GrewUnless other n now.0) reads (grew_by one other before.0 now.0 so c.0), c.1 ∙ writes, c.2 ∙ puts)
+caused_after one other first before now WriteFault reads writes puts so c = (
+  c.0 ∙ reads,
+  elim c.1 [
+    | inl p ↦ inl (subst (λ n. Grew n now.1) writes p.0, p.1 ∙ puts)
+    | inr p ↦ inr (subst (λ n. Grew n now.2) puts p.0, p.1 ∙ writes)
+  ],
+)
+caused_after one other first before now Usage reads writes puts so c = (c.0 ∙ reads, c.1 ∙ writes, c.2 ∙ puts)
+caused_after one other first before now NoMemory reads writes puts so c = (c.0 ∙ reads, c.1 ∙ writes, c.2 ∙ puts)
+caused_after one other first before now Done reads writes puts so c = (c.0 ∙ reads, c.1 ∙ writes, c.2 ∙ puts)
+caused_after one other first before now (BadTopology rule place) reads writes puts so c = (c.0 ∙ reads, c.1 ∙ writes, c.2 ∙ puts)
+caused_after one other first before now (BadScript rule line) reads writes puts so c = (c.0 ∙ reads, c.1 ∙ writes, c.2 ∙ puts)
+caused_after one other first before now (BadCapture rule place) reads writes puts so c = (c.0 ∙ reads, c.1 ∙ writes, c.2 ∙ puts)
+caused_after one other first before now (BadSecond rule place) reads writes puts so c = (c.0 ∙ reads, c.1 ∙ writes, c.2 ∙ puts)
+caused_after one other first before now (BadJoints rule line) reads writes puts so c = (c.0 ∙ reads, c.1 ∙ writes, c.2 ∙ puts)
+caused_after one other first before now (TooLarge which limit) reads writes puts so c = (c.0 ∙ reads, c.1 ∙ writes, c.2 ∙ puts)
+
+-- an input that couldn't be read
+pub caused_read : (one other : Type 0) (old new : Counts) → new.1 ≡ old.1 → new.2 ≡ old.2 → (one → other) → GrewUnless one old.0 new.0 →
+    CausedBy other old new ReadFault
+caused_read one other old new writes puts so grew = (grew_by one other old.0 new.0 so grew, writes, puts)

@@ -1,10 +1,10 @@
 -- How a call may end, beside the answer that is to be given.
 use Rattle.std.specs.Option.{ForSome}
-use Rattle.std.specs.Prelude.{◌≡◌, ◌≢◌, ◌⊎◌, ◌≤◌, ℕ, Bool, true, false, List, [], ◌++◌, map, Option, Some, MatchOption, IsSomeAnd, ⊤}
+use Rattle.std.specs.Prelude.{◌≡◌, ◌≢◌, ◌⊎◌, ℕ, Bool, true, false, List, [], ◌++◌, map, Option, None, Some, MatchOption, IsSomeAnd, ⊤}
 use Rattle.mn_answer.specs.declared.outcome.Outcome.{Outcome}
 use Rattle.mn_answer.specs.declared.outcome.Outcome.TheVariants.{Usage, ReadFault, WriteFault, NoMemory}
 use Rattle.mn_edge.specs.Files.{Files}
-use Rattle.mn_edge.specs.Faults.{Rose}
+use Rattle.mn_edge.specs.Faults.{Grew, GrewUnless, Rose}
 use Rattle.mn_edge.specs.Written.{laid, IsPart, PartWritten}
 use Rattle.mn_lines.specs.Putting.{PartPut}
 use Rattle.mn_answer.specs.Answer.{Answer}
@@ -65,19 +65,23 @@ pub record Answers (answer : Option Answer) (files : Files) (after : Option File
   pub is_late : ForSome before (λ text. IsLate answer files after text written)
   pub is_unread : ForSome before (λ text. IsUnread answer files after text written outcome)
 
--- the counts of faults: of the shelf's reads, of its writes, of the sink
+-- the counts of faults: of the shelf's reads, of its writes, of the sink; each none where the device is sound
 abbrev pub Counts : Type 0
-Counts = ℕ × ℕ × ℕ
+Counts = Option ℕ × Option ℕ × Option ℕ
 
--- the count rose, and didn't fall
-abbrev pub Grew : ℕ → ℕ → Type 0
-Grew before now = (before ≤ now) × Rose before now
+-- a fault is answered only where its count rose, or a read's over a sound shelf where an input isn't there; every other count is as it was
+abbrev pub CausedBy : Type 0 → Counts → Counts → Outcome → Type 0
+CausedBy unread old new ReadFault = GrewUnless unread old.0 new.0 × (new.1 ≡ old.1) × (new.2 ≡ old.2)
+CausedBy unread old new WriteFault = (new.0 ≡ old.0) × ((Grew old.1 new.1 × (new.2 ≡ old.2)) ⊎ (Grew old.2 new.2 × (new.1 ≡ old.1)))
+CausedBy unread old new outcome = (new.0 ≡ old.0) × (new.1 ≡ old.1) × (new.2 ≡ old.2)
 
--- a fault is answered only where its count rose, and every other count is as it was
-abbrev pub CausedBy : Counts → Counts → Outcome → Type 0
-CausedBy old new ReadFault = Grew old.0 new.0 × (new.1 ≡ old.1) × (new.2 ≡ old.2)
-CausedBy old new WriteFault = (new.0 ≡ old.0) × ((Grew old.1 new.1 × (new.2 ≡ old.2)) ⊎ (Grew old.2 new.2 × (new.1 ≡ old.1)))
-CausedBy old new outcome = (new.0 ≡ old.0) × (new.1 ≡ old.1) × (new.2 ≡ old.2)
+-- the same of a call on the sink alone
+abbrev pub SinkCausedBy : Option ℕ → Option ℕ → Outcome → Type 0
+SinkCausedBy old new outcome = CausedBy ⊥ (None, None, old) (None, None, new) outcome
+
+-- where files are told, one of the inputs isn't there: there is no answer
+abbrev pub HasNone : (Files → Option Answer) → Option Files → Type 0
+HasNone answer files = ForSome files (λ m. answer m ≡ None)
 
 -- usage is answered exactly where the words are no command line; the sink's fault and want of memory may come in its place
 abbrev pub UsageIff : Bool → Outcome → Type 0
@@ -86,10 +90,19 @@ UsageIff is_good WriteFault = ⊤
 UsageIff is_good NoMemory = ⊤
 UsageIff is_good outcome = is_good ≡ true
 
--- no count rose
+-- no count rose, as none does of sound devices
 abbrev pub NoRise : Counts → Counts → Type 0
 NoRise old new = (Rose old.0 new.0 → ⊥) × (Rose old.1 new.1 → ⊥) × (Rose old.2 new.2 → ⊥)
 
 -- where there is an answer and no count rose, it comes, or want of memory
 abbrev pub Completes : Option Answer → Counts → Counts → Outcome → Type 0
 Completes answer old new outcome = (a : Answer) → answer ≡ Some a → NoRise old new → (outcome ≡ a.outcome) ⊎ (outcome ≡ NoMemory)
+
+-- each device is sound: it fails by itself at no call
+abbrev pub AreSound : Counts → Type 0
+AreSound counts = (counts.0 ≡ None) × (counts.1 ≡ None) × (counts.2 ≡ None)
+
+-- over sound devices the answer comes, and where there is none, since an input isn't there, a read's fault; or want of memory
+abbrev pub EndsSoundly : Option Answer → Counts → Outcome → Type 0
+EndsSoundly answer old outcome =
+    AreSound old → MatchOption answer ((outcome ≡ ReadFault) ⊎ (outcome ≡ NoMemory)) (λ a. (outcome ≡ a.outcome) ⊎ (outcome ≡ NoMemory))

@@ -1,8 +1,8 @@
 //! Inputs from their files.
 ghost use Rattle.std.specs.Prelude.{◌≡◌, IfOk};
 ghost use Rattle.std.specs.Option.{ForSome};
-ghost use Rattle.mn_edge.specs.Faults.{Counted};
-ghost use Rattle.mn_edge.specs.Files.{file};
+ghost use Rattle.mn_edge.specs.Faults.{CountedUnless};
+ghost use Rattle.mn_edge.specs.Files.{Absent, file};
 ghost use Rattle.mn_answer.specs.Inputs.{IsSound, TopologyIs, LinesAre, LinesFit, CaptureIs, CaptureOf, SecondIs, JointsAre, JointsFit};
 
 use crate::outcome::{Limit, Outcome};
@@ -26,7 +26,8 @@ pub fn load_topology<S: Shelf>(
     ensures answer { IfOk result (λ t. ForSome (S.files shelf.old) (λ files. TopologyIs (file files name.now) t)) }
     ensures sound { IfOk result IsSound }
     ensures same { S.files shelf.new ≡ S.files shelf.old }
-    ensures reads { Counted (S.read_faults shelf.old) (S.read_faults shelf.new) result }
+    ensures reads { CountedUnless (Absent (S.files shelf.old) name.now)
+        (S.read_faults shelf.old) (S.read_faults shelf.new) result }
     ensures writes { S.write_faults shelf.new ≡ S.write_faults shelf.old }
 {
     match read_all(alloc, shelf, name, MOST_TOPOLOGY_BYTES)? {
@@ -49,7 +50,8 @@ pub fn load_lines<L: Language, S: Shelf>(
     ensures fits { IfOk result (LinesFit (L.fits language.now)) }
     ensures sound { IfOk result IsSound }
     ensures same { S.files shelf.new ≡ S.files shelf.old }
-    ensures reads { Counted (S.read_faults shelf.old) (S.read_faults shelf.new) result }
+    ensures reads { CountedUnless (Absent (S.files shelf.old) name.now)
+        (S.read_faults shelf.old) (S.read_faults shelf.new) result }
     ensures writes { S.write_faults shelf.new ≡ S.write_faults shelf.old }
 {
     match read_all(alloc, shelf, name, MOST_SCRIPT_BYTES)? {
@@ -71,7 +73,8 @@ pub fn load_capture<S: Shelf>(
     ensures of { IfOk result (CaptureOf name.now) }
     ensures sound { IfOk result IsSound }
     ensures same { S.files shelf.new ≡ S.files shelf.old }
-    ensures reads { Counted (S.read_faults shelf.old) (S.read_faults shelf.new) result }
+    ensures reads { CountedUnless (Absent (S.files shelf.old) name.now)
+        (S.read_faults shelf.old) (S.read_faults shelf.new) result }
     ensures writes { S.write_faults shelf.new ≡ S.write_faults shelf.old }
 {
     match scan(alloc, shelf, name, MOST_CAPTURE_BYTES, MOST_CAPTURE_RECORDS)? {
@@ -91,7 +94,8 @@ pub fn load_second<S: Shelf>(
     ensures answer { IfOk result (λ t. ForSome (S.files shelf.old) (λ files. SecondIs (file files name.now) t)) }
     ensures sound { IfOk result IsSound }
     ensures same { S.files shelf.new ≡ S.files shelf.old }
-    ensures reads { Counted (S.read_faults shelf.old) (S.read_faults shelf.new) result }
+    ensures reads { CountedUnless (Absent (S.files shelf.old) name.now)
+        (S.read_faults shelf.old) (S.read_faults shelf.new) result }
     ensures writes { S.write_faults shelf.new ≡ S.write_faults shelf.old }
 {
     match read_all(alloc, shelf, name, MOST_TOPOLOGY_BYTES)? {
@@ -115,7 +119,8 @@ pub fn load_joints<S: Shelf>(
     ensures fits { IfOk result (JointsFit first.now second.now) }
     ensures sound { IfOk result IsSound }
     ensures same { S.files shelf.new ≡ S.files shelf.old }
-    ensures reads { Counted (S.read_faults shelf.old) (S.read_faults shelf.new) result }
+    ensures reads { CountedUnless (Absent (S.files shelf.old) name.now)
+        (S.read_faults shelf.old) (S.read_faults shelf.new) result }
     ensures writes { S.write_faults shelf.new ≡ S.write_faults shelf.old }
 {
     match read_all(alloc, shelf, name, MOST_JOINTS_BYTES)? {

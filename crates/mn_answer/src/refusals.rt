@@ -1,12 +1,12 @@
 //! The line of an outcome that refuses.
-ghost use Rattle.std.specs.Prelude.{◌≡◌, ◌≢◌, ◌++◌, IfOk, OnErr, OnOk, Some, string_bytes};
+ghost use Rattle.std.specs.Prelude.{◌≡◌, ◌≢◌, ◌++◌, IfErr, IfOk, OnErr, OnOk, Some, string_bytes};
 ghost use Rattle.std.specs.Option.{ForSome};
 ghost use Rattle.mn_edge.specs.Faults.{Counted};
 ghost use Rattle.mn_lines.specs.Putting.{PartPut};
 ghost use Rattle.mn_answer.specs.Refusals.{topo_rule_name, place_text, script_rule_name, pcap_rule_name, joints_rule_name, limit_line, refusal_line};
 ghost use Rattle.mn_answer.specs.Answer.{refusal_of};
 ghost use Rattle.mn_answer.specs.Inputs.{HasPlainLine, IsRefusal};
-ghost use Rattle.mn_answer.specs.Endings.{OutcomeIs, TextIs, CausedBy};
+ghost use Rattle.mn_answer.specs.Endings.{OutcomeIs, TextIs, SinkCausedBy};
 
 use crate::outcome::{Limit, Outcome};
 use mn_edge::{DeviceBad, Sink};
@@ -165,7 +165,7 @@ pub fn refuse<O: Sink>(alloc: Global, out: &mut O, outcome: Outcome) -> Outcome
     requires { IsRefusal outcome }
     ensures outcome { OutcomeIs (Some (refusal_of outcome)) result }
     ensures text { ForSome (O.written out.old) (λ before. TextIs (Some (refusal_of outcome)) before (O.written out.new) result) }
-    ensures cause { CausedBy (0, 0, O.faults out.old) (0, 0, O.faults out.new) result }
+    ensures cause { SinkCausedBy (O.faults out.old) (O.faults out.new) result }
     ensures usage { outcome ≢ Outcome.Usage → result ≢ Outcome.Usage }
     ensures undone { result ≢ Outcome.Done }
 {
@@ -184,6 +184,7 @@ pub fn put_line<O: Sink>(out: &mut O, line: &[u8]) -> Result<(), DeviceBad>
     ensures put { OnOk result (ForSome (O.written out.old) (λ before. O.written out.new ≡ Some (before ++ line.now))) }
     ensures part { OnErr result (ForSome (O.written out.old) (λ before. PartPut line.now before (O.written out.new))) }
     ensures cause { Counted (O.faults out.old) (O.faults out.new) result }
+    ensures ends { IfErr result (λ e. O.refusal out.new ≡ Some e) }
 {
     out.put(line)
 }

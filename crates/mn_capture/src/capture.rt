@@ -1,8 +1,8 @@
 // A capture by places.
-ghost use Rattle.std.specs.Prelude.{◌≡◌, ◌+◌, ◌-◌, ◌≤◌, ◌<◌, ◌^◌, Some, length, take, drop, slice_get, vec_len, IfOk, OnOk};
+ghost use Rattle.std.specs.Prelude.{◌≡◌, ◌+◌, ◌-◌, ◌≤◌, ◌<◌, ◌^◌, Some, length, take, drop, slice_get, vec_len, IfErr, IfOk, OnOk};
 ghost use Rattle.std.specs.Option.{ForSome};
-ghost use Rattle.mn_edge.specs.Faults.{Counted};
-ghost use Rattle.mn_edge.specs.Files.{file};
+ghost use Rattle.mn_edge.specs.Faults.{CountedUnless};
+ghost use Rattle.mn_edge.specs.Files.{Absent, file};
 ghost use Rattle.mn_pcap.specs.Reading.{packet_of};
 ghost use Rattle.mn_capture.specs.Packets.{packets_in, place_at, records_in};
 
@@ -65,7 +65,8 @@ impl Capture {
             slice_get (packets_in self.now whole) (nth - 1) ≡ Some (packet_of self.now.link bytes.new.items)))) }
         ensures within { OnOk result (vec_len bytes.new ≤ (place_at self.now.places nth).length) }
         ensures same { S.files shelf.new ≡ S.files shelf.old }
-        ensures reads { Counted (S.read_faults shelf.old) (S.read_faults shelf.new) result }
+        ensures reads { CountedUnless (Absent (S.files shelf.old) self.now.name)
+            (S.read_faults shelf.old) (S.read_faults shelf.new) result }
         ensures writes { S.write_faults shelf.new ≡ S.write_faults shelf.old }
     {
         let place = self.places[nth as usize - 1];
@@ -84,8 +85,10 @@ fn fill<S: Shelf>(shelf: &mut S, name: &str, at: u64, buf: &mut [u8]) -> Result<
     ensures content { IfOk result (λ n. ForSome (S.files shelf.old) (λ files.
         ForSome (file files name.now) (λ whole. take n buf.new ≡ take (length buf.new) (drop at whole)))) }
     ensures same { S.files shelf.new ≡ S.files shelf.old }
-    ensures reads { Counted (S.read_faults shelf.old) (S.read_faults shelf.new) result }
+    ensures reads { CountedUnless (Absent (S.files shelf.old) name.now)
+        (S.read_faults shelf.old) (S.read_faults shelf.new) result }
     ensures writes { S.write_faults shelf.new ≡ S.write_faults shelf.old }
+    ensures ends { IfErr result (λ e. S.refusal shelf.new ≡ Some e) }
 {
     let mut count = 0;
     'pieces: while count < buf.len() {

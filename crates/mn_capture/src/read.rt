@@ -1,8 +1,8 @@
 // A capture's file, read once.
 ghost use Rattle.std.specs.Prelude.{◌≡◌, ℕ, List, [], Some, OnOk, IfOk, ◌++◌, ◌<◌, length, vec_len};
 ghost use Rattle.std.specs.Option.{ForSome};
-ghost use Rattle.mn_edge.specs.Faults.{Counted};
-ghost use Rattle.mn_edge.specs.Files.{file};
+ghost use Rattle.mn_edge.specs.Faults.{CountedUnless};
+ghost use Rattle.mn_edge.specs.Files.{Absent, file};
 ghost use Rattle.mn_capture.specs.Scanning.{HasForm, IsOf, IsScanned};
 ghost use Rattle.mn_capture.specs.Taking.{HasSome, HasTaken, IsTaken};
 
@@ -43,7 +43,8 @@ pub fn scan<S: Shelf>(
         ForSome (file files name.now) (λ bytes. HasForm bytes s))) }
     ensures of { IfOk result (IsOf name.now most_records) }
     ensures same { S.files shelf.new ≡ S.files shelf.old }
-    ensures reads { Counted (S.read_faults shelf.old) (S.read_faults shelf.new) result }
+    ensures reads { CountedUnless (Absent (S.files shelf.old) name.now)
+        (S.read_faults shelf.old) (S.read_faults shelf.new) result }
     ensures writes { S.write_faults shelf.new ≡ S.write_faults shelf.old }
 {
     let mut piece = zeros(alloc, PIECE)?;
@@ -78,7 +79,8 @@ fn taken<S: Shelf>(
         (bytes : List ℕ) × (file files name.now ≡ Some bytes) × IsTaken most_bytes most_records bytes t)) }
     ensures some { IfOk result (HasSome most_bytes most_records) }
     ensures same { S.files shelf.new ≡ S.files shelf.old }
-    ensures reads { Counted (S.read_faults shelf.old) (S.read_faults shelf.new) result }
+    ensures reads { CountedUnless (Absent (S.files shelf.old) name.now)
+        (S.read_faults shelf.old) (S.read_faults shelf.new) result }
     ensures writes { S.write_faults shelf.new ≡ S.write_faults shelf.old }
 {
     let mut scan = Scan::new(alloc);

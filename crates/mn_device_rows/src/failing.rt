@@ -1,5 +1,5 @@
 //! A shelf in memory of which one call of a kind fails.
-ghost use Rattle.std.specs.Prelude.{None};
+ghost use Rattle.std.specs.Prelude.{None, Some, refl};
 
 use mn_edge::{DeviceBad, MemShelf, Shelf};
 use std::alloc::{AllocError, Global};
@@ -58,6 +58,7 @@ pub(crate) struct FailingShelf {
     failing: Failing,
     read_faults: u64,
     write_faults: u64,
+    refusal: Option<DeviceBad>,
 }
 
 impl FailingShelf {
@@ -74,6 +75,7 @@ impl FailingShelf {
             failing,
             read_faults: 0,
             write_faults: 0,
+            refusal: None,
         })
     }
 
@@ -86,35 +88,45 @@ impl FailingShelf {
 impl Shelf for FailingShelf {
     ghost files = { λ s. None };
 
-    ghost read_faults = { λ s. s.read_faults };
+    ghost read_faults = { λ s. Some s.read_faults };
 
-    ghost write_faults = { λ s. s.write_faults };
+    ghost write_faults = { λ s. Some s.write_faults };
+
+    ghost refusal = { λ s. s.refusal };
 
     fn fetch(&mut self, name: &str, at: u64, buf: &mut [u8]) -> Result<usize, DeviceBad> {
+        self.refusal = None;
         if !is_due(&mut self.failing.fetch)
             && let Ok(count) = self.files.fetch(name, at, buf)
         {
             return Ok(count);
         }
         self.read_faults = self.read_faults.saturating_add(1);
+        self.refusal = Some(DeviceBad::Failed);
         Err(DeviceBad::Failed)
     }
 
     fn begin(&mut self, name: &str) -> Result<(), DeviceBad> {
+        self.refusal = None;
         if !is_due(&mut self.failing.begin) && self.files.begin(name).is_ok() {
             return Ok(());
         }
         self.write_faults = self.write_faults.saturating_add(1);
+        self.refusal = Some(DeviceBad::Failed);
         Err(DeviceBad::Failed)
     }
 
     fn append(&mut self, name: &str, piece: &[u8]) -> Result<(), DeviceBad> {
+        self.refusal = None;
         let fails = is_due(&mut self.failing.append);
         let stays = if fails { piece.len() / 2 } else { piece.len() };
         if self.files.append(name, &piece[..stays]).is_ok() && !fails {
             return Ok(());
         }
         self.write_faults = self.write_faults.saturating_add(1);
+        self.refusal = Some(DeviceBad::Failed);
         Err(DeviceBad::Failed)
     }
+
+    ghost told = { λ shelf none. (refl, refl) };
 }

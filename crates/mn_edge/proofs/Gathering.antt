@@ -4,12 +4,13 @@ use Rattle.std.proofs.Common.{replicate, Option, Some, None, refl, sym, ◌∙�
 use Rattle.std.proofs.lemmas.Bool.{cases_eq, cases_lt, ne_eqb, eq-eqb}
 use Rattle.std.proofs.lemmas.List.{append-nil, get_or-set_same, get_or-set_other, take-append-drop, take_all, length-map, length-set, nil_from_length}
 use Rattle.std.proofs.lemmas.List.Sums.{sum_by-set, get_or-le-sum_by}
+use Rattle.std.specs.Prelude.{nat_le}
 use Rattle.mn_edge.specs.Files.{Files, file, with_file, Grows, MayGrow}
 use Rattle.mn_edge.specs.FileLaws.{same_name-refl, file-with_file}
 use Rattle.mn_edge.specs.Written.{same_name, is_known}
 use Rattle.mn_edge.specs.Memory.{all_differ}
-use Rattle.mn_edge.specs.Kept.{name_of, held_for, held_bytes, with_piece, none_held, IsHeld, HasBegun, Framed, HoldsOn, BeginsOn, grown}
-use Rattle.mn_edge.specs.KeptLaws.{same_some, begins_on, begins_on_more, unknown-apart, places_apart, held_for-replicate}
+use Rattle.mn_edge.specs.Kept.{name_of, held_for, AllThere, held_bytes, most_held, with_piece, none_held, IsHeld, HasBegun, Framed, HoldsOn, BeginsOn, grown}
+use Rattle.mn_edge.specs.KeptLaws.{same_some, there_grown, begins_on, begins_on_more, unknown-apart, places_apart, held_for-replicate}
 use Rattle.mn_edge.proofs.Waits.{none_held_is}
 
 -- what is held, but nothing for the first few files
@@ -144,8 +145,19 @@ refused names contents held k name piece old new differ here named is may h = by
 -- an append, done or refused, changes this file alone
 pub framed_append : (names : List (List ℕ)) (k : ℕ) (name piece : List ℕ) (old new : Option Files) → k < length names → name ≡ name_of names k →
     (old ≡ None → new ≡ None) → ((m : Files) → old ≡ Some m → MayGrow m name piece new) → Framed names old new
-framed_append names k name piece old new here named silent may = record { silent = silent; others = λ m is. by m (may m is) }
+framed_append names k name piece old new here named silent may = record {
+  silent = silent;
+  stays = λ all. still all (may all.now all.told);
+  others = λ m is. by m (may m is);
+}
   where
+    grown_at : (all : AllThere names old) (n : ℕ) → Grows all.now name (take n piece) new → (m : Files) → old ≡ Some m → Grows m name (take n piece) new
+    grown_at all n g m is = subst (λ f. Grows f name (take n piece) new) (same_some all.now m old all.told is) g
+
+    still : (all : AllThere names old) → MayGrow all.now name piece new → AllThere names new
+    still all (inl same) = record { now = all.now; told = same; there = all.there }
+    still all (inr (n, g)) = there_grown names name (take n piece) old new (grown_at all n g) all
+
     by : (m : Files) → MayGrow m name piece new → (now : Files) × (new ≡ Some now) × ((q : List ℕ) → is_known names q ≡ false → file now q ≡ file m q)
     by m (inl same) = (m, same, λ q unknown. refl)
     by m (inr (n, g)) = (
@@ -189,6 +201,14 @@ more_held names contents held k piece files here h = record {
     by j shelved whole (inr ne) =
         ap (λ l. shelved ++ l) (get_or-set_other held k j (held_for held k ++ piece) [] ne) ∙ whole ∙ sym (append-nil (contents j))
         ∙ ap (λ b. contents j ++ cond b piece []) (sym (ne_eqb k j (λ e. ne (sym e))))
+
+-- there is room for something
+pub room_some : (files : ℕ) → 0 < most_held files
+room_some files = by (nat_le files 64)
+  where
+    by : (few : Bool) → 0 < cond few 65536 1048576
+    by true = omega arith
+    by false = omega arith
 
 -- so many bytes more are held, for as many files
 pub bytes_more : (held : List (List ℕ)) (k : ℕ) (piece : List ℕ) → k < length held → held_bytes (with_piece held k piece) ≡ held_bytes held + length piece

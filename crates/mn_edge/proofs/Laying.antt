@@ -3,9 +3,12 @@ use Rattle.std.proofs.Common.{◌≡◌, ℕ, ◌+◌, ◌<◌, Bool, true, fals
 use Rattle.std.proofs.Common.{ap, subst, inl, inr, get_or, zero, suc, String, Vec, string_bytes, arith, append_assoc, if◌then◌else◌}
 use Rattle.std.proofs.lemmas.Grind.{flat_map-append}
 use Rattle.std.proofs.lemmas.List.{take-append-drop, append-nil, take_more, get_or-map}
+use Rattle.std.specs.Prelude.{is_some, IsTrue}
 use Rattle.std.specs.declared.alloc.Global.{Global}
 use Rattle.mn_edge.specs.Files.{Files, file, with_file, Grows, MayBegin, MayGrow}
 use Rattle.mn_edge.specs.FileLaws.{same_name-eq, same_files, file-with_file, file-laid, file-laid_there}
+use Rattle.mn_edge.specs.Kept.{AllThere, name_of}
+use Rattle.mn_edge.specs.Memory.{names_of}
 use Rattle.mn_edge.specs.Written.{same_name, is_known, all_known, bytes_for, each, written, laid, IsPrefix, IsPart, PartWritten, Stands, texts, pairs}
 
 is_known-push : (names : List (List ℕ)) (n q : List ℕ) → is_known (names ++ n ∷ []) q ≡ (same_name q n || is_known names q)
@@ -170,3 +173,27 @@ pub pair_at : (pieces : List (String Global × Vec ℕ Global)) (i : ℕ) (e : S
     e ≡ get_or pieces i e → p.0 ≡ string_bytes e.0 → p.1 ≡ e.1.items → p ≡ get_or (pairs pieces) i p
 pair_at pieces i e p within is text bytes =
     (λ k. (text k, bytes k)) ∙ ap (λ e. (string_bytes e.0, e.1.items)) is ∙ sym (get_or-map (λ e. (string_bytes e.0, e.1.items)) pieces i e p within)
+
+-- each piece is for one of the files that were just begun, so its file is there
+pub pieces_there : (names : List (List ℕ)) (pieces : List (String Global × Vec ℕ Global)) (m : Files) (now : Option Files) →
+    IsTrue (all_known names (pairs pieces)) → Stands names [] m now → AllThere (names_of pieces) now
+pieces_there names pieces m now known stands = record {
+  now = laid (written names []) m;
+  told = stands;
+  there = λ k within. ap is_some (file-laid_there (bytes_for []) names m (name_of (names_of pieces) k) (known_name names pieces k known within));
+}
+  where
+    left : (a b : Bool) → (a && b) ≡ true → a ≡ true
+    left true b h = refl
+    left false b h = h
+
+    right : (a b : Bool) → (a && b) ≡ true → b ≡ true
+    right true b h = h
+    right false b h = cc
+
+    known_name : (names : List (List ℕ)) (pieces : List (String Global × Vec ℕ Global)) (k : ℕ) → IsTrue (all_known names (pairs pieces)) →
+        k < length (names_of pieces) → is_known names (name_of (names_of pieces) k) ≡ true
+    known_name names [] k known within = absurd (let h : k < 0 = within in omega (arith, h))
+    known_name names (p ∷ ps) zero known within = left (is_known names (string_bytes p.0)) (all_known names (pairs ps)) known
+    known_name names (p ∷ ps) (suc k) known within =
+        known_name names ps k (right (is_known names (string_bytes p.0)) (all_known names (pairs ps)) known) (let h : suc k < suc (length (names_of ps)) = within in omega (arith, h))

@@ -1,5 +1,6 @@
 -- A finite map from a file's name to its bytes, and what the calls on a shelf do to it.
-use Rattle.std.specs.Prelude.{◌≡◌, ◌⊎◌, ℕ, ◌≤◌, ◌<◌, List, [], ◌++◌, Option, Some, length, take, drop}
+use Rattle.std.specs.Prelude.{◌≡◌, ◌⊎◌, ℕ, ◌≤◌, ◌<◌, List, [], ◌++◌, Option, None, Some, length, take, drop}
+use Rattle.std.specs.Option.{ForSome}
 use Rattle.std.specs.Ordering.{nat_cmp}
 use Rattle.std.specs.Cmp.Lexicographic.{slice_cmp}
 use Rattle.std.specs.FinMap as map
@@ -10,6 +11,10 @@ Files = map.FinMap (slice_cmp nat_cmp) (List ℕ)
 -- the bytes of the file of this name, if it is there
 abbrev pub file : Files → List ℕ → Option (List ℕ)
 file m name = map.get m name
+
+-- where files are told, none has this name
+abbrev pub Absent : Option Files → List ℕ → Type 0
+Absent files name = ForSome files (λ m. file m name ≡ None)
 
 -- the same files, but that the one of this name holds these bytes
 abbrev pub with_file : Files → List ℕ → List ℕ → Files

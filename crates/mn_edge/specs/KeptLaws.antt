@@ -1,11 +1,16 @@
 -- What follows of files that grow, and of their names.
 use Rattle.std.proofs.Common.{◌≡◌, ◌≢◌, ◌<◌, ℕ, zero, suc, Bool, true, false, not, ◌&&◌, ◌||◌, cond, List, [], ◌∷◌, ◌++◌, length, replicate, Option, Some}
-use Rattle.std.proofs.Common.{None, refl, sym, ◌∙◌, ap, append_assoc, arith}
-use Rattle.mn_edge.specs.Files.{Files, file}
+use Rattle.std.proofs.Common.{None, Result, refl, sym, ◌∙◌, ap, subst, append_assoc, arith}
+use Rattle.std.specs.Prelude.{is_some, IsSome}
+use Rattle.std.specs.Option.{ForSome}
+use Rattle.mn_edge.specs.declared.device.DeviceBad.{DeviceBad}
+use Rattle.mn_edge.specs.Faults.{CountedUnless}
+use Rattle.mn_edge.specs.FaultLaws.{excused_by}
+use Rattle.mn_edge.specs.Files.{Absent, Files, Grows, file, with_file}
 use Rattle.mn_edge.specs.Written.{same_name, is_known, written, laid, IsPrefix, Stands, bytes_for}
-use Rattle.mn_edge.specs.FileLaws.{same_name-eq, same_name-refl, file-laid, file-laid_there}
+use Rattle.mn_edge.specs.FileLaws.{same_name-eq, same_name-refl, file-with_file, file-laid, file-laid_there}
 use Rattle.mn_edge.specs.Memory.{all_differ}
-use Rattle.mn_edge.specs.Kept.{name_of, held_for, Holds, Begins, Framed, HoldsOn, BeginsOn}
+use Rattle.mn_edge.specs.Kept.{name_of, held_for, AllThere, Holds, Begins, Framed, HoldsOn, BeginsOn, Lacking}
 
 pub same_some : {A : Type 0} (a b : A) (o : Option A) → o ≡ Some a → o ≡ Some b → a ≡ b
 same_some a b o p q = let e : Some a ≡ Some b = sym p ∙ q in cc
@@ -36,11 +41,12 @@ pub begins_on_more : (names : List (List ℕ)) (contents longer : ℕ → List �
 begins_on_more names contents longer files more b = record { now = b.now; told = b.told; begins = begins_more names contents longer b.now more b.begins }
 
 pub framed_same : (names : List (List ℕ)) (files : Option Files) → Framed names files files
-framed_same names files = record { silent = λ n. n; others = λ before is. (before, is, λ name h. refl) }
+framed_same names files = record { silent = λ n. n; stays = λ all. all; others = λ before is. (before, is, λ name h. refl) }
 
 pub framed_both : (names : List (List ℕ)) (a b c : Option Files) → Framed names a b → Framed names b c → Framed names a c
 framed_both names a b c one other = record {
   silent = λ n. other.silent (one.silent n);
+  stays = λ all. other.stays (one.stays all);
   others = λ before is.
       let x = one.others before is in
       let y = other.others x.0 x.1 in
@@ -136,10 +142,19 @@ begun-holds names m files n stands = record {
   };
 }
 
+-- they are all there
+pub begun-there : (names : List (List ℕ)) (m : Files) (files : Option Files) → Stands names [] m files → AllThere names files
+begun-there names m files stands = record {
+  now = laid (written names []) m;
+  told = stands;
+  there = λ k within. ap is_some (file-laid_there (bytes_for []) names m (name_of names k) (is_known-name_of names k within));
+}
+
 -- and other files are as they were
 pub begun-framed : (names : List (List ℕ)) (m : Files) (files : Option Files) → Stands names [] m files → Framed names (Some m) files
 begun-framed names m files stands = record {
   silent = λ n. let e : Some m ≡ None = n in cc;
+  stays = λ all. begun-there names m files stands;
   others = λ before is. (
     laid (written names []) m,
     stands,
@@ -147,3 +162,43 @@ begun-framed names m files stands = record {
         file-laid (bytes_for []) names m name ∙ ap (λ b. cond b (Some []) (file m name)) unknown ∙ ap (λ f. file f name) (same_some m before (Some m) refl is),
   );
 }
+
+-- files that are told of are told of as much after a call that changed none
+pub absent_same : (old now : Option Files) (name : List ℕ) → now ≡ old → Absent now name → Absent old name
+absent_same old now name same absent = λ m is. absent m (same ∙ is)
+
+-- files that hold contents are all there
+pub holds_there : (names : List (List ℕ)) (contents : ℕ → List ℕ) (held : List (List ℕ)) (files : Option Files) → HoldsOn names contents held files →
+    AllThere names files
+holds_there names contents held files h = record { now = h.now; told = h.told; there = λ k within. ap is_some (h.holds k within).there }
+
+-- files that are all there are so after an append
+pub there_grown : (names : List (List ℕ)) (name piece : List ℕ) (old now : Option Files) → ForSome old (λ m. Grows m name piece now) → AllThere names old →
+    AllThere names now
+there_grown names name piece old now grows all =
+    let g = grows all.now all.told in
+    record {
+      now = with_file all.now name (g.bytes ++ piece);
+      told = g.grown;
+      there = λ k within.
+          ap is_some (file-with_file all.now name (g.bytes ++ piece) (name_of names k))
+          ∙ by (g.bytes ++ piece) (file all.now (name_of names k)) (same_name (name_of names k) name) (all.there k within);
+    }
+  where
+    by : (bytes : List ℕ) (o : Option (List ℕ)) (b : Bool) → IsSome o → IsSome (cond b (Some bytes) o)
+    by bytes o true h = refl
+    by bytes o false h = h
+
+-- a file that is absent later was among those that weren't all there
+pub lacking_at : (names : List (List ℕ)) (k : ℕ) (name : List ℕ) (old now : Option Files) → k < length names → name ≡ name_of names k →
+    (AllThere names old → AllThere names now) → Absent now name → Lacking names old
+lacking_at names k name old now within named still absent = λ all.
+    let later : AllThere names now = still all in
+    let e : true ≡ false = sym (later.there k within) ∙ ap is_some (ap (file later.now) (sym named) ∙ absent later.now later.told) in cc
+
+-- a call comes after others that left the count, and of these files all that were there
+pub counted_framed : {T : Type 0} (names : List (List ℕ)) (old between : Option Files) (first before now : Option ℕ) (result : Result T DeviceBad) →
+    Framed names old between → before ≡ first → CountedUnless (Lacking names between) before now result → CountedUnless (Lacking names old) first now result
+counted_framed names old between first before now result framed same counted =
+    excused_by (Lacking names between) (Lacking names old) first now result (λ lacking all. lacking (framed.stays all))
+    (subst (λ n. CountedUnless (Lacking names between) n now result) same counted)

@@ -1,5 +1,6 @@
 pub mod Files
 pub mod Faults
+pub mod FaultLaws
 pub mod Reading
 pub mod Written
 pub mod FileLaws

@@ -1,10 +1,10 @@
 -- The devices in memory, as contracts see them, and which of their calls fail.
-use Rattle.std.specs.Prelude.{◌≡◌, ℕ, ◌+◌, ◌-◌, ◌/◌, ◌^◌, ◌==◌, min, Bool, true, false, not, ◌&&◌, List, [], ◌∷◌, ◌++◌, map, take, length, is_none, String}
+use Rattle.std.specs.Prelude.{◌≡◌, ℕ, ◌+◌, ◌-◌, ◌/◌, ◌^◌, ◌==◌, min, Bool, true, false, not, ◌&&◌, List, [], ◌∷◌, ◌++◌, map, take, length, Option, None, Some, is_none, String}
 use Rattle.std.specs.Prelude.{Vec, string_bytes, Result, Ok, Err, ⊤, refl}
 use Rattle.std.specs.List.{list_any}
 use Rattle.std.specs.Option.{option_map_or}
 use Rattle.std.specs.FinMap as fin
-use Rattle.std.specs.Coded.{Coded, code_by, coded×, coded_ℕ, coded_list}
+use Rattle.std.specs.Coded.{Coded, code_by, coded×, coded_ℕ, coded_bool, coded_list, coded_option}
 use Rattle.std.specs.declared.alloc.Global.{Global}
 use Rattle.mn_edge.specs.declared.device.DeviceBad.{DeviceBad}
 use Rattle.mn_edge.specs.declared.device.DeviceBad.TheVariants.{Failed, NoMemory}
@@ -27,19 +27,49 @@ names_of entries = map (λ e. string_bytes e.0) entries
 abbrev pub files_code : Coded Files
 files_code = fin.code (coded_list coded_ℕ) (coded_list coded_ℕ)
 
--- a shelf in memory: its files, the numbers of the calls that fail, the calls so far, and its faults
+-- a refusal is stored as whether it is for want of memory
+abbrev wants_memory : DeviceBad → Bool
+wants_memory Failed = false
+wants_memory NoMemory = true
+
+abbrev bad_by : Bool → DeviceBad
+bad_by false = Failed
+bad_by true = NoMemory
+
+pub bad_by-wants : (bad : DeviceBad) → bad_by (wants_memory bad) ≡ bad
+bad_by-wants Failed = refl
+bad_by-wants NoMemory = refl
+
+abbrev bad_code : Coded DeviceBad
+bad_code = code_by Bool coded_bool wants_memory bad_by bad_by-wants
+
+-- a shelf in memory: its files, the numbers of the calls that fail, the calls so far, its faults, and why the last call was refused
 pub record ShelfState : Type 0 where
   pub files : Files
   pub failing : List ℕ
   pub calls : ℕ
   pub read_faults : ℕ
   pub write_faults : ℕ
+  pub refusal : Option DeviceBad
 
 abbrev pub shelf_code : Coded ShelfState
 shelf_code =
-    code_by (Files × (List ℕ × (ℕ × (ℕ × ℕ)))) (coded× files_code (coded× (coded_list coded_ℕ) (coded× coded_ℕ (coded× coded_ℕ coded_ℕ))))
-    (λ s. (s.files, (s.failing, (s.calls, (s.read_faults, s.write_faults)))))
-    (λ p. record { files = p.0; failing = p.1.0; calls = p.1.1.0; read_faults = p.1.1.1.0; write_faults = p.1.1.1.1 }) (λ _. refl)
+    code_by (Files × (List ℕ × (ℕ × (ℕ × (ℕ × Option DeviceBad)))))
+    (coded× files_code (coded× (coded_list coded_ℕ) (coded× coded_ℕ (coded× coded_ℕ (coded× coded_ℕ (coded_option bad_code))))))
+    (λ s. (s.files, (s.failing, (s.calls, (s.read_faults, (s.write_faults, s.refusal))))))
+    (λ p. record {
+      files = p.0;
+      failing = p.1.0;
+      calls = p.1.1.0;
+      read_faults = p.1.1.1.0;
+      write_faults = p.1.1.1.1.0;
+      refusal = p.1.1.1.1.1;
+    }) (λ _. refl)
+
+-- a device's count of faults as contracts see it: where no call is to fail the device is sound, and has none
+abbrev pub counted_by : List ℕ → ℕ → Option ℕ
+counted_by [] count = None
+counted_by (call ∷ calls) count = Some count
 
 -- a sink in memory: its bytes, and the rest alike
 pub record SinkState : Type 0 where
@@ -47,6 +77,7 @@ pub record SinkState : Type 0 where
   pub failing : List ℕ
   pub calls : ℕ
   pub faults : ℕ
+  pub refusal : Option DeviceBad
 
 -- the number of the next call, from 1; a counter stays at the end of its type
 abbrev pub next_call : ℕ → ℕ

@@ -2,6 +2,7 @@
 use Rattle.std.specs.Prelude.{◌≡◌, ℕ, ◌-◌, ◌<◌, ◌≤◌, ◌==◌, zero, suc, List, [], ◌++◌, length, map, take, drop, sum_by, slice_index, slice_index_or}
 use Rattle.std.specs.Prelude.{if◌then◌else◌}
 use Rattle.mn_edge.specs.declared.held.Segment.{Segment}
+use Rattle.mn_edge.specs.Kept.{most_held}
 
 -- the piece at a place, from 0
 abbrev pub segment_at : List Segment → ℕ → Segment
@@ -26,9 +27,12 @@ pub record IsInOrder (bytes : List ℕ) (segments : List Segment) (k : ℕ) : Ty
   pub within : (segment_at segments k).end ≤ length bytes
   pub earlier : (segment_at segments k).before ≤ k
 
--- the pieces are in order, each file's last one is there, and the arena holds no other bytes
+-- the pieces are in order, each file's last one is there, and the arena holds no other bytes; the last piece of all ends where the
+-- bytes end, and is of one file
 pub record IsArena (bytes : List ℕ) (segments : List Segment) (last : List ℕ) : Type 0 where
   pub pieces : (k : ℕ) → k < length segments → IsInOrder bytes segments k
   pub lasts : (i : ℕ) → slice_index last i ≤ length segments
   pub all : sum_by length (all_waiting bytes segments last) ≡ length bytes
-  pub room : length bytes ≤ 65536
+  pub room : length bytes ≤ most_held (length last)
+  pub newest : (k : ℕ) → suc k ≡ length segments → (segment_at segments k).end ≡ length bytes
+  pub alone : (i j : ℕ) → 0 < length segments → slice_index last i ≡ length segments → slice_index last j ≡ length segments → i ≡ j

@@ -1,17 +1,17 @@
 // Files that grow by many small pieces, written by few appends.
-ghost use Rattle.std.specs.Prelude.{◌≡◌, ◌+◌, ◌<◌, ◌≤◌, List, ℕ, [], length, replicate, IfOk, OnOk, OnErr, IsTrue};
-ghost use Rattle.mn_edge.specs.Faults.{Counted};
-ghost use Rattle.mn_edge.specs.Kept.{BeginsOn, Framed, HoldsOn, grown, held_bytes, none_held, with_piece};
+ghost use Rattle.std.specs.Prelude.{◌≡◌, ◌+◌, ◌<◌, ◌≤◌, List, ℕ, [], None, Some, length, replicate, IfErr, IfOk, OnOk, OnErr, IsTrue};
+ghost use Rattle.mn_edge.specs.Faults.{Counted, CountedUnless};
+ghost use Rattle.mn_edge.specs.Kept.{BeginsOn, Framed, HoldsOn, Lacking, grown, held_bytes, most_held, none_held, with_piece};
 ghost use Rattle.mn_edge.specs.Memory.{all_differ};
 ghost use Rattle.mn_edge.specs.Written.{texts};
 
-use crate::held::{Held, ROOM};
+use crate::held::{Held, room_for};
 use crate::{DeviceBad, Shelf};
 use std::alloc::{AllocError, Global};
 use std::marker::Model;
 
-/// Bytes that wait to be appended to files, at most 65,536 over all of them. The files go by their numbers, from
-/// 0; each call is given their names.
+/// Bytes that wait to be appended to files: over all of them at most 65,536, and where there are more than 64 files at most
+/// 1,048,576. The files go by their numbers, from 0; each call is given their names.
 ///
 /// A contract speaks of a file's contents: its bytes on the shelf, and behind them those that are held for it.
 #[derive(Drop)]
@@ -22,13 +22,14 @@ pub struct Gather {
 }
 
 impl Model for Gather {
-    ghost use Rattle.std.specs.Prelude.{◌≡◌, List, ℕ, vec_len};
+    ghost use Rattle.std.specs.Prelude.{◌≡◌, List, ℕ, length, vec_len};
+    ghost use Rattle.mn_edge.specs.Kept.{most_held};
 
     ghost Value = { List (List ℕ) };
 
     ghost view = { λ g. g.held };
 
-    ghost invariant = { λ g. vec_len g.joined ≡ 65536 };
+    ghost invariant = { λ g. vec_len g.joined ≡ most_held (length g.held) };
 }
 
 impl Gather {
@@ -38,13 +39,13 @@ impl Gather {
     {
         Ok(Gather {
             held: Held::new(alloc, files as usize)?,
-            joined: vec![in alloc; 0; ROOM]?,
+            joined: vec![in alloc; 0; room_for(files as usize)]?,
         })
     }
 
     /// The file grows by the piece, on the shelf or in what is held for it. Only where the held bytes and the
-    /// piece pass 65,536 is anything appended. After a refusal nothing is held any more, and each file is a
-    /// first part of what it would hold.
+    /// piece pass the most that are held is anything appended. After a refusal nothing is held any more, and each
+    /// file is a first part of what it would hold.
     pub fn put<S: Shelf>(
         &mut self,
         shelf: &mut S,
@@ -64,13 +65,14 @@ impl Gather {
         ensures framed { Framed (texts names.now) (S.files shelf.old) (S.files shelf.new) }
 
         // Where there is room for the piece, the shelf isn't called, and the piece is held.
-        ensures untouched { held_bytes self.old + length piece.now ≤ 65536 → shelf.new ≡ shelf.old }
-        ensures held { OnOk result (held_bytes self.old + length piece.now ≤ 65536 →
+        ensures untouched { held_bytes self.old + length piece.now ≤ most_held (length self.old) → shelf.new ≡ shelf.old }
+        ensures held { OnOk result (held_bytes self.old + length piece.now ≤ most_held (length self.old) →
             self.new ≡ with_piece self.old file piece.now) }
-        ensures room { held_bytes self.new ≤ 65536 }
+        ensures room { held_bytes self.new ≤ most_held (length self.old) }
         ensures files { length self.new ≡ length self.old }
         ensures dropped { OnErr result (self.new ≡ none_held self.old) }
-        ensures writes { Counted (S.write_faults shelf.old) (S.write_faults shelf.new) result }
+        ensures writes { CountedUnless (Lacking (texts names.now) (S.files shelf.old))
+            (S.write_faults shelf.old) (S.write_faults shelf.new) result }
         ensures reads { S.read_faults shelf.new ≡ S.read_faults shelf.old }
     {
         let mut rest = piece;
@@ -97,8 +99,10 @@ impl Gather {
             BeginsOn (texts names.now) contents (S.files shelf.new)) }
         ensures framed { Framed (texts names.now) (S.files shelf.old) (S.files shelf.new) }
         ensures untouched { held_bytes self.old ≡ 0 → shelf.new ≡ shelf.old }
-        ensures writes { Counted (S.write_faults shelf.old) (S.write_faults shelf.new) result }
+        ensures writes { CountedUnless (Lacking (texts names.now) (S.files shelf.old))
+            (S.write_faults shelf.old) (S.write_faults shelf.new) result }
         ensures reads { S.read_faults shelf.new ≡ S.read_faults shelf.old }
+        ensures ends { IfErr result (λ e. S.refusal shelf.new ≡ Some e) }
     {
         let done = append_held(&self.held, &mut self.joined, shelf, names);
         self.held.clear();
@@ -108,10 +112,10 @@ impl Gather {
     /// Holds a piece for which there is room. After want of memory nothing is held.
     fn hold(&mut self, file: usize, piece: &[u8]) -> Result<(), DeviceBad>
         requires file { file < length self.old }
-        requires room { held_bytes self.old + length piece.now ≤ 65536 }
+        requires room { held_bytes self.old + length piece.now ≤ most_held (length self.old) }
         ensures ok { OnOk result (self.new ≡ with_piece self.old file piece.now) }
         ensures err { OnErr result (self.new ≡ none_held self.old) }
-        ensures cause { Counted 0 0 result }
+        ensures cause { Counted None None result }
     {
         if piece.is_empty() {
             return Ok(());
@@ -131,7 +135,7 @@ fn append_held<S: Shelf>(
     shelf: &mut S,
     names: &[String],
 ) -> Result<(), DeviceBad>
-    requires joined { length joined.old ≡ ROOM }
+    requires joined { length joined.old ≡ most_held (length held.now) }
     requires names { length names.now ≡ length held.now }
     requires differ { IsTrue (all_differ (texts names.now)) }
     ensures kept { OnOk result ((contents : ℕ → List ℕ) →
@@ -142,8 +146,10 @@ fn append_held<S: Shelf>(
         BeginsOn (texts names.now) contents (S.files shelf.new)) }
     ensures framed { Framed (texts names.now) (S.files shelf.old) (S.files shelf.new) }
     ensures untouched { held_bytes held.now ≡ 0 → shelf.new ≡ shelf.old }
-    ensures writes { Counted (S.write_faults shelf.old) (S.write_faults shelf.new) result }
+    ensures writes { CountedUnless (Lacking (texts names.now) (S.files shelf.old))
+        (S.write_faults shelf.old) (S.write_faults shelf.new) result }
     ensures reads { S.read_faults shelf.new ≡ S.read_faults shelf.old }
+    ensures ends { IfErr result (λ e. S.refusal shelf.new ≡ Some e) }
 {
     for (file, name) in names.iter().enumerate() {
         let from = held.copy_to_end(file, joined);

@@ -5,11 +5,14 @@
 //! `written` the bytes so far. One over a real disk tells nothing, and promises nothing of content.
 //!
 //! Every device counts its faults. It answers `Failed` only where the count rose in that call, and no other
-//! answer touches a count. So a program that ends well, with all counts as they were, met no fault.
+//! answer touches a count. So a program that ends well, with all counts as they were, met no fault. A sound
+//! device fails by itself at no call, and has no count: a fetch or an append fails only where no file has the
+//! name. So a program that fails over sound devices has asked for a file that isn't there. And each device keeps
+//! why its last call was refused, so that a call that ends at the first refusal can say so: its error is that one.
 //!
 //! Whole files are read by [`read_all`], and written in pieces by [`write_all`] and [`append_all`], which say
 //! of a file that was cut short how it begins. Files that grow by many small pieces go through a [`Gather`],
-//! which holds up to 64 KiB over all of them, and so makes few appends.
+//! which holds up to 64 KiB over all of them, or 1 MiB over more than 64, and so makes few appends.
 #![tactic(auto)]
 
 mod device; // the two traits

@@ -1,10 +1,13 @@
 // Devices in memory. Their calls are numbered from 1, of all methods together, and those of a list fail.
 ghost use Rattle.std.specs.Prelude.{◌≡◌, ◌≢◌, ℕ, ◌≤◌, ◌<◌, ◌++◌, ◌||◌, [], Err, None, Some, length, take, drop, if◌then◌else◌, is_ok, IsTrue, IfOk, OnOk, OnErr, option_copied};
 ghost use Rattle.std.specs.Option.{ForSome};
+ghost use Rattle.std.specs.Result.{result_err};
+ghost use Rattle.std.proofs.Common.{sym};
+ghost use Rattle.std.proofs.lemmas.Option.{none-some};
 ghost use Rattle.mn_edge.specs.declared.device.DeviceBad.TheVariants.{NoMemory};
-ghost use Rattle.mn_edge.specs.Faults.{Counted};
-ghost use Rattle.mn_edge.specs.Files.{Fetched, Grows, MayBegin, MayGrow, file, with_file};
-ghost use Rattle.mn_edge.specs.Memory.{FailsBy, all_differ, extended, files_of, is_due, kept, lacks, names_of, next_call};
+ghost use Rattle.mn_edge.specs.Faults.{Counted, CountedUnless};
+ghost use Rattle.mn_edge.specs.Files.{Absent, Fetched, Grows, MayBegin, MayGrow, file, with_file};
+ghost use Rattle.mn_edge.specs.Memory.{FailsBy, all_differ, counted_by, extended, files_of, is_due, kept, lacks, names_of, next_call};
 
 use crate::named::NamedFiles;
 use crate::{DeviceBad, Shelf, Sink};
@@ -20,6 +23,7 @@ pub struct MemShelf {
     calls: u64,
     read_faults: u64,
     write_faults: u64,
+    refusal: Option<DeviceBad>,
 }
 
 impl Model for MemShelf {
@@ -35,6 +39,7 @@ impl Model for MemShelf {
       calls = s.calls;
       read_faults = s.read_faults;
       write_faults = s.write_faults;
+      refusal = s.refusal;
     } };
 }
 
@@ -48,6 +53,7 @@ impl MemShelf {
           calls = 0;
           read_faults = 0;
           write_faults = 0;
+          refusal = None;
         } }
     {
         MemShelf {
@@ -57,6 +63,7 @@ impl MemShelf {
             calls: 0,
             read_faults: 0,
             write_faults: 0,
+            refusal: None,
         }
     }
 
@@ -94,9 +101,11 @@ fn copy_front(bytes: &[u8], at: u64, buf: &mut [u8]) -> usize
 impl Shelf for MemShelf {
     ghost files = { λ s. Some s.files };
 
-    ghost read_faults = { λ s. s.read_faults };
+    ghost read_faults = { λ s. counted_by s.failing s.read_faults };
 
-    ghost write_faults = { λ s. s.write_faults };
+    ghost write_faults = { λ s. counted_by s.failing s.write_faults };
+
+    ghost refusal = { λ s. s.refusal };
 
     fn fetch(&mut self, name: &str, at: u64, buf: &mut [u8]) -> Result<usize, DeviceBad>
         ensures room { IfOk result (λ n. n ≤ length buf.new) }
@@ -104,8 +113,12 @@ impl Shelf for MemShelf {
             ForSome (Some self.old.files) (λ m. Fetched m name.now at n buf.new)) }
         ensures same { Some self.new.files ≡ Some self.old.files }
         ensures silent { Some self.old.files ≡ None → Some self.new.files ≡ None }
-        ensures reads { Counted self.old.read_faults self.new.read_faults result }
-        ensures writes { self.new.write_faults ≡ self.old.write_faults }
+        ensures reads { CountedUnless (Absent (Some self.old.files) name.now)
+            (counted_by self.old.failing self.old.read_faults)
+            (counted_by self.new.failing self.new.read_faults) result }
+        ensures writes { counted_by self.new.failing self.new.write_faults
+            ≡ counted_by self.old.failing self.old.write_faults }
+        ensures last { self.new.refusal ≡ result_err result }
 
         // What this shelf says besides: which calls fail.
         ensures exact { FailsBy
@@ -115,12 +128,14 @@ impl Shelf for MemShelf {
         ensures failing { self.new.failing ≡ self.old.failing }
     {
         self.calls = self.calls.saturating_add(1);
+        self.refusal = None;
         if !self.failing.contains(&self.calls)
             && let Some(bytes) = self.files.get(name)
         {
             return Ok(copy_front(bytes, at, buf));
         }
         self.read_faults = self.read_faults.saturating_add(1);
+        self.refusal = Some(DeviceBad::Failed);
         Err(DeviceBad::Failed)
     }
 
@@ -130,8 +145,12 @@ impl Shelf for MemShelf {
         ensures refused { OnErr result (ForSome (Some self.old.files) (λ m.
             MayBegin m name.now (Some self.new.files))) }
         ensures silent { Some self.old.files ≡ None → Some self.new.files ≡ None }
-        ensures writes { Counted self.old.write_faults self.new.write_faults result }
-        ensures reads { self.new.read_faults ≡ self.old.read_faults }
+        ensures writes { Counted
+            (counted_by self.old.failing self.old.write_faults)
+            (counted_by self.new.failing self.new.write_faults) result }
+        ensures reads { counted_by self.new.failing self.new.read_faults
+            ≡ counted_by self.old.failing self.old.read_faults }
+        ensures last { self.new.refusal ≡ result_err result }
 
         // What this shelf says besides: which calls fail, and that such a call changes no file.
         ensures exact { FailsBy (is_due self.old.failing self.old.calls) result }
@@ -141,11 +160,16 @@ impl Shelf for MemShelf {
         ensures failing { self.new.failing ≡ self.old.failing }
     {
         self.calls = self.calls.saturating_add(1);
+        self.refusal = None;
         if self.failing.contains(&self.calls) {
             self.write_faults = self.write_faults.saturating_add(1);
+            self.refusal = Some(DeviceBad::Failed);
             return Err(DeviceBad::Failed);
         }
-        self.files.make_empty(self.alloc, name)?;
+        if self.files.make_empty(self.alloc, name).is_err() {
+            self.refusal = Some(DeviceBad::NoMemory);
+            return Err(DeviceBad::NoMemory);
+        }
         Ok(())
     }
 
@@ -155,8 +179,12 @@ impl Shelf for MemShelf {
         ensures refused { OnErr result (ForSome (Some self.old.files) (λ m.
             MayGrow m name.now piece.now (Some self.new.files))) }
         ensures silent { Some self.old.files ≡ None → Some self.new.files ≡ None }
-        ensures writes { Counted self.old.write_faults self.new.write_faults result }
-        ensures reads { self.new.read_faults ≡ self.old.read_faults }
+        ensures writes { CountedUnless (Absent (Some self.old.files) name.now)
+            (counted_by self.old.failing self.old.write_faults)
+            (counted_by self.new.failing self.new.write_faults) result }
+        ensures reads { counted_by self.new.failing self.new.read_faults
+            ≡ counted_by self.old.failing self.old.read_faults }
+        ensures last { self.new.refusal ≡ result_err result }
 
         // What this shelf says besides: which calls fail, and that such a call keeps half of its piece.
         ensures exact { FailsBy
@@ -166,18 +194,29 @@ impl Shelf for MemShelf {
         ensures failing { self.new.failing ≡ self.old.failing }
     {
         self.calls = self.calls.saturating_add(1);
+        self.refusal = None;
         if self.files.get(name).is_none() {
             self.write_faults = self.write_faults.saturating_add(1);
+            self.refusal = Some(DeviceBad::Failed);
             return Err(DeviceBad::Failed);
         }
         if self.failing.contains(&self.calls) {
-            self.files.extend(name, &piece[..piece.len() / 2])?;
+            if self.files.extend(name, &piece[..piece.len() / 2]).is_err() {
+                self.refusal = Some(DeviceBad::NoMemory);
+                return Err(DeviceBad::NoMemory);
+            }
             self.write_faults = self.write_faults.saturating_add(1);
+            self.refusal = Some(DeviceBad::Failed);
             return Err(DeviceBad::Failed);
         }
-        self.files.extend(name, piece)?;
+        if self.files.extend(name, piece).is_err() {
+            self.refusal = Some(DeviceBad::NoMemory);
+            return Err(DeviceBad::NoMemory);
+        }
         Ok(())
     }
+
+    ghost told = { λ shelf none. absurd (none-some _ (sym none)) };
 }
 
 /// Bytes in memory.
@@ -187,6 +226,7 @@ pub struct MemSink {
     failing: Vec<u64>,
     calls: u64,
     faults: u64,
+    refusal: Option<DeviceBad>,
 }
 
 impl Model for MemSink {
@@ -199,19 +239,27 @@ impl Model for MemSink {
       failing = s.failing.items;
       calls = s.calls;
       faults = s.faults;
+      refusal = s.refusal;
     } };
 }
 
 impl MemSink {
     /// An empty sink, at which the calls of these numbers fail.
     pub fn new(alloc: Global, failing: Vec<u64>) -> MemSink
-        ensures { result ≡ record { bytes = []; failing = failing.items; calls = 0; faults = 0 } }
+        ensures { result ≡ record {
+          bytes = [];
+          failing = failing.items;
+          calls = 0;
+          faults = 0;
+          refusal = None;
+        } }
     {
         MemSink {
             bytes: Vec::new(alloc),
             failing,
             calls: 0,
             faults: 0,
+            refusal: None,
         }
     }
 
@@ -226,14 +274,19 @@ impl MemSink {
 impl Sink for MemSink {
     ghost written = { λ s. Some s.bytes };
 
-    ghost faults = { λ s. s.faults };
+    ghost faults = { λ s. counted_by s.failing s.faults };
+
+    ghost refusal = { λ s. s.refusal };
 
     fn put(&mut self, piece: &[u8]) -> Result<(), DeviceBad>
         ensures put { OnOk result (ForSome (Some self.old.bytes) (λ t.
             Some self.new.bytes ≡ Some (t ++ piece.now))) }
         ensures refused { OnErr result (ForSome (Some self.old.bytes) (λ t.
             (n : ℕ) × (Some self.new.bytes ≡ Some (t ++ take n piece.now)))) }
-        ensures cause { Counted self.old.faults self.new.faults result }
+        ensures cause { Counted
+            (counted_by self.old.failing self.old.faults)
+            (counted_by self.new.failing self.new.faults) result }
+        ensures last { self.new.refusal ≡ result_err result }
 
         // What this sink says besides: which calls fail, and that such a call keeps half of its piece.
         ensures exact { FailsBy (is_due self.old.failing self.old.calls) result }
@@ -242,12 +295,24 @@ impl Sink for MemSink {
         ensures failing { self.new.failing ≡ self.old.failing }
     {
         self.calls = self.calls.saturating_add(1);
+        self.refusal = None;
         if self.failing.contains(&self.calls) {
-            self.bytes.extend_from_slice(&piece[..piece.len() / 2])?;
+            if self
+                .bytes
+                .extend_from_slice(&piece[..piece.len() / 2])
+                .is_err()
+            {
+                self.refusal = Some(DeviceBad::NoMemory);
+                return Err(DeviceBad::NoMemory);
+            }
             self.faults = self.faults.saturating_add(1);
+            self.refusal = Some(DeviceBad::Failed);
             return Err(DeviceBad::Failed);
         }
-        self.bytes.extend_from_slice(piece)?;
+        if self.bytes.extend_from_slice(piece).is_err() {
+            self.refusal = Some(DeviceBad::NoMemory);
+            return Err(DeviceBad::NoMemory);
+        }
         Ok(())
     }
 }

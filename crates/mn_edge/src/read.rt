@@ -1,7 +1,8 @@
 // A whole file, read in pieces.
 ghost use Rattle.std.specs.Prelude.{◌≡◌, ◌<◌, IfOk, length, vec_len};
 ghost use Rattle.std.specs.Option.{ForSome};
-ghost use Rattle.mn_edge.specs.Faults.{Counted};
+ghost use Rattle.mn_edge.specs.Faults.{CountedUnless};
+ghost use Rattle.mn_edge.specs.Files.{Absent};
 ghost use Rattle.mn_edge.specs.Reading.{IsRead, IsWithin};
 
 use crate::{DeviceBad, Shelf};
@@ -30,7 +31,8 @@ pub fn read_all<S: Shelf>(
         ForSome (S.files shelf.old) (λ m. IsRead m name.now limit c)) }
     ensures within { IfOk result (IsWithin limit) }
     ensures same { S.files shelf.new ≡ S.files shelf.old }
-    ensures reads { Counted (S.read_faults shelf.old) (S.read_faults shelf.new) result }
+    ensures reads { CountedUnless (Absent (S.files shelf.old) name.now)
+        (S.read_faults shelf.old) (S.read_faults shelf.new) result }
     ensures writes { S.write_faults shelf.new ≡ S.write_faults shelf.old }
 {
     let mut piece = zeros(alloc, PIECE)?;
@@ -50,7 +52,8 @@ fn read_by<S: Shelf>(
         ForSome (S.files shelf.old) (λ m. IsRead m name.now limit c)) }
     ensures within { IfOk result (IsWithin limit) }
     ensures same { S.files shelf.new ≡ S.files shelf.old }
-    ensures reads { Counted (S.read_faults shelf.old) (S.read_faults shelf.new) result }
+    ensures reads { CountedUnless (Absent (S.files shelf.old) name.now)
+        (S.read_faults shelf.old) (S.read_faults shelf.new) result }
     ensures writes { S.write_faults shelf.new ≡ S.write_faults shelf.old }
 {
     let mut bytes = Vec::new(alloc);

@@ -1,8 +1,10 @@
 // Files, written in pieces.
-ghost use Rattle.std.specs.Prelude.{◌≡◌, ◌++◌, [], List, ℕ, None, Some, OnOk, OnErr, IsTrue, take};
+ghost use Rattle.std.specs.Prelude.{◌≡◌, ◌++◌, [], List, ℕ, None, Some, IfErr, OnOk, OnErr, IsTrue, take};
 ghost use Rattle.std.specs.Option.{ForSome};
-ghost use Rattle.mn_edge.specs.Faults.{Counted};
+ghost use Rattle.mn_edge.specs.Faults.{Counted, CountedUnless};
 ghost use Rattle.mn_edge.specs.Files.{Files};
+ghost use Rattle.mn_edge.specs.Kept.{Lacking};
+ghost use Rattle.mn_edge.specs.Memory.{names_of};
 ghost use Rattle.mn_edge.specs.Written.{PartWritten, Stands, all_known, laid, pairs, texts, written};
 
 use crate::{DeviceBad, Shelf};
@@ -16,6 +18,7 @@ pub fn begin_all<S: Shelf>(shelf: &mut S, names: &[String]) -> Result<(), Device
     ensures silent { S.files shelf.old ≡ None → S.files shelf.new ≡ None }
     ensures writes { Counted (S.write_faults shelf.old) (S.write_faults shelf.new) result }
     ensures reads { S.read_faults shelf.new ≡ S.read_faults shelf.old }
+    ensures ends { IfErr result (λ e. S.refusal shelf.new ≡ Some e) }
 {
     for name in names {
         shelf.begin(name.as_str())?;
@@ -37,6 +40,7 @@ pub fn write_all<S: Shelf>(
         PartWritten (written (texts names.now) (pairs pieces.now)) m (S.files shelf.new))) }
     ensures writes { Counted (S.write_faults shelf.old) (S.write_faults shelf.new) result }
     ensures reads { S.read_faults shelf.new ≡ S.read_faults shelf.old }
+    ensures ends { IfErr result (λ e. S.refusal shelf.new ≡ Some e) }
 {
     begin_all(shelf, names)?;
     append_all(shelf, pieces)
@@ -55,8 +59,10 @@ pub fn append_all<S: Shelf>(shelf: &mut S, pieces: &[(String, Vec<u8>)]) -> Resu
         (base : Files) (names : List (List ℕ)) (done : List (List ℕ × List ℕ)) →
         Stands names done base (S.files shelf.old) → IsTrue (all_known names (pairs pieces.now)) →
         PartWritten (written names (done ++ pairs pieces.now)) base (S.files shelf.new)) }
-    ensures writes { Counted (S.write_faults shelf.old) (S.write_faults shelf.new) result }
+    ensures writes { CountedUnless (Lacking (names_of pieces.now) (S.files shelf.old))
+        (S.write_faults shelf.old) (S.write_faults shelf.new) result }
     ensures reads { S.read_faults shelf.new ≡ S.read_faults shelf.old }
+    ensures ends { IfErr result (λ e. S.refusal shelf.new ≡ Some e) }
 {
     for piece in pieces {
         shelf.append(piece.0.as_str(), &piece.1)?;

@@ -1,5 +1,5 @@
 //! Which failures count, and what is kept of the last one.
-ghost use Rattle.std.specs.Prelude.{◌≡◌, ◌↔◌, Err};
+ghost use Rattle.std.specs.Prelude.{◌≡◌, ◌↔◌, Err, Some};
 ghost use Rattle.std.specs.IoError.{error_kind};
 ghost use Rattle.mn_edge.specs.Faults.{Counted};
 ghost use Rattle.mn_edge.specs.declared.device.DeviceBad.TheVariants.{NoMemory};
@@ -11,7 +11,7 @@ use std::io::{Error, ErrorKind};
 
 /// The answer to a failure, which counts unless it is want of memory.
 pub(crate) fn counted(faults: &mut u64, error: &Error) -> DeviceBad
-    ensures counted { Counted {T = Unit {0}} faults.old faults.new (Err result) }
+    ensures counted { Counted {T = Unit {0}} (Some faults.old) (Some faults.new) (Err result) }
     ensures memory { (result ≡ NoMemory) ↔ (error_kind error.now ≡ ErrorKind.OutOfMemory) }
 {
     if error.kind() == ErrorKind::OutOfMemory {

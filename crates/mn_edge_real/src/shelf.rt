@@ -1,8 +1,9 @@
 //! Files by name.
-ghost use Rattle.std.specs.Prelude.{◌≡◌, ◌+◌, ◌^◌, ◌-◌, ◌≤◌, ◌<◌, [], None, Some, max, min, length, IfOk, OnOk, OnErr};
+ghost use Rattle.std.specs.Prelude.{◌≡◌, ◌+◌, ◌^◌, ◌-◌, ◌≤◌, ◌<◌, [], None, Some, max, min, length, refl, IfOk, OnOk, OnErr};
 ghost use Rattle.std.specs.Option.{ForSome};
-ghost use Rattle.mn_edge.specs.Faults.{Counted};
-ghost use Rattle.mn_edge.specs.Files.{Fetched, MayBegin, with_file};
+ghost use Rattle.std.specs.Result.{result_err};
+ghost use Rattle.mn_edge.specs.Faults.{Counted, CountedUnless};
+ghost use Rattle.mn_edge.specs.Files.{Absent, Fetched, MayBegin, with_file};
 ghost use Rattle.mn_edge_real.specs.Ends.{end_of, untold};
 
 use crate::fault::{Call, Failure, counted};
@@ -21,6 +22,7 @@ pub struct HostShelf<'a> {
     failure: Option<Failure>,
     read_faults: u64,
     write_faults: u64,
+    refusal: Option<DeviceBad>,
 }
 
 impl<'a> HostShelf<'a> {
@@ -32,6 +34,7 @@ impl<'a> HostShelf<'a> {
             failure: None,
             read_faults: 0,
             write_faults: 0,
+            refusal: None,
         }
     }
 
@@ -55,6 +58,7 @@ impl<'a> HostShelf<'a> {
         ensures cut { IfOk result (λ n. n ≡ 0 → 0 < length buf.new → end_of self.old name.now ≤ at) }
         ensures reads { self.new.read_faults ≡ self.old.read_faults }
         ensures writes { self.new.write_faults ≡ self.old.write_faults }
+        ensures last { self.new.refusal ≡ self.old.refusal }
     {
         if self.reads.repeat(name, at, buf) {
             return Ok(buf.len());
@@ -71,9 +75,11 @@ impl<'a> HostShelf<'a> {
 impl<'a> Shelf for HostShelf<'a> {
     ghost files = { λ s. None };
 
-    ghost read_faults = { λ s. s.read_faults };
+    ghost read_faults = { λ s. Some s.read_faults };
 
-    ghost write_faults = { λ s. s.write_faults };
+    ghost write_faults = { λ s. Some s.write_faults };
+
+    ghost refusal = { λ s. s.refusal };
 
     fn fetch(&mut self, name: &str, at: u64, buf: &mut [u8]) -> Result<usize, DeviceBad>
         ensures room { IfOk result (λ n. n ≤ length buf.new) }
@@ -81,8 +87,10 @@ impl<'a> Shelf for HostShelf<'a> {
             ForSome untold (λ m. Fetched m name.now at n buf.new)) }
         ensures same { untold ≡ untold }
         ensures silent { untold ≡ None → untold ≡ None }
-        ensures reads { Counted self.old.read_faults self.new.read_faults result }
-        ensures writes { self.new.write_faults ≡ self.old.write_faults }
+        ensures reads { CountedUnless (Absent untold name.now)
+            (Some self.old.read_faults) (Some self.new.read_faults) result }
+        ensures writes { Some self.new.write_faults ≡ Some self.old.write_faults }
+        ensures last { self.new.refusal ≡ result_err result }
 
         // What this shelf says besides: a file that was told of further than this isn't at its end here.
         ensures told { IfOk result (λ n. end_of self.new name.now
@@ -90,15 +98,18 @@ impl<'a> Shelf for HostShelf<'a> {
         ensures cut { IfOk result (λ n. n ≡ 0 → 0 < length buf.new → end_of self.old name.now ≤ at) }
     {
         let room = buf.len();
+        self.refusal = None;
         match self.read(name, at, buf) {
             Ok(count) if count <= room => Ok(count),
             Ok(_) => {
                 self.read_faults = self.read_faults.saturating_add(1);
+                self.refusal = Some(DeviceBad::Failed);
                 Err(DeviceBad::Failed)
             }
             Err(error) => {
                 let bad = counted(&mut self.read_faults, &error);
                 self.failure = Some(Failure::new(self.rt.alloc(), Call::Read, name, error));
+                self.refusal = Some(bad);
                 Err(bad)
             }
         }
@@ -110,31 +121,38 @@ impl<'a> Shelf for HostShelf<'a> {
         ensures refused { OnErr result (
             ForSome untold (λ m. MayBegin m name.now untold)) }
         ensures silent { untold ≡ None → untold ≡ None }
-        ensures writes { Counted self.old.write_faults self.new.write_faults result }
-        ensures reads { self.new.read_faults ≡ self.old.read_faults }
+        ensures writes { Counted (Some self.old.write_faults) (Some self.new.write_faults) result }
+        ensures reads { Some self.new.read_faults ≡ Some self.old.read_faults }
+        ensures last { self.new.refusal ≡ result_err result }
 
         // What this shelf says besides: the file's end is wherever it now is.
         ensures told { end_of self.new name.now ≡ 0 }
     {
+        self.refusal = None;
         self.reads.forget(name);
         match self.files.begin(name) {
             Ok(()) => Ok(()),
             Err(error) => {
                 let bad = counted(&mut self.write_faults, &error);
                 self.failure = Some(Failure::new(self.rt.alloc(), Call::Begin, name, error));
+                self.refusal = Some(bad);
                 Err(bad)
             }
         }
     }
 
     fn append(&mut self, name: &str, piece: &[u8]) -> Result<(), DeviceBad> {
+        self.refusal = None;
         match self.files.append(name, piece) {
             Ok(()) => Ok(()),
             Err(error) => {
                 let bad = counted(&mut self.write_faults, &error);
                 self.failure = Some(Failure::new(self.rt.alloc(), Call::Append, name, error));
+                self.refusal = Some(bad);
                 Err(bad)
             }
         }
     }
+
+    ghost told = { λ shelf none. (refl, refl) };
 }

@@ -1,6 +1,7 @@
 //! A stream of bytes.
-ghost use Rattle.std.specs.Prelude.{◌≡◌, ◌++◌, ℕ, [], Some, take, OnOk, OnErr};
+ghost use Rattle.std.specs.Prelude.{◌≡◌, ◌++◌, ℕ, [], None, Some, take, OnOk, OnErr};
 ghost use Rattle.std.specs.Option.{ForSome};
+ghost use Rattle.std.specs.Result.{result_err};
 ghost use Rattle.std.specs.Io.KnownBytes.{Keeps};
 ghost use Rattle.std.specs.Io.Buffered.{writer_buffer, writer_contents};
 ghost use Rattle.mn_edge.specs.Faults.{Counted};
@@ -17,6 +18,7 @@ use std::marker::Model;
 pub struct HostSink<W: Write + Drop> {
     inner: BufWriter<W>,
     faults: u64,
+    refusal: Option<DeviceBad>,
     failure: Option<Error>,
 }
 
@@ -30,6 +32,7 @@ impl<W: Write + Drop> Model for HostSink<W> {
       written = writer_contents W.contents s.inner;
       waiting = writer_buffer s.inner;
       faults = s.faults;
+      refusal = s.refusal;
     } };
 }
 
@@ -39,11 +42,13 @@ impl<W: Write + Drop> HostSink<W> {
           written = writer_contents W.contents inner;
           waiting = writer_buffer inner;
           faults = 0;
+          refusal = None;
         } }
     {
         HostSink {
             inner,
             faults: 0,
+            refusal: None,
             failure: None,
         }
     }
@@ -57,13 +62,16 @@ impl<W: Write + Drop> HostSink<W> {
     pub fn flush(&mut self) -> Result<(), DeviceBad>
         ensures flushed { OnOk result (self.new.waiting ≡ []) }
         ensures kept { Keeps self.old.written self.new.written }
-        ensures cause { Counted self.old.faults self.new.faults result }
+        ensures cause { Counted (Some self.old.faults) (Some self.new.faults) result }
+        ensures last { self.new.refusal ≡ result_err result }
     {
+        self.refusal = None;
         match self.inner.flush() {
             Ok(()) => Ok(()),
             Err(error) => {
                 let bad = counted(&mut self.faults, &error);
                 self.failure = Some(error);
+                self.refusal = Some(bad);
                 Err(bad)
             }
         }
@@ -73,14 +81,18 @@ impl<W: Write + Drop> HostSink<W> {
 impl<W: Write + Drop> Sink for HostSink<W> {
     ghost written = { λ s. s.written };
 
-    ghost faults = { λ s. s.faults };
+    ghost faults = { λ s. Some s.faults };
+
+    ghost refusal = { λ s. s.refusal };
 
     fn put(&mut self, piece: &[u8]) -> Result<(), DeviceBad> {
+        self.refusal = None;
         match write_whole(&mut self.inner, piece) {
             Ok(()) => Ok(()),
             Err(error) => {
                 let bad = counted(&mut self.faults, &error);
                 self.failure = Some(error);
+                self.refusal = Some(bad);
                 Err(bad)
             }
         }

@@ -12,7 +12,7 @@ use Rattle.mn_topo.specs.Network.{Network, wiring_of}
 use Rattle.mn_topo.specs.VrfTable.{is_edge}
 use Rattle.mn_topo.specs.Lawful.{IsLawful}
 use Rattle.mn_ledger.specs.Places.{edges}
-use Rattle.mn_output.specs.Files.{OutputFile, Frames, Said, Told, files_of, told_files, base_name, file_name}
+use Rattle.mn_output_laws.specs.Files.{OutputFile, Frames, Said, Told, files_of, told_files, base_name, file_name}
 use Rattle.mn_files.proofs.Numbered.{in_at, others}
 use Rattle.mn_files.proofs.Places.{number, number_is}
 use Rattle.mn_files.proofs.Reading.{IsFile, read, read-is}

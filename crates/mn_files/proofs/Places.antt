@@ -19,7 +19,7 @@ use Rattle.mn_topo.specs.Network.{Network, wiring_of, nodes_with}
 use Rattle.mn_topo.specs.VrfTable.{is_edge}
 use Rattle.mn_topo.specs.Lawful.{IsLawful, is_vrf_of}
 use Rattle.mn_ledger.specs.Places.{edges}
-use Rattle.mn_output.specs.Files.{OutputFile, Journal, Labels, Deliveries, Frames, Said, Told, files_of, told_files}
+use Rattle.mn_output_laws.specs.Files.{OutputFile, Journal, Labels, Deliveries, Frames, Said, Told, files_of, told_files}
 use Rattle.mn_files.specs.Numbers.{IsNumber, edges_before, edge_places}
 use Rattle.mn_files.proofs.Numbered.{Numbered, numbered-append, number_at, place_of, numbered-map, numbered-twice, numbered-passing, passing-more, skipping}
 use Rattle.mn_files.proofs.Numbered.{others, others-of-each}

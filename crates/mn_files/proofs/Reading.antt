@@ -13,7 +13,7 @@ use Rattle.mn_topo.specs.Names.{number_of}
 use Rattle.mn_topo.specs.Network.{Network, wiring_of, link_of}
 use Rattle.mn_topo.specs.Lawful.{IsLawful}
 use Rattle.mn_topo.proofs.Ends.{name_again, link_again}
-use Rattle.mn_output.specs.Files.{OutputFile, Journal, Labels, Deliveries, Frames, Said, Told, base_name, node_name, pair_name}
+use Rattle.mn_output_laws.specs.Files.{OutputFile, Journal, Labels, Deliveries, Frames, Said, Told, base_name, node_name, pair_name}
 
 -- 1. Around the first `+`
 

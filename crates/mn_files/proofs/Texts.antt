@@ -18,7 +18,7 @@ use Rattle.mn_topo.specs.Tables.{is_name, is_name_byte}
 use Rattle.mn_topo.specs.VrfTable.{is_edge}
 use Rattle.mn_topo.specs.Network.{Network}
 use Rattle.mn_topo.specs.Lawful.{IsLawful}
-use Rattle.mn_output.specs.Files.{OutputFile, Frames, Said, Told, told_files, node_name}
+use Rattle.mn_output_laws.specs.Files.{OutputFile, Frames, Said, Told, told_files, node_name}
 use Rattle.mn_files.proofs.Numbered.{range-more}
 
 -- 1. A name is a text

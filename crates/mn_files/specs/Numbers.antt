@@ -3,7 +3,7 @@ use Rattle.std.specs.Prelude.{◌≡◌, ◌≢◌, ◌<◌, ◌+◌, ℕ, List,
 use Rattle.std.specs.List.{range_with_len}
 use Rattle.mn_topo.specs.VrfTable.{is_edge}
 use Rattle.mn_topo.specs.Network.{Network}
-use Rattle.mn_output.specs.Files.{OutputFile, Journal, files_of}
+use Rattle.mn_output_laws.specs.Files.{OutputFile, Journal, files_of}
 
 -- the file of a number
 abbrev pub file_at : Network → ℕ → OutputFile

@@ -1,7 +1,7 @@
 //! The number of a file, if there is one.
 ghost use Rattle.std.specs.Prelude.{◌≡◌, ◌==◌, ◌&&◌, not};
 ghost use Rattle.mn_topo.specs.VrfTable.{is_edge};
-ghost use Rattle.mn_output.specs.Files.{Frames, Said, Told};
+ghost use Rattle.mn_output_laws.specs.Files.{Frames, Said, Told};
 ghost use Rattle.mn_files.specs.Numbers.{IsPlace, edge_places};
 
 use crate::edges::EdgePlaces;

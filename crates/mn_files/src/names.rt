@@ -8,7 +8,7 @@ ghost use Rattle.mn_edge.specs.Written.{texts};
 ghost use Rattle.mn_topo.specs.Network.{Network, wiring_of};
 ghost use Rattle.mn_topo.specs.VrfTable.{is_edge};
 ghost use Rattle.mn_ledger.specs.Places.{edges};
-ghost use Rattle.mn_output.specs.Files.{Journal, Labels, Deliveries, Frames, Said, Told, file_name, files_of, link_name, node_name, pair_name, told_files};
+ghost use Rattle.mn_output_laws.specs.Files.{Journal, Labels, Deliveries, Frames, Said, Told, file_name, files_of, link_name, node_name, pair_name, told_files};
 
 use mn_base::{LinkNo, NodeNo};
 use mn_topo::Topology;

@@ -8,7 +8,7 @@ use Rattle.mn_flight.specs.declared.Item.{Item}
 use Rattle.mn_flight_pool.specs.Rings.{item_at}
 use Rattle.mn_flight_pool.specs.Pool.{nodes_on, IsLinked, entered, left}
 use Rattle.mn_flight_pool.specs.Whole.{IsCounted}
-use Rattle.mn_flight_pool.specs.declared.node.Node.{Node}
+use Rattle.mn_flight_pool.specs.Nodes.{Node}
 use Rattle.mn_flight_pool.proofs.Entered as enters
 use Rattle.mn_flight_pool.proofs.Left as leaves
 use Rattle.mn_flight_pool.proofs.PastDue.{Alike, nodes_alike}

@@ -12,7 +12,7 @@ use Rattle.mn_flight_pool.specs.ByDue.{IsSooner, AreSooner, IsTick, HasTick, IsB
 use Rattle.mn_flight_pool.specs.Pool.{IsLinked, entered}
 use Rattle.mn_flight_pool.specs.declared.tick.Tick.{Tick}
 use Rattle.mn_flight_pool.specs.declared.node.Pair.TheVariants.{Number, Channel, Due}
-use Rattle.mn_flight_pool.specs.declared.node.Node.{Node}
+use Rattle.mn_flight_pool.specs.Nodes.{Node}
 use Rattle.mn_flight_pool.proofs.Changed.{some_value}
 use Rattle.mn_flight_pool.proofs.Neighbours.{free_from, free_at}
 use Rattle.mn_flight_pool.proofs.Rings.{ring_front, ring_behind, ring_past_link, ring_past_item, item_past_link, item_else}

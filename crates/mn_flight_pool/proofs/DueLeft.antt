@@ -14,7 +14,7 @@ use Rattle.mn_flight_pool.specs.Pool.{IsLinked, left}
 use Rattle.mn_flight_pool.specs.declared.tick.Tick.{Tick}
 use Rattle.mn_flight_pool.specs.declared.node.Pair.{Pair}
 use Rattle.mn_flight_pool.specs.declared.node.Pair.TheVariants.{Number, Channel, Due}
-use Rattle.mn_flight_pool.specs.declared.node.Node.{Node}
+use Rattle.mn_flight_pool.specs.Nodes.{Node}
 use Rattle.mn_flight_pool.proofs.Changed.{some_value, same_place_eq, same_place_refl}
 use Rattle.mn_flight_pool.proofs.Neighbours.{neighbour, last_of_cons, free_at, others_free}
 use Rattle.mn_flight_pool.proofs.Rings.{ring_unlinked, ring_past_unlink, ring_past_item, item_past_unlink, item_else}

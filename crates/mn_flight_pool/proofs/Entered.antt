@@ -8,15 +8,16 @@ use Rattle.std.proofs.lemmas.Option.{same_Some}
 use Rattle.std.proofs.lemmas.List.Elements.{filter-append, filter_map-append}
 use Rattle.mn_flight.specs.declared.Item.{Item}
 use Rattle.mn_flight_pool.specs.Cells.{same_place, value_at}
-use Rattle.mn_flight_pool.specs.Rings.{IsFree, IsRing, item_at, with_item, prev_of, link_behind, IsIn}
+use Rattle.mn_flight_pool.specs.Rings.{IsFree, IsRing, item_at, room_at, with_item, prev_of, link_behind, IsIn}
 use Rattle.mn_flight_pool.specs.Pool.{is_on, items_in, nodes_on, IsLinked, entered}
 use Rattle.mn_flight_pool.specs.declared.node.Pair.TheVariants.{Number, Channel}
-use Rattle.mn_flight_pool.specs.declared.node.Node.{Node}
+use Rattle.mn_flight_pool.specs.Nodes.{Node}
 use Rattle.mn_flight_pool.proofs.Changed.{same_place_eq}
 use Rattle.mn_flight_pool.proofs.Changed.{same_place_symm, stays}
 use Rattle.mn_flight_pool.proofs.Neighbours.{in_left, in_at, free_left, free_right, free_from, free_at, others_free, distinct_with, distinct_without}
 use Rattle.mn_flight_pool.proofs.Neighbours.{apart_parts, at_places}
 use Rattle.mn_flight_pool.proofs.Rings.{ring_back, ring_last, ring_past_link, ring_past_item, ring_aside_link, link_stays, item_past_link, item_put, item_else}
+use Rattle.mn_flight_pool.proofs.Rings.{room_past_link, room_past_item}
 
 pub in_right : (xs ys : List ℕ) (x : ℕ) → IsIn x ys → IsIn x (xs ++ ys)
 in_right [] ys x i = i
@@ -209,6 +210,15 @@ module _ {T : Type 0} where
         link_stays Channel p (prev_of Channel two first) q two
         (link_stays Number p (prev_of Number one head) q one (stays p q (λ (node : Node T). record node { item = Some x }) cells h))
 
+    room_three : (q : ℕ) → room_at three q ≡ room_at cells q
+    room_three q =
+        room_past_link Channel p (prev_of Channel two first) q two ∙ room_past_link Number p (prev_of Number one head) q one
+        ∙ room_past_item p q (Some x) cells
+
+    room_order : (qs : List ℕ) → ((q : ℕ) → IsIn q qs → room_at cells q ≡ true) → (q : ℕ) → IsIn q (qs ++ p ∷ []) → room_at cells q ≡ true
+    room_order [] old q i = elim i [ inl e ↦ subst (λ r. room_at cells r ≡ true) (sym e) (linked.free_room p (in_right free (p ∷ []) p (inl refl))) | inr j ↦ absurd j ]
+    room_order (r ∷ qs) old q i = elim i [ inl e ↦ old q (inl e) | inr j ↦ room_order qs (λ s k. old s (inr k)) q j ]
+
     pub linked_entered : IsLinked head heads free (order ++ p ∷ []) three
     linked_entered = record {
       number = number_entered;
@@ -225,6 +235,8 @@ module _ {T : Type 0} where
           (rw new_item refl);
       there = all_old (λ q. IsSome (value_at q three)) free
           (λ q i. three_there q (all_at (λ r. IsSome (value_at r cells)) free q (all_front (λ r. IsSome (value_at r cells)) free linked.there) i));
+      order_room = λ q i. room_three q ∙ room_order order linked.order_room q i;
+      free_room = λ q i. room_three q ∙ linked.free_room q (in_left free (p ∷ []) q i);
     }
 
     pub items_entered : items_in three (order ++ p ∷ []) ≡ items_in cells order ++ x ∷ []

@@ -9,7 +9,7 @@ use Rattle.mn_flight_pool.specs.Cells.{same_place}
 use Rattle.mn_flight_pool.specs.Rings.{AreNeighbours, IsRing, next_of, prev_of}
 use Rattle.mn_flight_pool.specs.Pool.{steps_of}
 use Rattle.mn_flight_pool.specs.declared.node.Pair.{Pair}
-use Rattle.mn_flight_pool.specs.declared.node.Node.{Node}
+use Rattle.mn_flight_pool.specs.Nodes.{Node}
 use Rattle.mn_flight_pool.specs.declared.pool.Finger.{Finger}
 use Rattle.mn_flight_pool.proofs.Changed.{same_place_refl}
 use Rattle.mn_flight_pool.proofs.Neighbours.{neighbour, at_places}

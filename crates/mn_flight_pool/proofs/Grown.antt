@@ -1,12 +1,12 @@
 -- A whole pool with one more node or one more channel, and the one that holds nothing.
-use Rattle.std.proofs.Common.{◌≡◌, ◌<◌, ◌+◌, ℕ, zero, suc, false, List, [], ◌∷◌, ◌++◌, length, Some, None, IsSome, refl, sym, ap, ◌∙◌, subst, arith}
+use Rattle.std.proofs.Common.{◌≡◌, ◌<◌, ◌+◌, ℕ, zero, suc, true, false, List, [], ◌∷◌, ◌++◌, length, Some, None, IsSome, refl, sym, ap, ◌∙◌, subst, arith}
 use Rattle.std.proofs.Common.{append_assoc, length-append, get_or}
 use Rattle.std.specs.Prelude.{MatchOption, ⊤, slice_get}
 use Rattle.std.specs.List.{AllByRecursion, IsDistinct}
 use Rattle.std.proofs.lemmas.Option.{same_Some}
 use Rattle.mn_flight.proofs.Kept.{none_flies}
 use Rattle.mn_flight_pool.specs.Cells.{same_place, value_at}
-use Rattle.mn_flight_pool.specs.Rings.{IsFree, IsIn, IsRing, IsVacantLast, item_in, item_at, next_in, prev_in, next_of, link_of, with_link, set_next, lone}
+use Rattle.mn_flight_pool.specs.Rings.{IsFree, IsIn, IsRing, IsVacantLast, item_in, item_at, room_in, room_at, next_in, prev_in, next_of, link_of, with_link, set_next, lone}
 use Rattle.mn_flight_pool.specs.ByDue.{IsByDue, IsTick}
 use Rattle.mn_flight_pool.specs.Pool.{items_in, nodes_on, order_of, trace, IsHeld, IsLinked}
 use Rattle.mn_flight_pool.specs.Whole.{AreLast, ptrs, dues_of, order_in, items_of, IsWhole, IsCounted}
@@ -16,7 +16,7 @@ use Rattle.mn_flight_pool.specs.declared.tick.Tick.{Tick}
 use Rattle.mn_flight_pool.specs.declared.node.Pair.{Pair}
 use Rattle.mn_flight_pool.specs.declared.node.Pair.TheVariants.{Number, Channel, Due}
 use Rattle.mn_flight_pool.specs.declared.node.Link.{Link}
-use Rattle.mn_flight_pool.specs.declared.node.Node.{Node}
+use Rattle.mn_flight_pool.specs.Nodes.{Node}
 use Rattle.mn_flight_pool.proofs.Changed.{value_other, next_stays, prev_stays, same_place_symm}
 use Rattle.mn_flight_pool.proofs.Neighbours.{distinct_with}
 use Rattle.mn_flight_pool.proofs.Rings.{Unlike, next_at, prev_at, next_past, set_next_leaves, set_prev_leaves, link_unlike, item_kept, ring_same}
@@ -114,10 +114,12 @@ module _ {T : Type 0} where
         held.item_kept node.index pool.store new added fresh pool.head.index (ptrs pool.heads.items)
         (ptrs pool.free.items) pool.count whole.held heads_there q i
 
-    pub grown_held : (then : List Place) → then ≡ pool.free.items ++ node ∷ [] → IsHeld pool.head.index (ptrs pool.heads.items) (ptrs then) pool.count new
-    grown_held then e =
+    pub grown_held : room_at new node.index ≡ true → (then : List Place) → then ≡ pool.free.items ++ node ∷ [] →
+        IsHeld pool.head.index (ptrs pool.heads.items) (ptrs then) pool.count new
+    grown_held own then e =
         subst (λ l. IsHeld pool.head.index (ptrs pool.heads.items) l pool.count new) (sym (ap (λ l. ptrs l) e ∙ ptrs_push pool.free.items node))
-        (held.held_added node.index pool.store new added fresh pool.head.index (ptrs pool.heads.items) (ptrs pool.free.items) pool.count whole.held heads_there)
+        (held.held_added node.index pool.store new added fresh pool.head.index (ptrs pool.heads.items) (ptrs pool.free.items) pool.count whole.held heads_there
+        own)
 
     pub grown_items : items_in new (order_of pool.head.index pool.count new) ≡ items_of pool
     grown_items =
@@ -214,6 +216,9 @@ module _ {T : Type 0} where
         apart = apart;
         held = tt;
         there = all_from (λ q. IsSome (value_at q last)) free (λ q i. stays q (all_in (λ r. IsSome (value_at r pool.store)) free q held_none.linked.there i));
+        order_room = λ q i. absurd i;
+        free_room =
+            λ q i. ap room_in (value_same q (all_in (λ r. IsSome (value_at r pool.store)) free q held_none.linked.there i)) ∙ held_none.linked.free_room q i;
       }
 
       pub channel_held : (heads_then : List Place) → heads_then ≡ pool.heads.items ++ node ∷ [] → IsHeld head (ptrs heads_then) free pool.count two
@@ -286,6 +291,8 @@ module _ {T : Type 0} where
             apart = one_apart head;
             held = tt;
             there = tt;
+            order_room = λ q i. absurd i;
+            free_room = λ q i. absurd i;
           };
           flight = none_flies 0;
         })))

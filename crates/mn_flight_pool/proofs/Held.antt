@@ -10,11 +10,11 @@ use Rattle.std.specs.List.{AllByRecursion, IsDistinct, All}
 use Rattle.mn_flight.specs.declared.Item.{Item}
 use Rattle.mn_flight.specs.Flying.{IsFlight}
 use Rattle.mn_flight_pool.specs.Cells.{same_place, value_at}
-use Rattle.mn_flight_pool.specs.Rings.{IsFree, IsRing, IsVacantLast, item_in, item_at, next_in, prev_in, next_of, IsIn}
+use Rattle.mn_flight_pool.specs.Rings.{IsFree, IsRing, IsVacantLast, item_in, item_at, room_in, room_at, next_in, prev_in, next_of, IsIn}
 use Rattle.mn_flight_pool.specs.Pool.{trace, items_in, nodes_on, order_of, IsLinked, IsHeld, entered, left}
 use Rattle.mn_flight_pool.specs.declared.node.Pair.{Pair}
 use Rattle.mn_flight_pool.specs.declared.node.Pair.TheVariants.{Number, Channel}
-use Rattle.mn_flight_pool.specs.declared.node.Node.{Node}
+use Rattle.mn_flight_pool.specs.Nodes.{Node}
 use Rattle.mn_flight_pool.proofs.Changed.{same_place_eq, value_before, value_last}
 use Rattle.mn_flight_pool.proofs.Changed.{same_place_symm}
 use Rattle.mn_flight_pool.proofs.Neighbours.{free_from, free_both, distinct_with}
@@ -127,8 +127,16 @@ module _ {T : Type 0} where
           apart : (q : ℕ) → IsSome (value_at q old) → same_place p q ≡ false
           apart q h = same_place_symm p q ∙ not_p q h
 
-      pub held_added : IsHeld head heads (free ++ p ∷ []) n new
-      held_added = record {
+      room_old : (q : ℕ) → IsSome (value_at q old) → room_at old q ≡ true → room_at new q ≡ true
+      room_old q there h = ap room_in (value_kept q there) ∙ h
+
+      room_free : room_at new p ≡ true → (fs : List ℕ) → ((q : ℕ) → IsIn q fs → room_at new q ≡ true) → (q : ℕ) → IsIn q (fs ++ p ∷ []) →
+          room_at new q ≡ true
+      room_free own [] known q i = elim i [ inl e ↦ subst (λ r. room_at new r ≡ true) (sym e) own | inr j ↦ absurd j ]
+      room_free own (r ∷ fs) known q i = elim i [ inl e ↦ known q (inl e) | inr j ↦ room_free own fs (λ s k. known s (inr k)) q j ]
+
+      pub held_added : room_at new p ≡ true → IsHeld head heads (free ++ p ∷ []) n new
+      held_added own = record {
         linked = subst (λ ps. IsLinked head heads (free ++ p ∷ []) ps new) (sym order_kept) (record {
           number = ring_kept Number head ring_order held.linked.number;
           channel =
@@ -146,6 +154,10 @@ module _ {T : Type 0} where
               (all_old (λ q. IsSome (value_at q new)) free
               (λ q i. subst (λ o. IsSome o) (sym (value_kept q (all_in (λ r. IsSome (value_at r old)) free q held.linked.there i)))
               (all_in (λ r. IsSome (value_at r old)) free q held.linked.there i))) there_p;
+          order_room =
+              λ q i. room_old q (all_in (λ r. IsSome (value_at r old)) ring_order q held.linked.number.there.1 i) (held.linked.order_room q i);
+          free_room = room_free own free
+              (λ q i. room_old q (all_in (λ r. IsSome (value_at r old)) free q held.linked.there i) (held.linked.free_room q i));
         });
         flight = subst (λ xs. IsFlight (length heads) xs) (sym items_added) held.flight;
       }

@@ -10,7 +10,7 @@ use Rattle.mn_flight.specs.Flying.{IsFlight, on_channel}
 use Rattle.mn_flight.proofs.Members as members
 use Rattle.mn_flight_pool.specs.Rings.{IsIn, item_at}
 use Rattle.mn_flight_pool.specs.Pool.{is_on, items_in, nodes_on}
-use Rattle.mn_flight_pool.specs.declared.node.Node.{Node}
+use Rattle.mn_flight_pool.specs.Nodes.{Node}
 
 -- 1. Places
 pub place_cut : (n : ℕ) (xs : List ℕ) → n < length xs → (us : List ℕ) × (p : ℕ) × (vs : List ℕ) × (xs ≡ us ++ p ∷ vs) × (length us ≡ n)

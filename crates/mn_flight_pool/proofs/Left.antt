@@ -6,16 +6,16 @@ use Rattle.std.specs.List.{AllByRecursion, IsDistinct, cons_option}
 use Rattle.std.proofs.lemmas.List.Elements.{filter-append, filter_map-append}
 use Rattle.mn_flight.specs.declared.Item.{Item}
 use Rattle.mn_flight_pool.specs.Cells.{same_place, value_at}
-use Rattle.mn_flight_pool.specs.Rings.{IsFree, IsRing, item_at, next_of, prev_of, unlink, IsIn}
+use Rattle.mn_flight_pool.specs.Rings.{IsFree, IsRing, item_at, room_at, next_of, prev_of, unlink, IsIn}
 use Rattle.mn_flight_pool.specs.Pool.{is_on, items_in, nodes_on, IsLinked, left}
 use Rattle.mn_flight_pool.specs.declared.node.Pair.TheVariants.{Number, Channel}
-use Rattle.mn_flight_pool.specs.declared.node.Node.{Node}
+use Rattle.mn_flight_pool.specs.Nodes.{Node}
 use Rattle.mn_flight_pool.proofs.Changed.{same_place_eq}
 use Rattle.mn_flight_pool.proofs.Changed.{same_place_symm, stays}
 use Rattle.mn_flight_pool.proofs.Neighbours.{in_left, in_at, free_left, free_right, free_both, free_from, free_at, others_free, distinct_with}
 use Rattle.mn_flight_pool.proofs.Neighbours.{distinct_without, apart_parts, at_places, all_without}
 use Rattle.mn_flight_pool.proofs.Rings.{ring_unlinked, ring_past_unlink, ring_past_item, ring_aside_unlink, ring_sides, unlink_stays, item_past_unlink}
-use Rattle.mn_flight_pool.proofs.Rings.{item_put, item_else}
+use Rattle.mn_flight_pool.proofs.Rings.{item_put, item_else, room_past_item, room_past_unlink}
 use Rattle.mn_flight_pool.proofs.Entered.{from_filter, unlike, unlike', one_channel, same_nodes_on, same_items}
 
 module _ {T : Type 0} (head : ℕ) (heads free us : List ℕ) (p : ℕ) (vs : List ℕ) (cells : List (Node T))
@@ -169,6 +169,17 @@ module _ {T : Type 0} (head : ℕ) (heads free us : List ℕ) (p : ℕ) (vs : Li
   all_push P [] h k = (k, tt)
   all_push P (y ∷ ys) h k = (h.0, all_push P ys h.1 k)
 
+  room_three : (q : ℕ) → room_at three q ≡ room_at cells q
+  room_three q = room_past_item p q None two ∙ room_past_unlink Channel p q one ∙ room_past_unlink Number p q cells
+
+  order_with : (xs : List ℕ) (q : ℕ) → IsIn q (xs ++ vs) → IsIn q (xs ++ p ∷ vs)
+  order_with [] q i = inr i
+  order_with (z ∷ zs) q i = elim i [ inl e ↦ inl e | inr j ↦ inr (order_with zs q j) ]
+
+  room_free : (fs : List ℕ) → ((q : ℕ) → IsIn q fs → room_at cells q ≡ true) → (q : ℕ) → IsIn q (fs ++ p ∷ []) → room_at cells q ≡ true
+  room_free [] old q i = elim i [ inl e ↦ subst (λ r. room_at cells r ≡ true) (sym e) (linked.order_room p (here us)) | inr j ↦ absurd j ]
+  room_free (r ∷ fs) old q i = elim i [ inl e ↦ old q (inl e) | inr j ↦ room_free fs (λ s k. old s (inr k)) q j ]
+
   pub linked_left : IsLinked head heads (free ++ p ∷ []) (us ++ vs) three
   linked_left = record {
     number = number_left;
@@ -186,6 +197,8 @@ module _ {T : Type 0} (head : ℕ) (heads free us : List ℕ) (p : ℕ) (vs : Li
     there = all_push (λ q. IsSome (value_at q three)) free
         (all_old (λ q. IsSome (value_at q three)) free (λ q i. three_there q (all_in (λ r. IsSome (value_at r cells)) free q linked.there i)))
         (three_there p p_there);
+    order_room = λ q i. room_three q ∙ linked.order_room q (order_with us q i);
+    free_room = λ q i. room_three q ∙ room_free free linked.free_room q i;
   }
 
   -- the items before are those after and, between them, the item taken

@@ -1,4 +1,5 @@
 pub mod Changed
+pub mod Nodes
 pub mod Neighbours
 pub mod Rings
 pub mod Traces

@@ -3,11 +3,12 @@ use Rattle.std.proofs.Common.{◌≡◌, ℕ, List, [], ◌∷◌, length, IsSom
 use Rattle.std.specs.List.{AllByRecursion}
 use Rattle.mn_flight.specs.Flying.{IsFlight}
 use Rattle.mn_flight_pool.specs.Cells.{value_at}
-use Rattle.mn_flight_pool.specs.Rings.{IsRing, item_at, next_of, link_behind, unlink}
+use Rattle.mn_flight_pool.specs.Rings.{IsRing, item_at, room_at, next_of, link_behind, unlink}
 use Rattle.mn_flight_pool.specs.Pool.{items_in, nodes_on, order_of, IsLinked, IsHeld}
 use Rattle.mn_flight_pool.specs.declared.node.Pair.TheVariants.{Number, Channel, Due}
-use Rattle.mn_flight_pool.specs.declared.node.Node.{Node}
+use Rattle.mn_flight_pool.specs.Nodes.{Node}
 use Rattle.mn_flight_pool.proofs.Rings.{ring_past_link, ring_past_unlink, link_stays, unlink_stays, item_past_link, item_past_unlink}
+use Rattle.mn_flight_pool.proofs.Rings.{room_past_link, room_past_unlink}
 use Rattle.mn_flight_pool.proofs.Entered.{same_nodes_on, same_items}
 use Rattle.mn_flight_pool.proofs.Held.{order_is, length-trace}
 
@@ -22,6 +23,7 @@ module _ {T : Type 0} (old new : List (Node T)) where
   pub record Alike : Type 0 where
     pub stay : (q : ℕ) → IsSome (value_at q old) → IsSome (value_at q new)
     pub items : (q : ℕ) → item_at new q ≡ item_at old q
+    pub rooms : (q : ℕ) → room_at new q ≡ room_at old q
     pub number : (s : ℕ) (ps : List ℕ) → IsRing Number old s ps → IsRing Number new s ps
     pub channel : (s : ℕ) (ps : List ℕ) → IsRing Channel old s ps → IsRing Channel new s ps
 
@@ -45,6 +47,8 @@ module _ {T : Type 0} (old new : List (Node T)) where
       apart = linked.apart;
       held = all_alike (λ q. IsSome (item_at old q)) (λ q. IsSome (item_at new q)) order (λ q h. subst (λ o. IsSome o) (sym (alike.items q)) h) linked.held;
       there = all_alike (λ q. IsSome (value_at q old)) (λ q. IsSome (value_at q new)) free alike.stay linked.there;
+      order_room = λ q i. alike.rooms q ∙ linked.order_room q i;
+      free_room = λ q i. alike.rooms q ∙ linked.free_room q i;
     }
 
     module _ (head : ℕ) (heads free : List ℕ) (n : ℕ) (held : IsHeld head heads free n old) where
@@ -66,6 +70,7 @@ module _ {T : Type 0} where
   alike_link p a cells = record {
     stay = λ q h. link_stays Due p a q cells h;
     items = λ q. item_past_link Due p a q cells;
+    rooms = λ q. room_past_link Due p a q cells;
     number = λ s ps r. ring_past_link Due Number due_number p a cells s ps r;
     channel = λ s ps r. ring_past_link Due Channel due_channel p a cells s ps r;
   }
@@ -74,6 +79,7 @@ module _ {T : Type 0} where
   alike_unlink p cells = record {
     stay = λ q h. unlink_stays Due p q cells h;
     items = λ q. item_past_unlink Due p q cells;
+    rooms = λ q. room_past_unlink Due p q cells;
     number = λ s ps r. ring_past_unlink Due Number due_number p cells s ps r;
     channel = λ s ps r. ring_past_unlink Due Channel due_channel p cells s ps r;
   }

@@ -1,5 +1,5 @@
 -- A whole pool takes an item.
-use Rattle.std.proofs.Common.{◌≡◌, ◌<◌, ◌≤◌, ◌+◌, ℕ, zero, suc, List, [], ◌∷◌, ◌++◌, length, Option, Some, None, IsSome, inl, inr, refl, sym, ap, ◌∙◌}
+use Rattle.std.proofs.Common.{◌≡◌, ◌<◌, ◌≤◌, ◌+◌, ℕ, zero, suc, true, List, [], ◌∷◌, ◌++◌, length, Option, Some, None, IsSome, inl, inr, refl, sym, ap, ◌∙◌}
 use Rattle.std.proofs.Common.{subst, arith, append_assoc, length-append, get_or}
 use Rattle.std.specs.Prelude.{◌==◌, cond, MatchOption, ⊤, slice_get, slice_index_or, slice_set}
 use Rattle.std.specs.List.{All, AllByRecursion}
@@ -7,7 +7,7 @@ use Rattle.std.proofs.lemmas.List.{map-append}
 use Rattle.mn_flight.specs.declared.Item.{Item}
 use Rattle.mn_flight.proofs.Members as members
 use Rattle.mn_flight_pool.specs.Cells.{value_at}
-use Rattle.mn_flight_pool.specs.Rings.{IsIn, IsRing, item_at, next_of, link_behind}
+use Rattle.mn_flight_pool.specs.Rings.{IsIn, IsRing, item_at, room_at, next_of, link_behind}
 use Rattle.mn_flight_pool.specs.Ticks.{last_by, put_tick}
 use Rattle.mn_flight_pool.specs.ByDue.{IsByDue, IsTick}
 use Rattle.mn_flight_pool.specs.Pool.{is_on, items_in, nodes_on, order_of, trace, entered, IsHeld}
@@ -15,7 +15,7 @@ use Rattle.mn_flight_pool.specs.Whole.{AreLast, ptrs, dues_of, order_in, items_o
 use Rattle.mn_flight_pool.specs.declared.pool.Pool.{Pool}
 use Rattle.mn_flight_pool.specs.declared.node.Place.{Place}
 use Rattle.mn_flight_pool.specs.declared.tick.Tick.{Tick}
-use Rattle.mn_flight_pool.specs.declared.node.Node.{Node}
+use Rattle.mn_flight_pool.specs.Nodes.{Node}
 use Rattle.mn_flight_pool.specs.declared.node.Pair.TheVariants.{Channel, Due}
 use Rattle.mn_flight_pool.proofs.Entered.{three_there, p_there, nodes_then}
 use Rattle.mn_flight_pool.proofs.Finger.{finger_kept, get_more}
@@ -73,6 +73,13 @@ module _ {T : Type 0} (pool : Pool T) (whole : IsWhole pool) where
         last : (fs : List ℕ) → AllByRecursion (λ q. IsSome (value_at q pool.store)) (fs ++ node.index ∷ []) → IsSome (value_at node.index pool.store)
         last [] h = h.0
         last (f ∷ fs) h = last fs h.1
+
+    pub free_room : room_at pool.store node.index ≡ true
+    free_room = held_cut.linked.free_room node.index (last (ptrs front))
+      where
+        last : (fs : List ℕ) → IsIn node.index (fs ++ node.index ∷ [])
+        last [] = inl refl
+        last (f ∷ fs) = inr (last fs)
 
     module _ (x : Item T) (first : Place) (below : x.channel < length pool.heads.items) (read : first ≡ slice_index_or pool.heads.items x.channel first) where
       at : slice_get (ptrs pool.heads.items) x.channel ≡ Some first.index

@@ -4,12 +4,12 @@ use Rattle.std.proofs.Common.{append_assoc, length-append}
 use Rattle.std.specs.List.{AllByRecursion, IsDistinct}
 use Rattle.mn_flight_pool.specs.Cells.{same_place, value_at}
 use Rattle.mn_flight_pool.specs.Rings.{AreNeighbours, IsFree, item_in, item_at, with_item, link_of, with_link, next_in, prev_in, next_of, prev_of, set_next}
-use Rattle.mn_flight_pool.specs.Rings.{set_prev, link_behind, unlink, IsRing, IsIn}
+use Rattle.mn_flight_pool.specs.Rings.{set_prev, link_behind, unlink, lone, room_in, room_at, IsRing, IsIn}
 use Rattle.mn_flight.specs.declared.Item.{Item}
 use Rattle.mn_flight_pool.specs.declared.node.Pair.{Pair}
 use Rattle.mn_flight_pool.specs.declared.node.Pair.TheVariants.{Number, Channel, Due}
 use Rattle.mn_flight_pool.specs.declared.node.Link.{Link}
-use Rattle.mn_flight_pool.specs.declared.node.Node.{Node}
+use Rattle.mn_flight_pool.specs.Nodes.{Node}
 use Rattle.mn_flight_pool.proofs.Changed.{same_place_symm, stays, value_same, value_other, next_stays, prev_stays, keeps}
 use Rattle.mn_flight_pool.proofs.Neighbours.{free_left, free_right, free_both, others_free, distinct_with, distinct_without, distinct_turned}
 use Rattle.mn_flight_pool.proofs.Neighbours.{same_neighbours, between, beside, neighbour, first_of_push, last_of_cons, all_turned, all_at, all_with}
@@ -302,9 +302,10 @@ module _ {T : Type 0} where
   link_unlike Due Due u link node = absurd (u refl)
 
   pub item_kept : (pair : Pair) (link : Link) (node : Node T) → item_in (Some (with_link pair link node)) ≡ item_in (Some node)
-  item_kept Number link node = refl
-  item_kept Channel link node = refl
-  item_kept Due link node = refl
+  item_kept pair link node = refl
+
+  room_kept : (pair : Pair) (link : Link) (node : Node T) → room_in (Some (with_link pair link node)) ≡ room_in (Some node)
+  room_kept pair link node = refl
 
   -- what is seen of a node without one pair of its pointers
   abbrev pub Sees : {X : Type 0} → Pair → (Option (Node T) → X) → Type 0
@@ -373,6 +374,24 @@ module _ {T : Type 0} where
 
   pub item_past_unlink : (pair : Pair) (p x : ℕ) (cells : List (Node T)) → item_at (unlink pair p cells) x ≡ item_at cells x
   item_past_unlink pair p x cells = unlink_leaves pair item_in (item_kept pair) p x cells
+
+  -- and where there is room
+  pub room_past_link : (pair : Pair) (p a x : ℕ) (cells : List (Node T)) → room_at (link_behind pair p a cells) x ≡ room_at cells x
+  room_past_link pair p a x cells = link_leaves pair room_in (room_kept pair) p a x cells
+
+  pub room_past_unlink : (pair : Pair) (p x : ℕ) (cells : List (Node T)) → room_at (unlink pair p cells) x ≡ room_at cells x
+  room_past_unlink pair p x cells = unlink_leaves pair room_in (room_kept pair) p x cells
+
+  pub room_lone : (pair : Pair) (p x : ℕ) (cells : List (Node T)) → room_at (lone pair p cells) x ≡ room_at cells x
+  room_lone pair p x cells =
+      set_prev_leaves pair room_in (room_kept pair) p p x (set_next pair p p cells) ∙ set_next_leaves pair room_in (room_kept pair) p p x cells
+
+  pub room_past_item : (p x : ℕ) (item : Option (Item T)) (cells : List (Node T)) → room_at (with_item p item cells) x ≡ room_at cells x
+  room_past_item p x item cells = keeps room_in p x (λ (node : Node T). record node { item = item }) cells kept
+    where
+      kept : (o : Option (Node T)) → room_in (option_map (λ (node : Node T). record node { item = item }) o) ≡ room_in o
+      kept None = refl
+      kept (Some node) = refl
 
   -- a change of items keeps the rings
   item_next : (pair : Pair) (item : Option (Item T)) (o : Option (Node T)) →

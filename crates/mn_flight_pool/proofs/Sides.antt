@@ -3,13 +3,14 @@ use Rattle.std.proofs.Common.{ℕ, ◌≡◌, List, [], ◌∷◌, ◌++◌, Som
 use Rattle.std.specs.List.{AllByRecursion}
 use Rattle.mn_flight.specs.declared.Item.{Item}
 use Rattle.mn_flight_pool.specs.Cells.{value_at}
-use Rattle.mn_flight_pool.specs.Rings.{IsRing, item_at, with_item, next_of, prev_of, link_behind, unlink}
+use Rattle.mn_flight_pool.specs.Rings.{IsRing, item_at, room_at, with_item, next_of, prev_of, link_behind, unlink}
 use Rattle.mn_flight_pool.specs.Pool.{entered}
 use Rattle.mn_flight_pool.specs.declared.node.Pair.{Pair}
 use Rattle.mn_flight_pool.specs.declared.node.Pair.TheVariants.{Number, Channel}
-use Rattle.mn_flight_pool.specs.declared.node.Node.{Node}
+use Rattle.mn_flight_pool.specs.Nodes.{Node}
 use Rattle.mn_flight_pool.proofs.Changed.{stays}
 use Rattle.mn_flight_pool.proofs.Rings.{ring_last, ring_sides, ring_past_item, ring_past_link, ring_past_unlink, link_stays, unlink_stays, item_past_unlink}
+use Rattle.mn_flight_pool.proofs.Rings.{room_past_unlink}
 use Rattle.mn_flight_pool.proofs.Entered.{unlike}
 use Rattle.mn_flight_pool.proofs.Sooner.{all_in}
 
@@ -61,6 +62,9 @@ module _ {T : Type 0} where
   pub put_there : (p : ℕ) (item : Item T) (old new : List (Node T)) → new ≡ with_item p (Some item) old → IsSome (value_at p old) →
       IsSome (value_at p new)
   put_there p item old new e h = subst (λ c. IsSome (value_at p c)) (sym e) (stays p p (λ (node : Node T). record node { item = Some item }) old h)
+
+  pub left_room : (p : ℕ) (old one two : List (Node T)) → one ≡ unlink Number p old → two ≡ unlink Channel p one → room_at two p ≡ room_at old p
+  left_room p old one two e1 e2 = ap (λ c. room_at c p) e2 ∙ room_past_unlink Channel p p one ∙ ap (λ c. room_at c p) e1 ∙ room_past_unlink Number p p old
 
   pub linked_there : (pair : Pair) (p a q : ℕ) (old new : List (Node T)) → new ≡ link_behind pair p a old → IsSome (value_at q old) →
       IsSome (value_at q new)

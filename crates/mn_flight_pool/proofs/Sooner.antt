@@ -9,7 +9,7 @@ use Rattle.mn_flight_pool.specs.Rings.{IsIn, item_at}
 use Rattle.mn_flight_pool.specs.Ticks.{tick_at, AreAscending, last_by, put_tick, set_tick, drop_tick}
 use Rattle.mn_flight_pool.specs.ByDue.{IsSooner, AreSooner, IsLastAt, HasTick}
 use Rattle.mn_flight_pool.specs.declared.tick.Tick.{Tick}
-use Rattle.mn_flight_pool.specs.declared.node.Node.{Node}
+use Rattle.mn_flight_pool.specs.Nodes.{Node}
 
 -- 1. Members and where they stand
 pub in_cut : (p : ℕ) (xs : List ℕ) → IsIn p xs → (us : List ℕ) × (vs : List ℕ) × (xs ≡ us ++ p ∷ vs)

@@ -11,7 +11,7 @@ use Rattle.mn_flight.proofs.First.{earliest_is, law_none}
 use Rattle.mn_flight_pool.specs.Rings.{IsIn, item_at, next_of}
 use Rattle.mn_flight_pool.specs.ByDue.{IsByDue}
 use Rattle.mn_flight_pool.specs.Pool.{items_in}
-use Rattle.mn_flight_pool.specs.declared.node.Node.{Node}
+use Rattle.mn_flight_pool.specs.Nodes.{Node}
 use Rattle.mn_flight_pool.specs.declared.node.Pair.TheVariants.{Due}
 use Rattle.mn_flight_pool.specs.declared.tick.Tick.{Tick}
 use Rattle.mn_flight_pool.proofs.Items.{item_member, member_node}

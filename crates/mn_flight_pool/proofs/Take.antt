@@ -8,13 +8,13 @@ use Rattle.mn_flight.specs.declared.Item.{Item}
 use Rattle.mn_flight.specs.Flying.{without}
 use Rattle.mn_flight.proofs.Members as members
 use Rattle.mn_flight_pool.specs.Cells.{same_place, value_at}
-use Rattle.mn_flight_pool.specs.Rings.{IsIn, IsRing, item_at, next_of, prev_of, unlink}
+use Rattle.mn_flight_pool.specs.Rings.{IsIn, IsRing, item_at, room_at, next_of, prev_of, unlink}
 use Rattle.mn_flight_pool.specs.ByDue.{IsByDue, ticks_left}
 use Rattle.mn_flight_pool.specs.Pool.{is_on, items_in, nodes_on, order_of, trace, left, IsHeld, IsLinked}
 use Rattle.mn_flight_pool.specs.Whole.{ptrs, dues_of, order_in, items_of, IsWhole, IsCounted}
 use Rattle.mn_flight_pool.specs.declared.pool.Pool.{Pool}
 use Rattle.mn_flight_pool.specs.declared.tick.Tick.{Tick}
-use Rattle.mn_flight_pool.specs.declared.node.Node.{Node}
+use Rattle.mn_flight_pool.specs.Nodes.{Node}
 use Rattle.mn_flight_pool.specs.declared.node.Pair.TheVariants.{Number, Channel, Due}
 use Rattle.mn_flight_pool.proofs.Finger.{kept_before, distinct_nodes}
 use Rattle.mn_flight_pool.proofs.Left.{nodes_before, nodes_then}
@@ -93,6 +93,9 @@ module _ {T : Type 0} (pool : Pool T) (whole : IsWhole pool) (p : ℕ) (i : IsIn
   same_item one e x y f h =
       let there : item_at pool.store p ≡ Some y = sym (h ∙ ap (λ c. item_at c p) e ∙ (alike_unlink p pool.store).items p) in
       (there, same_Some x y (f ∙ there))
+
+  pub room_one : (one : List (Node T)) → one ≡ unlink Due p pool.store → room_at one p ≡ true
+  room_one one e = ap (λ c. room_at c p) e ∙ (alike_unlink p pool.store).rooms p ∙ whole.held.linked.order_room p i
 
   module _ (x : Item T) (holds : item_at pool.store p ≡ Some x) where
     pub below : x.channel < length pool.heads.items

@@ -2,7 +2,7 @@
 use Rattle.std.proofs.Common.{ℕ, ◌≡◌, List, [], ◌∷◌, ◌++◌, length, refl, ap, ◌∙◌}
 use Rattle.mn_flight_pool.specs.Rings.{AreNeighbours, IsRing, next_of, prev_of}
 use Rattle.mn_flight_pool.specs.Pool.{trace}
-use Rattle.mn_flight_pool.specs.declared.node.Node.{Node}
+use Rattle.mn_flight_pool.specs.Nodes.{Node}
 use Rattle.mn_flight_pool.specs.declared.node.Pair.{Pair}
 
 pub trace_path : (next prev : ℕ → ℕ) (a : ℕ) (ps : List ℕ) (z : ℕ) → AreNeighbours next prev (a ∷ ps) (ps ++ z ∷ []) → trace next a (length ps) ≡ ps

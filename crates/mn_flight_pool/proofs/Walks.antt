@@ -6,7 +6,7 @@ use Rattle.mn_flight_pool.specs.Cells.{value_at}
 use Rattle.mn_flight_pool.specs.Rings.{AreNeighbours, IsIn, IsRing, next_of, prev_of}
 use Rattle.mn_flight_pool.specs.Pool.{trace, steps_of}
 use Rattle.mn_flight_pool.specs.declared.node.Pair.{Pair}
-use Rattle.mn_flight_pool.specs.declared.node.Node.{Node}
+use Rattle.mn_flight_pool.specs.Nodes.{Node}
 use Rattle.mn_flight_pool.proofs.Neighbours.{neighbour}
 use Rattle.mn_flight_pool.proofs.Rings.{ring_last, ring_sides}
 use Rattle.mn_flight_pool.proofs.Traces.{trace_ring}

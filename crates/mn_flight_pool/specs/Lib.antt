@@ -1,4 +1,5 @@
 pub mod Cells
+pub mod Nodes
 pub mod Rings
 pub mod Ticks
 pub mod ByDue

@@ -1,12 +1,12 @@
 -- What a pool keeps: the nodes that hold items in the order of the items' numbers, in a ring of all, in one for each
 -- channel and in one by due tick; and the nodes that hold none.
-use Rattle.std.specs.Prelude.{◌≡◌, ◌==◌, ℕ, zero, suc, Bool, false, List, [], ◌∷◌, ◌++◌, length, filter, filter_map, slice_get, Option, None, Some, IsSome}
+use Rattle.std.specs.Prelude.{◌≡◌, ◌==◌, ℕ, zero, suc, Bool, true, false, List, [], ◌∷◌, ◌++◌, length, filter, filter_map, slice_get, Option, None, Some, IsSome}
 use Rattle.std.specs.List.{AllByRecursion, IsDistinct}
 use Rattle.mn_flight.specs.declared.Item.{Item}
 use Rattle.mn_flight.specs.Flying.{IsFlight}
 use Rattle.mn_flight_pool.specs.Cells.{same_place, value_at}
-use Rattle.mn_flight_pool.specs.Rings.{IsRing, item_at, next_of, prev_of, with_item, link_behind, unlink}
-use Rattle.mn_flight_pool.specs.declared.node.Node.{Node}
+use Rattle.mn_flight_pool.specs.Rings.{IsIn, IsRing, item_at, room_at, next_of, prev_of, with_item, link_behind, unlink}
+use Rattle.mn_flight_pool.specs.Nodes.{Node}
 use Rattle.mn_flight_pool.specs.declared.node.Pair.TheVariants.{Number, Channel}
 
 -- so many places from s on, each the next of the one before
@@ -40,6 +40,8 @@ module _ {T : Type 0} where
     pub apart : IsDistinct same_place ((head ∷ heads) ++ (order ++ free))
     pub held : AllByRecursion (λ p. IsSome (item_at cells p)) order
     pub there : AllByRecursion (λ p. IsSome (value_at p cells)) free
+    pub order_room : (p : ℕ) → IsIn p order → room_at cells p ≡ true
+    pub free_room : (p : ℕ) → IsIn p free → room_at cells p ≡ true
 
   -- the node at p takes an item, and stands behind all others in the ring of all and in its channel's
   abbrev pub entered : ℕ → ℕ → ℕ → Item T → List (Node T) → List (Node T)

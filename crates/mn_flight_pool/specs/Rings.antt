@@ -1,12 +1,13 @@
 -- Nodes in rings: which node follows which, and what linking and unlinking does.
-use Rattle.std.specs.Prelude.{◌≡◌, ◌⊎◌, ℕ, zero, suc, false, List, [], ◌∷◌, ◌++◌, length, Option, None, Some, IsSome}
+use Rattle.std.specs.Prelude.{◌≡◌, ◌⊎◌, ℕ, zero, suc, Bool, false, List, [], ◌∷◌, ◌++◌, length, Option, None, Some, IsSome}
 use Rattle.mn_flight.specs.declared.Item.{Item}
 use Rattle.std.specs.List.{AllByRecursion, IsDistinct}
 use Rattle.mn_flight_pool.specs.Cells.{same_place, value_at}
 use Rattle.mn_flight_pool.specs.declared.node.Pair.{Pair}
 use Rattle.mn_flight_pool.specs.declared.node.Pair.TheVariants.{Number, Channel, Due}
 use Rattle.mn_flight_pool.specs.declared.node.Link.{Link}
-use Rattle.mn_flight_pool.specs.declared.node.Node.{Node}
+use Rattle.mn_flight_pool.specs.declared.node.Links.{Links}
+use Rattle.mn_flight_pool.specs.Nodes.{Node}
 
 -- 1. Neighbours
 -- the pointers from each node of the first list lead to the one at its place in the second, and back
@@ -25,16 +26,22 @@ IsIn p (q ∷ qs) = (p ≡ q) ⊎ IsIn p qs
 abbrev pub IsFree : ℕ → List ℕ → Type 0
 IsFree p ps = AllByRecursion (λ q. same_place p q ≡ false) ps
 
+abbrev pub link_in : Pair → Links → Link
+link_in Number links = links.number
+link_in Channel links = links.channel
+link_in Due links = links.due
+
+abbrev pub with_link_in : Pair → Link → Links → Links
+with_link_in Number link links = record links { number = link }
+with_link_in Channel link links = record links { channel = link }
+with_link_in Due link links = record links { due = link }
+
 module _ {T : Type 0} where
   abbrev pub link_of : Pair → Node T → Link
-  link_of Number node = node.number
-  link_of Channel node = node.channel
-  link_of Due node = node.due
+  link_of pair node = link_in pair node.links
 
   abbrev pub with_link : Pair → Link → Node T → Node T
-  with_link Number link node = record node { number = link }
-  with_link Channel link node = record node { channel = link }
-  with_link Due link node = record node { due = link }
+  with_link pair link node = record node { links = with_link_in pair link node.links }
 
   abbrev pub next_in : Pair → Option (Node T) → ℕ
   next_in pair None = 0
@@ -84,6 +91,18 @@ module _ {T : Type 0} where
 
   abbrev pub item_at : List (Node T) → ℕ → Option (Item T)
   item_at cells p = item_in (value_at p cells)
+
+  -- whether the node at p has room for an item
+  abbrev pub room_in : Option (Node T) → Bool
+  room_in None = false
+  room_in (Some node) = node.room
+
+  abbrev pub room_at : List (Node T) → ℕ → Bool
+  room_at cells p = room_in (value_at p cells)
+
+  -- no node has room for an item
+  abbrev pub HasNoRoom : List (Node T) → Type 0
+  HasNoRoom cells = (p : ℕ) → room_at cells p ≡ false
 
   abbrev pub with_item : ℕ → Option (Item T) → List (Node T) → List (Node T)
   with_item p item = change_at p (λ node. record node { item = item })

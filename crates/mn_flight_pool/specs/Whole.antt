@@ -6,7 +6,7 @@ use Rattle.mn_flight_pool.specs.Rings.{next_of}
 use Rattle.mn_flight_pool.specs.Pool.{trace, order_of, items_in, nodes_on, IsHeld}
 use Rattle.mn_flight_pool.specs.ByDue.{IsByDue}
 use Rattle.mn_flight_pool.specs.declared.node.Place.{Place}
-use Rattle.mn_flight_pool.specs.declared.node.Node.{Node}
+use Rattle.mn_flight_pool.specs.Nodes.{Node}
 use Rattle.mn_flight_pool.specs.declared.node.Pair.TheVariants.{Due}
 use Rattle.mn_flight_pool.specs.declared.pool.Pool.{Pool}
 

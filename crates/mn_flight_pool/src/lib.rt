@@ -16,7 +16,7 @@
 //! for its tick in that list, and takes no walk over what is due later. A node that comes free is kept and used again. A finger
 //! stays on the node before that which was taken last by its place, so that places near it are walked to from there.
 //!
-//! - `node`, `store`: a node with its pairs of neighbours; all nodes, by their places
+//! - `node`, `store`: the neighbours of a node; all nodes, by their places, with their items
 //! - `walk`: steps along a ring
 //! - `moves`: a node enters or leaves the rings by number and of its channel
 //! - `tick`, `due`: the list of due ticks; a node enters or leaves the ring by due tick

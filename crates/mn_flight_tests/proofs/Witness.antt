@@ -14,9 +14,9 @@ use Rattle.mn_ledger.specs.Ledger.{start, no_packets}
 use Rattle.mn_ledger.specs.Places.{edges}
 use Rattle.mn_ledger.specs.declared.refused.Refused.TheVariants.{Unchanged, Empty, TargetsFull, LabelsSpent, NetFull, TooManySteps}
 use Rattle.mn_ledger.specs.Refusal.{first_cause, where_holds, in_flight, unheard_over, unheard_by, is_full, refusal_at}
-use Rattle.mn_timetable.specs.Steps.{pushed}
-use Rattle.mn_transport_model.specs.Steps.{HasTurn}
-use Rattle.mn_transport_model.proofs.Witnesses.{may-be-detached, may-be-attached}
+use Rattle.mn_timetable_laws.specs.Steps.{pushed}
+use Rattle.mn_transport_laws.specs.Steps.{HasTurn}
+use Rattle.mn_transport_laws.proofs.Witnesses.{may-be-detached, may-be-attached}
 
 zeros : (f : ℕ → ℕ) (xs : List ℕ) → ((x : ℕ) → f x ≡ 0) → sum (map f xs) ≡ 0
 zeros f [] h = refl

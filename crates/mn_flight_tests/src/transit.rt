@@ -362,6 +362,5 @@ fn a_packet_with_no_way_out_is_dropped_at_its_edge(rt: HostRuntime) -> Result<()
         node: PE1,
     };
     run.ends(&rt, 0, no_way, &[PE1]);
-    assert!(rt; !run.transit.failed());
     Ok(())
 }

@@ -16,7 +16,7 @@ use Rattle.mn_flight.specs.Earliest.{earliest, goes_before}
 use Rattle.mn_flight.proofs.Members.{IsIn, filter_all, rest_ascends, first_below, contains_of_in, in_of_contains}
 use Rattle.mn_flight.proofs.OnChannels.{Ascends, others, same_gone, less_stays, more_stays, on_it}
 use Rattle.mn_flight.proofs.First.{earliest_is}
-use Rattle.mn_flooding.specs.Flood.{Sent, flies_on, first_on, without_first}
+use Rattle.mn_flood_laws.specs.Flood.{Sent, flies_on, first_on, without_first}
 use Rattle.mn_flood.specs.Queue.{sents_of, way_of, IsInPlace, IsSending}
 
 -- 1. The test of a channel is that of link and direction

@@ -7,8 +7,8 @@ use Rattle.std.proofs.lemmas.List.{map-append, append-nil, take_more, take_all}
 use Rattle.std.proofs.lemmas.List.Elements.{filter-append}
 use Rattle.mn_base.specs.declared.numbers.LinkNo.{LinkNo}
 use Rattle.mn_wiring.specs.Wiring.{Wiring, View, is_up, links_at}
-use Rattle.mn_flooding.specs.Flood.{Advert, Sent, sent_over, others_up, adverts_in}
-use Rattle.mn_flooding.proofs.Sums.{filter_fewer}
+use Rattle.mn_flood_laws.specs.Flood.{Advert, Sent, sent_over, others_up, adverts_in}
+use Rattle.mn_flood_laws.proofs.Sums.{filter_fewer}
 use Rattle.mn_flood.specs.Links.{numbers_of}
 use Rattle.mn_flood.specs.Queue.{Queued, with_sents}
 

@@ -3,9 +3,9 @@ use Rattle.std.proofs.Common.{ℕ, IfOk, Result, Ok, Err, ◌≡◌, ◌+◌, �
 use Rattle.mn_base.specs.Limits.{most_steps}
 use Rattle.mn_wiring.specs.Wiring.{Wiring}
 use Rattle.mn_wiring.specs.declared.links.Dir.{Dir}
-use Rattle.mn_flooding.specs.Flood.{FloodWorld, Sent, changed, heard, first_on}
-use Rattle.mn_flooding.proofs.Changing.{changed_keeps}
-use Rattle.mn_flooding.proofs.Hearing.{heard_keeps}
+use Rattle.mn_flood_laws.specs.Flood.{FloodWorld, Sent, changed, heard, first_on}
+use Rattle.mn_flood_laws.proofs.Changing.{changed_keeps}
+use Rattle.mn_flood_laws.proofs.Hearing.{heard_keeps}
 use Rattle.mn_flood.specs.Links.{IsWired}
 use Rattle.mn_flood.specs.Floods.{IsSound}
 use Rattle.mn_flood.proofs.Worlds.{own_changed, own_heard}

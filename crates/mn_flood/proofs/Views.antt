@@ -6,7 +6,7 @@ use Rattle.std.proofs.lemmas.List.{ext_get_or, get_or-replicate, length-set, len
 use Rattle.std.proofs.lemmas.List.FromFn.{get_or-map-range_with_len, length-map-range_with_len}
 use Rattle.mn_wiring.specs.Wiring.{Wiring}
 use Rattle.mn_linkdb.specs.Changes.{is_odd}
-use Rattle.mn_flooding.specs.Flood.{FloodWorld, is_flooded, flooded}
+use Rattle.mn_flood_laws.specs.Flood.{FloodWorld, is_flooded, flooded}
 
 abbrev once_if : Bool → ℕ
 once_if b = cond b 1 0

@@ -12,8 +12,8 @@ use Rattle.mn_wiring.specs.declared.links.LinkEnds.{LinkEnds}
 use Rattle.mn_wiring.specs.Wiring.{Wiring, link, is_end, links_of, links_at}
 use Rattle.std.proofs.lemmas.List.FromFn.{length-range_with_len}
 use Rattle.mn_base.proofs.Members.{In}
-use Rattle.mn_flooding.proofs.Ends.{node_at}
-use Rattle.mn_flooding.proofs.Sums.{filter_fewer}
+use Rattle.mn_flood_laws.proofs.Ends.{node_at}
+use Rattle.mn_flood_laws.proofs.Sums.{filter_fewer}
 use Rattle.mn_linkdb.specs.Network.{IsLink}
 use Rattle.mn_topo.specs.Network.{Network, wiring_of, nodes_with}
 use Rattle.mn_topo.specs.declared.nodes.Node.{Node}

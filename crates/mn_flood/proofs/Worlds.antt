@@ -3,17 +3,17 @@ use Rattle.std.proofs.Common.{ℕ, zero, suc, ◌≡◌, ◌+◌, ◌<◌, ◌�
 use Rattle.std.proofs.Common.{refl, arith, sym, ◌∙◌, ap, subst, append_assoc, length-set, replicate}
 use Rattle.mn_wiring.specs.Wiring.{Wiring, View, link, receiver, JoinsNodes, EndsDiffer}
 use Rattle.mn_wiring.specs.declared.links.Dir.{Dir}
-use Rattle.mn_flooding.specs.Flood.{Advert, Sent, FloodWorld, has, keep, age, sent_over, others_up, renewal, sends, turned, changed, is_news, spread, taken_in, heard_by, heard, first_on, without_first, first_of}
-use Rattle.mn_flooding.specs.Laws.{IsFlood}
-use Rattle.mn_flooding.proofs.Kept.{here_or_elsewhere, has_kept, has_still, columns_still, rows_still}
-use Rattle.mn_flooding.proofs.Changing.{cells, at_a, at_b}
-use Rattle.mn_flooding.proofs.Sending.{first_flies}
-use Rattle.mn_flooding.proofs.Ends.{receiver_within}
+use Rattle.mn_flood_laws.specs.Flood.{Advert, Sent, FloodWorld, has, keep, age, sent_over, others_up, renewal, sends, turned, changed, is_news, spread, taken_in, heard_by, heard, first_on, without_first, first_of}
+use Rattle.mn_flood_laws.specs.Laws.{IsFlood}
+use Rattle.mn_flood_laws.proofs.Kept.{here_or_elsewhere, has_kept, has_still, columns_still, rows_still}
+use Rattle.mn_flood_laws.proofs.Changing.{cells, at_a, at_b}
+use Rattle.mn_flood_laws.proofs.Sending.{first_flies}
+use Rattle.mn_flood_laws.proofs.Ends.{receiver_within}
 use Rattle.mn_base.proofs.Members.{contained_in}
 use Rattle.std.specs.List.{range_with_len}
 use Rattle.std.proofs.lemmas.List.FromFn.{get_or-map-range_with_len, length-map-range_with_len}
 use Rattle.mn_wiring.specs.Wiring.{links_of}
-use Rattle.mn_flooding.specs.Flood.{start}
+use Rattle.mn_flood_laws.specs.Flood.{start}
 use Rattle.mn_flood.specs.Queue.{Queued}
 use Rattle.mn_flood.specs.World.{IsShaped, joined}
 

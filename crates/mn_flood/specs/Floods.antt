@@ -1,9 +1,9 @@
 -- A flood, as contracts see it.
 use Rattle.std.specs.Prelude.{◌≡◌, ◌<◌, ◌≤◌, ℕ, ◌+◌, ◌*◌, Bool, false, cond, length, Option, Some, option_map}
 use Rattle.mn_wiring.specs.Wiring.{Wiring}
-use Rattle.mn_flooding.specs.Flood.{FloodWorld, FloodEvent, has, age, start, flood_after}
-use Rattle.mn_flooding.specs.Course.{FloodRefused, flood_refusal, Unchanged, FloodFull, Empty}
-use Rattle.mn_flooding.specs.Laws.{IsFlood}
+use Rattle.mn_flood_laws.specs.Flood.{FloodWorld, FloodEvent, has, age, start, flood_after}
+use Rattle.mn_flood_laws.specs.Course.{FloodRefused, flood_refusal, Unchanged, FloodFull, Empty}
+use Rattle.mn_flood_laws.specs.Laws.{IsFlood}
 use Rattle.mn_flood.specs.declared.refusal.FloodBad.{FloodBad}
 use Rattle.mn_flood.specs.declared.refusal.FloodBad.TheVariants as bad
 

@@ -7,7 +7,7 @@ use Rattle.mn_wiring.specs.declared.links.Dir.{Dir}
 use Rattle.mn_wiring.specs.Wiring.{channel}
 use Rattle.mn_flight.specs.declared.Item.{Item}
 use Rattle.mn_flight.specs.Flying.{IsFlight}
-use Rattle.mn_flooding.specs.Flood.{Sent}
+use Rattle.mn_flood_laws.specs.Flood.{Sent}
 
 -- over so many links, the adverts that fly, and how many were sent so far
 pub record Queued : Type 0 where

@@ -1,7 +1,7 @@
 -- All nodes' databases and what flies, as contracts see them.
 use Rattle.std.specs.Prelude.{◌≡◌, ◌<◌, ℕ, Bool, List, [], length, slice_index_or, Option}
 use Rattle.mn_wiring.specs.Wiring.{Wiring}
-use Rattle.mn_flooding.specs.Flood.{Advert, FloodWorld}
+use Rattle.mn_flood_laws.specs.Flood.{Advert, FloodWorld}
 use Rattle.mn_flood.specs.Queue.{Queued}
 
 pub record WorldNow : Type 0 where

@@ -17,7 +17,7 @@ pub(crate) struct Advert {
 }
 
 impl Model for Advert {
-    ghost use Rattle.mn_flooding.specs.Flood.{Advert as Value_};
+    ghost use Rattle.mn_flood_laws.specs.Flood.{Advert as Value_};
     ghost use Rattle.mn_flood.specs.Links.{numbers_of};
 
     ghost Value = { Value_ };
@@ -34,7 +34,7 @@ pub(crate) struct Sent {
 }
 
 impl Model for Sent {
-    ghost use Rattle.mn_flooding.specs.Flood.{Sent as Value_};
+    ghost use Rattle.mn_flood_laws.specs.Flood.{Sent as Value_};
 
     ghost Value = { Value_ };
 

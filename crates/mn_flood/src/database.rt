@@ -1,7 +1,7 @@
 //! What one node has of each origin.
 ghost use Rattle.std.specs.Prelude.{◌≡◌, ◌<◌, ◌≤◌, ◌^◌, length, map, slice_index_or, slice_set, None, Some, IfOk};
 ghost use Rattle.std.specs.List.{range_with_len};
-ghost use Rattle.mn_flooding.specs.Flood.{age, first_of, is_news, lists};
+ghost use Rattle.mn_flood_laws.specs.Flood.{age, first_of, is_news, lists};
 
 use crate::advert::Advert;
 use mn_base::{LinkNo, ListOf, NodeNo};
@@ -16,7 +16,7 @@ pub(crate) struct Database {
 
 impl Model for Database {
     ghost use Rattle.std.specs.Prelude.{List, Option};
-    ghost use Rattle.mn_flooding.specs.Flood.{Advert as Value_};
+    ghost use Rattle.mn_flood_laws.specs.Flood.{Advert as Value_};
 
     ghost Value = { List (Option Value_) };
 

@@ -3,8 +3,8 @@ ghost use Rattle.std.specs.Prelude.{◌≡◌, ◌<◌, ◌≤◌, length, slice
 ghost use Rattle.mn_base.specs.Limits.{most_steps};
 ghost use Rattle.mn_topo.specs.Network.{wiring_of};
 ghost use Rattle.mn_linkdb.specs.Trees.{IsTree};
-ghost use Rattle.mn_flooding.specs.Flood.{FloodEvent, Change, Hear, flooded, is_flooded};
-ghost use Rattle.mn_flooding.specs.Laws.{IsFlood};
+ghost use Rattle.mn_flood_laws.specs.Flood.{FloodEvent, Change, Hear, flooded, is_flooded};
+ghost use Rattle.mn_flood_laws.specs.Laws.{IsFlood};
 ghost use Rattle.mn_flood.specs.Queue.{way_of};
 ghost use Rattle.mn_flood.specs.Floods.{FloodNow, first_flood, happened, refusal_of};
 

@@ -2,7 +2,7 @@
 ghost use Rattle.std.specs.Prelude.{◌≡◌, ◌<◌, ◌≤◌, ◌++◌, ◌∷◌, [], All, length, map, replicate, slice_set, slice_index_or, IfOk, OnOk};
 ghost use Rattle.mn_wiring.specs.Wiring.{links_at, receiver};
 ghost use Rattle.mn_topo.specs.Network.{wiring_of};
-ghost use Rattle.mn_flooding.specs.Flood.{away};
+ghost use Rattle.mn_flood_laws.specs.Flood.{away};
 ghost use Rattle.mn_flood.specs.Links.{numbers_of, AreLinks, IsWired};
 
 use mn_base::{LinkNo, ListOf, NodeNo};

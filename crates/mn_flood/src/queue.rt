@@ -1,6 +1,6 @@
 //! The adverts that fly, in the order of sending.
 ghost use Rattle.std.specs.Prelude.{◌≡◌, ◌<◌, ◌≤◌, ◌^◌, ◌==◌, not, ◌∷◌, [], filter, length, slice_get, option_map, IfOk, OnOk, OnErr};
-ghost use Rattle.mn_flooding.specs.Flood.{first_on, without_first};
+ghost use Rattle.mn_flood_laws.specs.Flood.{first_on, without_first};
 ghost use Rattle.mn_flood.specs.Queue.{with_sents, way_of};
 
 use crate::advert::Sent;

@@ -1,6 +1,6 @@
 //! An advert sent over links of a node, and a database over one.
 ghost use Rattle.std.specs.Prelude.{◌≡◌, ◌<◌, ◌≤◌, ◌+◌, ◌^◌, ◌∷◌, [], map, length, OnOk, OnErr};
-ghost use Rattle.mn_flooding.specs.Flood.{sent_over, others_up, adverts_in};
+ghost use Rattle.mn_flood_laws.specs.Flood.{sent_over, others_up, adverts_in};
 ghost use Rattle.mn_flood.specs.Queue.{with_sents};
 
 use crate::advert::{Advert, Sent};

@@ -1,7 +1,7 @@
 //! The links that a node takes for up, as a view that trees are made of.
 ghost use Rattle.std.specs.Prelude.{◌≡◌, ◌<◌, length, replicate, slice_index, slice_set, IfOk};
 ghost use Rattle.mn_linkdb.specs.Learned.{links_up, IsOf};
-ghost use Rattle.mn_flooding.specs.Flood.{flooded};
+ghost use Rattle.mn_flood_laws.specs.Flood.{flooded};
 
 use crate::world::World;
 use mn_base::{LinkNo, NodeNo};

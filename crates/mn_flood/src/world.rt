@@ -3,7 +3,7 @@ ghost use Rattle.std.specs.Prelude.{◌≡◌, ◌<◌, ◌≤◌, ◌+◌, ◌^
 ghost use Rattle.std.specs.List.{range_with_len};
 ghost use Rattle.mn_topo.specs.Network.{wiring_of};
 ghost use Rattle.mn_wiring.specs.Wiring.{is_up, receiver};
-ghost use Rattle.mn_flooding.specs.Flood.{has, age, keep, first_of, up_at, turned, renewal, sends, changed, first_on, without_first, taken_in, start, is_flooded};
+ghost use Rattle.mn_flood_laws.specs.Flood.{has, age, keep, first_of, up_at, turned, renewal, sends, changed, first_on, without_first, taken_in, start, is_flooded};
 ghost use Rattle.mn_flood.specs.Links.{numbers_of, IsWired};
 ghost use Rattle.mn_flood.specs.Queue.{way_of};
 ghost use Rattle.mn_flood.specs.World.{IsShaped};

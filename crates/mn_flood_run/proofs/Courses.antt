@@ -12,10 +12,10 @@ use Rattle.mn_wiring.specs.declared.links.Dir.TheVariants.{Forth, Back}
 use Rattle.mn_wiring.specs.Wiring.{Wiring}
 use Rattle.mn_topo.specs.Network.{Network, wiring_of}
 use Rattle.std.specs.declared.alloc.AllocError.{AllocError}
-use Rattle.mn_flooding.specs.Laws.{IsFlood}
-use Rattle.mn_flooding.specs.Flood.{FloodWorld, FloodEvent, Sent, Hear, flies_on, first_on, flood_after}
-use Rattle.mn_flooding.specs.Course.{FloodRefused, FloodRun, RefusedLine, flood_refusal, stepped, tried, unless_stopped, drained_by, drain_for, every_hearing, with_line, run_from}
-use Rattle.mn_flooding.specs.Course as course
+use Rattle.mn_flood_laws.specs.Laws.{IsFlood}
+use Rattle.mn_flood_laws.specs.Flood.{FloodWorld, FloodEvent, Sent, Hear, flies_on, first_on, flood_after}
+use Rattle.mn_flood_laws.specs.Course.{FloodRefused, FloodRun, RefusedLine, flood_refusal, stepped, tried, unless_stopped, drained_by, drain_for, every_hearing, with_line, run_from}
+use Rattle.mn_flood_laws.specs.Course as course
 use Rattle.mn_flood.specs.declared.refusal.FloodBad.{FloodBad}
 use Rattle.mn_flood.specs.declared.refusal.FloodBad.TheVariants as bad
 use Rattle.mn_flood.specs.Queue.{way_of}

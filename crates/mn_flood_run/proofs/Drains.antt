@@ -9,13 +9,13 @@ use Rattle.mn_base.proofs.Members.{In, contained_in}
 use Rattle.mn_base.specs.Limits.{most_steps}
 use Rattle.mn_wiring.specs.Wiring.{Wiring, JoinsNodes, EndsDiffer}
 use Rattle.mn_topo.specs.Network.{Network, wiring_of}
-use Rattle.mn_flooding.specs.Flood.{FloodWorld, FloodEvent, Hear, Sent, flood_after, heard}
-use Rattle.mn_flooding.specs.Laws.{IsFlood, is_of}
-use Rattle.mn_flooding.specs.Drain.{hear_first, drained, drain_bound}
-use Rattle.mn_flooding.specs.Course.{FloodRefused, FloodRun, flood_refusal, stepped, tried, unless_stopped, drained_by, drain_for, every_hearing, with_line, run_from, first_run}
-use Rattle.mn_flooding.specs.Course as course
-use Rattle.mn_flooding.proofs.Start.{start_is, from_any}
-use Rattle.mn_flooding.proofs.Draining.{drain_ends}
+use Rattle.mn_flood_laws.specs.Flood.{FloodWorld, FloodEvent, Hear, Sent, flood_after, heard}
+use Rattle.mn_flood_laws.specs.Laws.{IsFlood, is_of}
+use Rattle.mn_flood_laws.specs.Drain.{hear_first, drained, drain_bound}
+use Rattle.mn_flood_laws.specs.Course.{FloodRefused, FloodRun, flood_refusal, stepped, tried, unless_stopped, drained_by, drain_for, every_hearing, with_line, run_from, first_run}
+use Rattle.mn_flood_laws.specs.Course as course
+use Rattle.mn_flood_laws.proofs.Start.{start_is, from_any}
+use Rattle.mn_flood_laws.proofs.Draining.{drain_ends}
 use Rattle.mn_flood_run.specs.declared.command.FloodCommand.{FloodCommand}
 use Rattle.mn_flood_run.specs.declared.command.FloodCommand.TheVariants as command
 use Rattle.mn_flood_run.specs.declared.command.FloodLine.{FloodLine}

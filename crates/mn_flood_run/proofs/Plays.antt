@@ -1,5 +1,5 @@
 -- What stands on the page as lines are played.
-use Rattle.std.proofs.Common.{ℕ, zero, suc, ◌≡◌, ◌+◌, ◌<◌, ◌≤◌, false, cond, List, [], ◌∷◌, ◌++◌, length, take, drop, get_or, Result, Ok, Err, IsErr}
+use Rattle.std.proofs.Common.{ℕ, zero, suc, ◌≡◌, ◌+◌, ◌<◌, ◌≤◌, false, cond, List, [], ◌∷◌, ◌++◌, length, take, drop, get_or, Option, Result, Ok, Err, IsErr}
 use Rattle.std.proofs.Common.{refl, arith, sym, ◌∙◌, ap, subst, append_assoc, append-nil, length-append}
 use Rattle.std.specs.Prelude.{codes}
 use Rattle.std.specs.Result.{IsErrAnd}
@@ -10,8 +10,8 @@ use Rattle.mn_edge.specs.declared.device.DeviceBad.TheVariants.{Failed, NoMemory
 use Rattle.mn_edge.specs.Faults.{Counted}
 use Rattle.mn_wiring.specs.Wiring.{Wiring}
 use Rattle.mn_topo.specs.Network.{Network, wiring_of}
-use Rattle.mn_flooding.specs.Flood.{FloodWorld}
-use Rattle.mn_flooding.specs.Course.{FloodRefused, Unchanged, FloodFull, Empty, FloodRun, RefusedLine, with_line}
+use Rattle.mn_flood_laws.specs.Flood.{FloodWorld}
+use Rattle.mn_flood_laws.specs.Course.{FloodRefused, Unchanged, FloodFull, Empty, FloodRun, RefusedLine, with_line}
 use Rattle.mn_flood.specs.declared.refusal.FloodBad.{FloodBad}
 use Rattle.mn_flood.specs.Floods.{FloodNow, bad_of}
 use Rattle.mn_lines.specs.Lines.{refused_line}
@@ -28,7 +28,7 @@ use Rattle.mn_flood_run.proofs.Courses.{lines_refuse, course_at, course_all, cou
 
 -- 1. What a call answers, by another type of its value
 
-counted_of : (T : Type 0) (before now : ℕ) (e : DeviceBad) → Counted {T = Unit {0}} before now (Err e) → Counted {T = T} before now (Err e)
+counted_of : (T : Type 0) (before now : Option ℕ) (e : DeviceBad) → Counted {T = Unit {0}} before now (Err e) → Counted {T = T} before now (Err e)
 counted_of T before now Failed h = h
 counted_of T before now NoMemory h = h
 
@@ -44,7 +44,7 @@ tells_ok a s t x this = record { put = this.puts; part = tt; cause = this.faults
 pub told_of : {T : Type 0} (a : List ℕ) (s t : Stand) (x : T) → Tells {T = T} a s t (Ok x) → Told a s t
 told_of a s t x this = record { puts = this.put; faults = this.cause }
 
-back_of : (T : Type 0) (before now : ℕ) (e : DeviceBad) → Counted {T = T} before now (Err e) → Counted {T = Unit {0}} before now (Err e)
+back_of : (T : Type 0) (before now : Option ℕ) (e : DeviceBad) → Counted {T = T} before now (Err e) → Counted {T = Unit {0}} before now (Err e)
 back_of T before now Failed h = h
 back_of T before now NoMemory h = h
 

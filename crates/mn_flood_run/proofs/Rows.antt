@@ -5,7 +5,7 @@ use Rattle.std.specs.List.{flat_map}
 use Rattle.mn_wiring.specs.Wiring.{View, nodes_of}
 use Rattle.mn_topo.specs.Network.{Network, wiring_of}
 use Rattle.mn_lines.specs.Lines.{text, refused_line}
-use Rattle.mn_output.specs.Tables.{tree_line}
+use Rattle.mn_output_laws.specs.Tables.{tree_line}
 use Rattle.mn_tables.proofs.Telling.{flat_filter}
 use Rattle.mn_flood_run.specs.Report.{tree_text, total_line}
 use Rattle.mn_flood_run.specs.Playing.{walk_row}

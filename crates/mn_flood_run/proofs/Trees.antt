@@ -10,11 +10,11 @@ use Rattle.mn_linkdb.specs.PathTable.{PathTable, dist_at, next_at}
 use Rattle.mn_linkdb.specs.Trees.{IsTree, hop_alone, computed_tree}
 use Rattle.mn_lines.specs.Lines.{text}
 use Rattle.mn_topo.specs.Network.{Network, wiring_of}
-use Rattle.mn_flooding.specs.Flood.{FloodWorld, flooded}
-use Rattle.mn_flooding.specs.Laws.{IsFlood}
-use Rattle.mn_flooding.proofs.Quiet.{trees}
-use Rattle.mn_output.specs.Tables.{tree_line, walk_text}
-use Rattle.mn_output.specs.Files.{node_name}
+use Rattle.mn_flood_laws.specs.Flood.{FloodWorld, flooded}
+use Rattle.mn_flood_laws.specs.Laws.{IsFlood}
+use Rattle.mn_flood_laws.proofs.Quiet.{trees}
+use Rattle.mn_output_laws.specs.Tables.{tree_line, walk_text}
+use Rattle.mn_output_laws.specs.Files.{node_name}
 use Rattle.mn_flood_run.specs.Report.{tree_text, trees_text, settled_text}
 
 -- what the calls of the laws tell: each root has the tree that is computed, and the entries of a tree are the computed ones

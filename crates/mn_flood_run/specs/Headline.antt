@@ -4,7 +4,7 @@ use Rattle.mn_edge.specs.Files.{Files, file}
 use Rattle.mn_topo.specs.Network.{Network}
 use Rattle.mn_topo_toml.specs.Topology.{topology_of}
 use Rattle.mn_script.specs.Reading.{lines_of}
-use Rattle.mn_flooding.specs.Course.{FloodRun}
+use Rattle.mn_flood_laws.specs.Course.{FloodRun}
 use Rattle.mn_answer.specs.declared.outcome.Outcome.{Outcome}
 use Rattle.mn_answer.specs.declared.outcome.Outcome.TheVariants.{Done}
 use Rattle.mn_flood_run.specs.declared.command.FloodLine.{FloodLine}

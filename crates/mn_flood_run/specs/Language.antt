@@ -7,8 +7,8 @@ use Rattle.mn_script.specs.Rules.{◌>>=◌}
 use Rattle.mn_script.specs.Words.{word_at, is_word, choice, counted}
 use Rattle.mn_script.specs.Operands.{link_in}
 use Rattle.mn_script.specs.Reading.{Says}
-use Rattle.mn_flooding.specs.Course as course
-use Rattle.mn_flooding.specs.Flood as event
+use Rattle.mn_flood_laws.specs.Course as course
+use Rattle.mn_flood_laws.specs.Flood as event
 use Rattle.mn_flood_run.specs.declared.command.FloodCommand.{FloodCommand}
 use Rattle.mn_flood_run.specs.declared.command.FloodCommand.TheVariants as command
 use Rattle.mn_flood_run.specs.declared.command.FloodLine.{FloodLine}

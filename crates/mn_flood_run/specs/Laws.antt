@@ -1,8 +1,8 @@
 -- What holds of each script, whatever its lines.
 use Rattle.std.specs.Prelude.{◌≡◌, ◌≤◌, ◌+◌, true, false, All, List, [], ◌∷◌, ◌++◌}
 use Rattle.mn_topo.specs.Network.{Network, wiring_of}
-use Rattle.mn_flooding.specs.Drain.{drain_bound}
-use Rattle.mn_flooding.specs.Course.{FloodRun}
+use Rattle.mn_flood_laws.specs.Drain.{drain_bound}
+use Rattle.mn_flood_laws.specs.Course.{FloodRun}
 use Rattle.mn_flood_run.specs.declared.command.FloodLine.{FloodLine}
 use Rattle.mn_flood_run.specs.declared.command.FloodCommand.TheVariants.{Drain}
 use Rattle.mn_flood_run.specs.Language.{command_fits}

@@ -5,12 +5,12 @@ use Rattle.mn_base.specs.Limits.{most_steps}
 use Rattle.mn_edge.specs.declared.device.DeviceBad.{DeviceBad}
 use Rattle.mn_wiring.specs.Wiring.{View}
 use Rattle.mn_topo.specs.Network.{Network}
-use Rattle.mn_flooding.specs.Course.{FloodRefused, FloodRun}
+use Rattle.mn_flood_laws.specs.Course.{FloodRefused, FloodRun}
 use Rattle.mn_flood.specs.declared.refusal.FloodBad.{FloodBad}
 use Rattle.mn_flood.specs.declared.refusal.FloodBad.TheVariants as bad
 use Rattle.mn_flood.specs.Floods.{FloodNow, bad_of}
 use Rattle.mn_lines.specs.Lines.{refused_line}
-use Rattle.mn_output.specs.Tables.{tree_line}
+use Rattle.mn_output_laws.specs.Tables.{tree_line}
 use Rattle.mn_tables.specs.Telling.{Stand, Tells, Told}
 use Rattle.mn_flood_run.specs.declared.command.FloodLine.{FloodLine}
 use Rattle.mn_flood_run.specs.declared.play.Ended.{Ended}

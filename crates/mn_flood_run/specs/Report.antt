@@ -4,10 +4,10 @@ use Rattle.std.specs.List.{flat_map}
 use Rattle.std.specs.Fmt.{decimal}
 use Rattle.mn_wiring.specs.Wiring.{View, nodes_of}
 use Rattle.mn_topo.specs.Network.{Network, wiring_of}
-use Rattle.mn_flooding.specs.Flood.{FloodWorld, flooded}
-use Rattle.mn_flooding.specs.Course.{FloodRefused, Unchanged, FloodFull, Empty, RefusedLine, FloodRun, run_of}
+use Rattle.mn_flood_laws.specs.Flood.{FloodWorld, flooded}
+use Rattle.mn_flood_laws.specs.Course.{FloodRefused, Unchanged, FloodFull, Empty, RefusedLine, FloodRun, run_of}
 use Rattle.mn_lines.specs.Lines.{text, refused_line}
-use Rattle.mn_output.specs.Tables.{tree_line}
+use Rattle.mn_output_laws.specs.Tables.{tree_line}
 use Rattle.mn_flood_run.specs.declared.command.FloodLine.{FloodLine}
 use Rattle.mn_flood_run.specs.Language.{orders_of}
 

@@ -5,7 +5,7 @@ ghost use Rattle.mn_base.specs.Limits.{most_script_lines};
 ghost use Rattle.mn_edge.specs.Faults.{Counted};
 ghost use Rattle.mn_lines.specs.Putting.{PartPut};
 ghost use Rattle.mn_tables.specs.Telling.{standing, Tells};
-ghost use Rattle.mn_answer.specs.Endings.{OutcomeIs, TextIs, CausedBy, Answers};
+ghost use Rattle.mn_answer.specs.Endings.{OutcomeIs, TextIs, CausedBy, SinkCausedBy, HasNone, Answers};
 ghost use Rattle.mn_flood_run.specs.Report.{report, course_of};
 ghost use Rattle.mn_flood_run.specs.Laws.{AllFit};
 ghost use Rattle.mn_flood_run.specs.Headline.{IsScriptTold, IsFloodTold};
@@ -87,7 +87,7 @@ fn flood_lines<O: Sink>(
     requires few { length lines.now ≤ most_script_lines }
     ensures outcome { OutcomeIs (Some (flood_done topology.now lines.now)) result }
     ensures text { ForSome (O.written out.old) (λ before. TextIs (Some (flood_done topology.now lines.now)) before (O.written out.new) result) }
-    ensures cause { CausedBy (0, 0, O.faults out.old) (0, 0, O.faults out.new) result }
+    ensures cause { SinkCausedBy (O.faults out.old) (O.faults out.new) result }
     ensures usage { result ≢ Outcome.Usage }
 {
     match put_all(alloc, topology, lines, out) {
@@ -109,7 +109,8 @@ fn flood_script<S: Shelf, O: Sink>(
     ensures told { ForSome (S.files shelf.old) (λ files. ForSome (O.written out.old) (λ before.
         IsScriptTold topology.now script.now files before (O.written out.new) result)) }
     ensures same { S.files shelf.new ≡ S.files shelf.old }
-    ensures cause { CausedBy (S.read_faults shelf.old, S.write_faults shelf.old, O.faults out.old)
+    ensures cause { CausedBy (HasNone (λ files. flood_over files script.now topology.now) (S.files shelf.old))
+        (S.read_faults shelf.old, S.write_faults shelf.old, O.faults out.old)
         (S.read_faults shelf.new, S.write_faults shelf.new, O.faults out.new) result }
     ensures usage { result ≢ Outcome.Usage }
 {
@@ -141,8 +142,10 @@ pub fn flood<S: Shelf, O: Sink>(
         IsFloodTold topology.now script.now files before (O.written out.new) result)) }
     // No file changes.
     ensures same { S.files shelf.new ≡ S.files shelf.old }
-    // A fault comes only where its count rose; every other count is as before.
-    ensures cause { CausedBy (S.read_faults shelf.old, S.write_faults shelf.old, O.faults out.old)
+    // A fault comes only where its count rose, or a read's over a sound shelf where an input isn't there; every other count is as
+    // before.
+    ensures cause { CausedBy (HasNone (flood_answer topology.now script.now) (S.files shelf.old))
+        (S.read_faults shelf.old, S.write_faults shelf.old, O.faults out.old)
         (S.read_faults shelf.new, S.write_faults shelf.new, O.faults out.new) result }
     ensures usage { result ≢ Outcome.Usage }
 {

@@ -8,11 +8,11 @@ use Rattle.mn_base.specs.declared.numbers.LinkNo.{LinkNo}
 use Rattle.mn_drops.specs.declared.drops.Rule.{Rule}
 use Rattle.mn_wiring.specs.declared.links.Dir.{Dir}
 use Rattle.mn_ledger.specs.declared.verdict.Verdict.TheVariants.{Delivered, Dropped, Flying}
-use Rattle.mn_course.specs.Expansion.{SentLine}
+use Rattle.mn_course_laws.specs.Expansion.{SentLine}
 use Rattle.mn_lines.specs.Names.{NameLists, name_at, ends_at, sender_of, hearer_of}
 use Rattle.mn_lines.specs.Lines.{text, rule_name}
-use Rattle.mn_legs.specs.declared.leg.Leg.{Leg}
-use Rattle.mn_legs.specs.Pairing.{Pairing, network, Both, side}
+use Rattle.mn_leg_laws.specs.declared.leg.Leg.{Leg}
+use Rattle.mn_leg_laws.specs.Pairing.{Pairing, network, Both, side}
 use Rattle.mn_join_report.specs.declared.ends.Totals.{Totals}
 use Rattle.mn_join_report.specs.Report.{number_text, sites_of, leg_text, verdict_text, sent_text, total_line}
 
@@ -28,7 +28,7 @@ unfolding sent_text
 sent_row number sending a b d is_a is_b is_d = rw (is_a, is_b, is_d) refl
 
 pub delivered_row : (names : NameLists) (site : SiteNo) (ttl copy : ℕ) (a b : List ℕ) → a ≡ name_at names.sites site.0 → b ≡ decimal ttl →
-    text (codes "delivered " ∷ a ∷ codes " ttl " ∷ b ∷ codes "\n" ∷ []) ≡ verdict_text names (Delivered site ttl copy)
+    text (codes "delivered " ∷ a ∷ codes " ttl " ∷ b ∷ codes "\n" ∷ []) ≡ verdict_text names (Delivered ttl site copy)
 unfolding verdict_text
 delivered_row names site ttl copy a b is_a is_b = rw (is_a, is_b) refl
 

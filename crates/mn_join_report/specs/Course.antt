@@ -4,13 +4,13 @@ use Rattle.mn_topo.specs.declared.steps.Step.TheVariants.{Inject}
 use Rattle.mn_script.specs.declared.command.Command.{Command}
 use Rattle.mn_script.specs.declared.command.Command.TheVariants.{Do, Damage}
 use Rattle.mn_entry.specs.Damages.{number_of}
-use Rattle.mn_course.specs.declared.coming.Ending.{Ending}
-use Rattle.mn_course.specs.declared.coming.Ending.TheVariants as ending
-use Rattle.mn_course.specs.Course.{record_of}
-use Rattle.mn_course.specs.Expansion.{SentLine, sending_by}
+use Rattle.mn_course_laws.specs.declared.coming.Ending.{Ending}
+use Rattle.mn_course_laws.specs.declared.coming.Ending.TheVariants as ending
+use Rattle.mn_course_laws.specs.Course.{record_of}
+use Rattle.mn_course_laws.specs.Expansion.{SentLine, sending_by}
 use Rattle.mn_lines.specs.Lines.{cause_text}
-use Rattle.mn_legs.specs.Pairing.{Pairing, network, Both, at_first}
-use Rattle.mn_legs.specs.Course.{Exit, PairCourse, played}
+use Rattle.mn_leg_laws.specs.Pairing.{Pairing, network, Both, at_first}
+use Rattle.mn_leg_laws.specs.Course.{Exit, PairCourse, played}
 use Rattle.mn_join_script.specs.declared.line.JoinLine.{JoinLine}
 
 -- a line that was refused, and the cause as it is told

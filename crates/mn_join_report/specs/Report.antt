@@ -11,14 +11,14 @@ use Rattle.mn_ledger.specs.declared.refused.Refused.{Refused}
 use Rattle.mn_ledger.specs.declared.verdict.Verdict.{Verdict}
 use Rattle.mn_ledger.specs.declared.verdict.Verdict.TheVariants.{Delivered, Dropped, Flying}
 use Rattle.mn_ledger.specs.Verdicts.{verdict_on}
-use Rattle.mn_course.specs.Expansion.{SentLine}
+use Rattle.mn_course_laws.specs.Expansion.{SentLine}
 use Rattle.mn_lines.specs.Names.{NameLists, names_of, name_at, ends_at, sender_of, hearer_of}
 use Rattle.mn_lines.specs.Lines.{text, rule_name, cause_name, refused_line}
-use Rattle.mn_legs.specs.declared.leg.Which.{Which}
-use Rattle.mn_legs.specs.declared.leg.Which.TheVariants.{First, Second}
-use Rattle.mn_legs.specs.declared.leg.Leg.{Leg}
-use Rattle.mn_legs.specs.Pairing.{Pairing, network, Both, side, packets_in, Travel, travel}
-use Rattle.mn_legs.specs.Course.{Exit}
+use Rattle.mn_leg_laws.specs.declared.leg.Which.{Which}
+use Rattle.mn_leg_laws.specs.declared.leg.Which.TheVariants.{First, Second}
+use Rattle.mn_leg_laws.specs.declared.leg.Leg.{Leg}
+use Rattle.mn_leg_laws.specs.Pairing.{Pairing, network, Both, side, packets_in, Travel, travel}
+use Rattle.mn_leg_laws.specs.Course.{Exit}
 use Rattle.mn_join_report.specs.declared.ends.End.{End}
 use Rattle.mn_join_report.specs.declared.ends.End.TheVariants as end
 use Rattle.mn_join_report.specs.declared.ends.Totals.{Totals}
@@ -59,7 +59,7 @@ leg_text pairing both leg =
     ∷ name_at (network pairing leg.which).site_names (slice_index_or (sites_of (side both leg.which).past.entries) leg.packet (record { 0 = 0 })).0 ∷ [])
 
 unfoldable pub verdict_text : NameLists → Verdict → List ℕ
-verdict_text names (Delivered site ttl copy) = text (codes "delivered " ∷ name_at names.sites site.0 ∷ codes " ttl " ∷ decimal ttl ∷ codes "\n" ∷ [])
+verdict_text names (Delivered ttl site copy) = text (codes "delivered " ∷ name_at names.sites site.0 ∷ codes " ttl " ∷ decimal ttl ∷ codes "\n" ∷ [])
 verdict_text names (Dropped rule node) = text (codes "dropped " ∷ rule_name rule ∷ codes " at " ∷ name_at names.nodes node.0 ∷ codes "\n" ∷ [])
 verdict_text names (Flying link dir) =
     let ends = ends_at names.links link.0 in
@@ -91,7 +91,7 @@ packets_text pairing run = flat_map (packet_row pairing run) (range_with_len 0 (
 -- 3. The total
 
 abbrev pub is_delivered : End → Bool
-is_delivered (end.Judged which (Delivered site ttl copy)) = true
+is_delivered (end.Judged which (Delivered ttl site copy)) = true
 is_delivered other = false
 
 abbrev pub is_dropped : End → Bool

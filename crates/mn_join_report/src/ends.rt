@@ -2,15 +2,15 @@
 ghost use Rattle.std.specs.Prelude.{◌≡◌, ◌<◌, false, ◌++◌, ◌∷◌, [], ℕ, List, length};
 ghost use Rattle.mn_ledger.specs.Ledger.{packets_of};
 ghost use Rattle.mn_ledger.specs.Verdicts.{verdict_on};
-ghost use Rattle.mn_legs.specs.Pairing.{Pairing, Both, travel, packets_in};
-ghost use Rattle.mn_net_now.specs.Now.{StandsFor};
+ghost use Rattle.mn_leg_laws.specs.Pairing.{Pairing, Both, travel, packets_in};
+ghost use Rattle.mn_net_laws.specs.Now.{StandsFor};
 ghost use Rattle.mn_option_a.specs.Pairs.{PairStands};
 ghost use Rattle.mn_join_report.specs.Reading.{IsJoined, CountSome};
 ghost use Rattle.mn_join_report.specs.Report.{last_leg, end_of, ends_of, totals_of};
 
 use mn_base::SiteNo;
 use mn_ledger::{Refused, Verdict};
-use mn_legs::{Leg, Which};
+use mn_leg_laws::{Leg, Which};
 use mn_option_a::{Net, Pair};
 
 /// The end of a packet.

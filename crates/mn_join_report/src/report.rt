@@ -1,7 +1,7 @@
 //! The lines of the report, put on a page.
 ghost use Rattle.std.specs.Prelude.{◌≡◌, ◌<◌, ◌+◌, ◌^◌, ℕ, ◌∷◌, [], codes, length, map, slice_index_or};
 ghost use Rattle.std.specs.List.{flat_map};
-ghost use Rattle.mn_legs.specs.Pairing.{Pairing, Both, travel, network};
+ghost use Rattle.mn_leg_laws.specs.Pairing.{Pairing, Both, travel, network};
 ghost use Rattle.mn_lines.specs.Lines.{text};
 ghost use Rattle.mn_lines.specs.Names.{names_of, name_at, ends_at, pairs_of, sender_of, hearer_of};
 ghost use Rattle.mn_option_a.specs.Pairs.{PairStands, net_of};
@@ -18,7 +18,7 @@ use mn_base::{LinkNo, NodeNo, SiteNo};
 use mn_drops::Rule;
 use mn_edge::{DeviceBad, Sink};
 use mn_ledger::Verdict;
-use mn_legs::{Leg, Which};
+use mn_leg_laws::{Leg, Which};
 use mn_lines::{Page, Sent, cause_name, node_name, rule_name, site_name};
 use mn_option_a::Pair;
 use mn_tables::put_pieces;
@@ -93,7 +93,7 @@ fn put_delivered<O: Sink>(
     site: SiteNo,
     ttl: u8,
 ) -> Result<(), DeviceBad>
-    ensures { (copy : ℕ) → Tells (verdict_text (names_of topology.now) (Verdict.Delivered site ttl copy))
+    ensures { (copy : ℕ) → Tells (verdict_text (names_of topology.now) (Verdict.Delivered ttl site copy))
         (standing page.old (O.written out.old) (O.faults out.old)) (standing page.new (O.written out.new) (O.faults out.new)) result }
 {
     let mut buffer = Buffer::new();

@@ -2,12 +2,12 @@
 use Rattle.std.proofs.Common.{◌≡◌, ℕ, List, [], ◌∷◌, ◌++◌, append-nil, Option, refl, sym, ◌∙◌, ap, subst}
 use Rattle.std.specs.List.{flat_map}
 use Rattle.mn_edge.specs.Files.{Files}
-use Rattle.mn_course.specs.declared.coming.Ending.{Ending}
-use Rattle.mn_course.specs.declared.coming.Ending.TheVariants as ending
+use Rattle.mn_course_laws.specs.declared.coming.Ending.{Ending}
+use Rattle.mn_course_laws.specs.declared.coming.Ending.TheVariants as ending
 use Rattle.mn_lines.specs.Lines.{refused_line}
 use Rattle.mn_lines.specs.Putting.{Puts, PutsPart}
-use Rattle.mn_legs.specs.Pairing.{Pairing}
-use Rattle.mn_legs.specs.Course.{Exit, PairCourse}
+use Rattle.mn_leg_laws.specs.Pairing.{Pairing}
+use Rattle.mn_leg_laws.specs.Course.{Exit, PairCourse}
 use Rattle.mn_join_script.specs.declared.line.JoinLine.{JoinLine}
 use Rattle.mn_join_report.specs.Course.{JoinRun, goes_on, with_refusal, after_course}
 use Rattle.mn_join_report.specs.Report.{refused_texts, exit_record, exits_file}

@@ -9,20 +9,20 @@ use Rattle.mn_ledger.specs.declared.refused.Refused.{Refused}
 use Rattle.mn_ledger.specs.declared.verdict.Verdict.{Verdict}
 use Rattle.mn_ledger.specs.declared.verdict.Verdict.TheVariants.{Delivered}
 use Rattle.mn_ledger.specs.Verdicts.{verdict_on}
-use Rattle.mn_laws.specs.Accounts.{HasArrived, IsFate}
-use Rattle.mn_laws.specs.Deliveries.{Delivery}
-use Rattle.mn_laws.proofs.Accounted.{accounts}
-use Rattle.mn_arrival.proofs.Arriving.{it_arrives}
-use Rattle.mn_arrival.proofs.Resolving.{arrives_where_it_can}
-use Rattle.mn_course.specs.Course.{record_of}
-use Rattle.mn_course.specs.Expansion.{SentLine}
-use Rattle.mn_legs.specs.declared.leg.Leg.{Leg}
-use Rattle.mn_legs.specs.declared.leg.Which.{Which}
-use Rattle.mn_legs.specs.declared.leg.Which.TheVariants.{First}
-use Rattle.mn_legs.specs.Pairing.{Pairing, network, Both, side, packets_in, Travel, travel}
-use Rattle.mn_legs.specs.Crossing.{all_nodes}
-use Rattle.mn_legs.specs.Legs.{SentLeg, leg_of, WasSent, GoOn, passage_of, last_of, ArrivesByItsLegs}
-use Rattle.mn_legs.proofs.Passing.{all_passed, all_lowered}
+use Rattle.mn_ledger_laws.specs.Accounts.{HasArrived, IsFate}
+use Rattle.mn_ledger_laws.specs.Deliveries.{Delivery}
+use Rattle.mn_ledger_laws.proofs.Accounted.{accounts}
+use Rattle.mn_arrival_laws.proofs.Arriving.{it_arrives}
+use Rattle.mn_arrival_laws.proofs.Resolving.{arrives_where_it_can}
+use Rattle.mn_course_laws.specs.Course.{record_of}
+use Rattle.mn_course_laws.specs.Expansion.{SentLine}
+use Rattle.mn_leg_laws.specs.declared.leg.Leg.{Leg}
+use Rattle.mn_leg_laws.specs.declared.leg.Which.{Which}
+use Rattle.mn_leg_laws.specs.declared.leg.Which.TheVariants.{First}
+use Rattle.mn_leg_laws.specs.Pairing.{Pairing, network, Both, side, packets_in, Travel, travel}
+use Rattle.mn_leg_laws.specs.Crossing.{all_nodes}
+use Rattle.mn_leg_laws.specs.Legs.{SentLeg, leg_of, WasSent, GoOn, passage_of, last_of, ArrivesByItsLegs}
+use Rattle.mn_leg_laws.proofs.Passing.{all_passed, all_lowered}
 use Rattle.mn_join_report.specs.declared.ends.End.TheVariants as end
 use Rattle.mn_join_report.specs.Course.{JoinRun, run_of}
 use Rattle.mn_join_report.specs.Report.{no_line, last_leg, end_by, end_of}
@@ -43,11 +43,11 @@ last_is leg (next ∷ legs) =
 
 -- a packet that is told as delivered is so by its last leg
 by_last : (pairing : Pairing) (both : Both) (legs : List Leg) (refused : Option Refused) (which : Which) (site : SiteNo) (ttl copy : ℕ) →
-    end_by pairing both legs refused ≡ end.Judged which (Delivered site ttl copy) →
-    verdict_on (packets_in pairing both (last_leg legs).which) (last_leg legs).packet ≡ Delivered site ttl copy
+    end_by pairing both legs refused ≡ end.Judged which (Delivered ttl site copy) →
+    verdict_on (packets_in pairing both (last_leg legs).which) (last_leg legs).packet ≡ Delivered ttl site copy
 by_last pairing both legs (Some cause) which site ttl copy e = absurd (clash e)
   where
-    clash : end.Refused cause ≡ end.Judged which (Delivered site ttl copy) → ⊥
+    clash : end.Refused cause ≡ end.Judged which (Delivered ttl site copy) → ⊥
     clash e = cc
 by_last pairing both legs None which site ttl copy e = same_verdict e
   where
@@ -101,11 +101,11 @@ module _ (pairing : Pairing) (both : Both) (lawful : (which : Which) → IsLawfu
     the_last : last_leg packet.legs ≡ leg_of last
     the_last = ap last_leg by.has.legs ∙ last_is by.has.first by.has.later
 
-    crosses : (which : Which) (site : SiteNo) (ttl copy : ℕ) → end_of pairing both packet ≡ end.Judged which (Delivered site ttl copy) →
+    crosses : (which : Which) (site : SiteNo) (ttl copy : ℕ) → end_of pairing both packet ≡ end.Judged which (Delivered ttl site copy) →
         HasCrossed pairing both by.has.first.sending.bytes (by.has.first ∷ by.has.later) ttl
     crosses which site ttl copy e =
         let over = by.arrives site ttl copy
-        (subst (λ (leg : Leg). verdict_on (packets_in pairing both leg.which) leg.packet ≡ Delivered site ttl copy) the_last
+        (subst (λ (leg : Leg). verdict_on (packets_in pairing both leg.which) leg.packet ≡ Delivered ttl site copy) the_last
         (by_last pairing both packet.legs packet.refused which site ttl copy e)) in
         let as_sent = all_passed by.has.first.sending.bytes over.0 (passage_of pairing both by.has.first) (map (passage_of pairing both) by.has.later) ttl over.1 in
         record {

@@ -9,7 +9,7 @@ use Rattle.mn_edge.specs.declared.device.DeviceBad.TheVariants.{Failed, NoMemory
 use Rattle.mn_topo.specs.Network.{Network}
 use Rattle.mn_capture.specs.Packets.{CaptureView, packets_in}
 use Rattle.mn_perform.specs.Recorded.{told_packets}
-use Rattle.mn_output.specs.Files.{Deliveries}
+use Rattle.mn_output_laws.specs.Files.{Deliveries}
 use Rattle.mn_lines.specs.Putting.{PutOn, PartPut, Puts, PutsPart}
 use Rattle.mn_lines.proofs.Putting.{begun, ended}
 use Rattle.mn_perform.specs.Shown.{sending_of}
@@ -18,7 +18,7 @@ use Rattle.mn_perform.specs.Fails.{fault_of}
 use Rattle.mn_perform.specs.Inside.{is_inside}
 use Rattle.mn_perform.specs.declared.ended.Ended.{Ended}
 use Rattle.mn_perform.specs.declared.ended.Fault.{Fault}
-use Rattle.mn_legs.specs.Pairing.{Pairing, at_first}
+use Rattle.mn_leg_laws.specs.Pairing.{Pairing, at_first}
 use Rattle.mn_join_report.specs.Pairs.{PairNow, PairStands}
 use Rattle.mn_join_script.specs.declared.line.JoinLine.{JoinLine}
 use Rattle.mn_join_report.specs.Course.{JoinRun, at_start, run_of}

@@ -10,7 +10,7 @@ use Rattle.mn_perform.specs.declared.ended.Ended.TheVariants as how
 use Rattle.mn_perform.specs.declared.ended.Fault.{Fault}
 use Rattle.mn_perform.specs.declared.ended.Fault.TheVariants as fault
 use Rattle.mn_perform.specs.Faults.{Counts, Blamed}
-use Rattle.mn_legs.specs.Pairing.{Pairing}
+use Rattle.mn_leg_laws.specs.Pairing.{Pairing}
 use Rattle.mn_join_report.specs.Course.{JoinRun}
 use Rattle.mn_join_report.specs.Report.{refused_texts, report}
 use Rattle.mn_join_run.specs.Answer.{run_done}
@@ -62,12 +62,12 @@ module _ (folder : List ℕ) (pairing : Pairing) (run : JoinRun) (m : Files) (af
     is_unread = λ text is. unread text result (h.begun m refl) (h.untold text is);
   }
 
-pub blames : (old new : Counts) (result : Result Ended Fault) → Blamed old new result → CausedBy old new (outcome_by result)
-blames old new (Ok how.All) h = h
-blames old new (Ok how.TooManySteps) h = h
-blames old new (Err fault.Read) h = h
-blames old new (Err fault.Write) h = h
-blames old new (Err fault.NoMemory) h = h
+pub blames : (unread : Type 0) (old new : Counts) (result : Result Ended Fault) → Blamed unread ⊥ old new result → CausedBy unread old new (outcome_by result)
+blames unread old new (Ok how.All) h = h
+blames unread old new (Ok how.TooManySteps) h = h
+blames unread old new (Err fault.Read) h = h
+blames unread old new (Err fault.Write) h = h
+blames unread old new (Err fault.NoMemory) h = h
 
 pub no_usage : (result : Result Ended Fault) → outcome_by result ≡ Usage → ⊥
 no_usage (Ok how.All) h = cc

@@ -14,11 +14,11 @@ use Rattle.mn_answer.specs.declared.outcome.Limit.TheVariants.{Steps}
 use Rattle.mn_answer.specs.declared.outcome.Outcome.{Outcome}
 use Rattle.mn_answer.specs.declared.outcome.Outcome.TheVariants.{Done, Usage, ReadFault, WriteFault, NoMemory, BadTopology, BadScript, BadCapture, BadSecond, BadJoints, TooLarge}
 use Rattle.mn_answer.specs.Answer.{Answer, refusal_of}
-use Rattle.mn_answer.specs.Endings.{OutcomeIs, FilesAre, TextIs, CausedBy, Answers}
+use Rattle.mn_answer.specs.Endings.{OutcomeIs, FilesAre, TextIs, SinkCausedBy, Answers}
 use Rattle.mn_answer.proofs.Ending.{sink_answers}
-use Rattle.mn_legs.specs.declared.leg.Which.{Which}
-use Rattle.mn_legs.specs.declared.leg.Which.TheVariants.{First, Second}
-use Rattle.mn_legs.specs.Pairing.{network}
+use Rattle.mn_leg_laws.specs.declared.leg.Which.{Which}
+use Rattle.mn_leg_laws.specs.declared.leg.Which.TheVariants.{First, Second}
+use Rattle.mn_leg_laws.specs.Pairing.{network}
 use Rattle.mn_join_report.specs.Pairs.{pairing_of}
 use Rattle.mn_join_script.specs.declared.line.JoinLine.{JoinLine}
 use Rattle.mn_join_script.specs.Language.{join_says}
@@ -93,9 +93,9 @@ module _ (one two three four capture folder : List ℕ) (m : Files) (before : Li
       not_stopped false h = refl
 
 -- an input that was refused: its line was put, or a first part of it
-pub refused : (a : Option Answer) (outcome : Outcome) (m : Files) (after : Option Files) (before written : Option (List ℕ)) (old new : ℕ) (o : Outcome) →
+pub refused : (a : Option Answer) (outcome : Outcome) (m : Files) (after : Option Files) (before written : Option (List ℕ)) (old new : Option ℕ) (o : Outcome) →
     a ≡ Some (refusal_of outcome) → after ≡ Some m → OutcomeIs (Some (refusal_of outcome)) o →
-    ForSome before (λ text. TextIs (Some (refusal_of outcome)) text written o) → CausedBy (0, 0, old) (0, 0, new) o → Answers a m after before written o
+    ForSome before (λ text. TextIs (Some (refusal_of outcome)) text written o) → SinkCausedBy old new o → Answers a m after before written o
 refused a outcome m after before written old new o is same outcomes text cause =
     subst (λ x. Answers x m after before written o) (sym is)
     (sink_answers (Some (refusal_of outcome)) m after before written old new o refl same outcomes text cause)

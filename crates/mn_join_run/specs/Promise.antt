@@ -6,15 +6,15 @@ use Rattle.mn_ledger.specs.declared.verdict.Verdict.TheVariants.{Delivered}
 use Rattle.mn_ledger.specs.Held.{HeldRoute}
 use Rattle.mn_ledger.specs.Lawful.{IsLawfulJournal}
 use Rattle.mn_ledger.specs.Verdicts.{injections}
-use Rattle.mn_laws.specs.Accounts.{Accounts, IsPassedOn, world_at}
-use Rattle.mn_laws.specs.Named.{AreBytes}
-use Rattle.mn_arrival.specs.Arrival.{IsSentInSteadyStretch, HasAWay, ItArrives, ArrivesWhereItCan}
-use Rattle.mn_course.specs.Course.{record_of}
-use Rattle.mn_course.specs.Expansion.{SentLine}
-use Rattle.mn_legs.specs.declared.leg.Which.{Which}
-use Rattle.mn_legs.specs.Pairing.{Pairing, network, Both, side, Travel}
-use Rattle.mn_legs.specs.Crossing.{CrossesAll, all_nodes}
-use Rattle.mn_legs.specs.Legs.{SentLeg, HasLegs, passage_of, last_of}
+use Rattle.mn_ledger_laws.specs.Accounts.{Accounts, IsPassedOn, world_at}
+use Rattle.mn_ledger_laws.specs.Named.{AreBytes}
+use Rattle.mn_arrival_laws.specs.Arrival.{IsSentInSteadyStretch, HasAWay, ItArrives, ArrivesWhereItCan}
+use Rattle.mn_course_laws.specs.Course.{record_of}
+use Rattle.mn_course_laws.specs.Expansion.{SentLine}
+use Rattle.mn_leg_laws.specs.declared.leg.Which.{Which}
+use Rattle.mn_leg_laws.specs.Pairing.{Pairing, network, Both, side, Travel}
+use Rattle.mn_leg_laws.specs.Crossing.{CrossesAll, all_nodes}
+use Rattle.mn_leg_laws.specs.Legs.{SentLeg, HasLegs, passage_of, last_of}
 use Rattle.mn_join_report.specs.declared.ends.End.TheVariants.{Judged}
 use Rattle.mn_join_report.specs.Report.{end_of}
 
@@ -59,10 +59,10 @@ pub record IsAnsweredFor (pairing : Pairing) (capture : List (List ℕ)) (both :
   pub sent : record_of capture sending.number ≡ Some has.first.sending.bytes
   pub left : ttl_of (last_of has.first has.later).sending.bytes + all_nodes (map (passage_of pairing both) (before_last has.first has.later))
       ≡ ttl_of has.first.sending.bytes
-  pub crosses : (which : Which) (site : SiteNo) (ttl copy : ℕ) → end_of pairing both packet ≡ Judged which (Delivered site ttl copy) →
+  pub crosses : (which : Which) (site : SiteNo) (ttl copy : ℕ) → end_of pairing both packet ≡ Judged which (Delivered ttl site copy) →
       HasCrossed pairing both has.first.sending.bytes (has.first ∷ has.later) ttl
   pub arrives : packet.refused ≡ None → (from to : ℕ) (route : HeldRoute) →
       (let last : SentLeg = last_of has.first has.later in
       IsSentInSteadyStretch (network pairing last.which) (side both last.which).past.entries (side both last.which).inputs last.sending from to →
       HasAWay (network pairing last.which) (world_at (network pairing last.which) (side both last.which).past.entries from) last.sending route →
-      (ttl copy : ℕ) × (end_of pairing both packet ≡ Judged last.which (Delivered (record { 0 = route.site }) ttl copy)))
+      (ttl copy : ℕ) × (end_of pairing both packet ≡ Judged last.which (Delivered ttl (record { 0 = route.site }) copy)))

@@ -2,7 +2,7 @@
 ghost use Rattle.std.specs.Prelude.{◌≡◌, ◌≢◌, false, ℕ, List, Some, Ok, All, true, option_map};
 ghost use Rattle.std.specs.Option.{ForSome};
 ghost use Rattle.mn_edge.specs.Files.{file};
-ghost use Rattle.mn_answer.specs.Endings.{Answers, CausedBy};
+ghost use Rattle.mn_answer.specs.Endings.{Answers, CausedBy, HasNone};
 ghost use Rattle.mn_joints.specs.Joints.{joints_of};
 ghost use Rattle.mn_join_report.specs.Pairs.{AreSites, AreApart, pairing_of};
 ghost use Rattle.mn_perform.specs.Inside.{is_inside};
@@ -40,7 +40,8 @@ fn join_script<S: Shelf, O: Sink>(
     ensures answers { ForSome (S.files shelf.old) (λ m. Answers (with_script folder.now m capture.now (pairing_of first second joints.now) lines.now) m (S.files shelf.new) (O.written out.old) (O.written out.new) result) }
     ensures told { ForSome (S.files shelf.old) (λ m. ForSome (O.written out.old) (λ before. (one two three four : List ℕ) → option_map topology_of (file m one) ≡ Some (Ok first) → option_map topology_of (file m two) ≡ Some (Ok second) → option_map (joints_of first second) (file m three) ≡ Some (Ok joints.now) → option_map (lines_of (join_says first second) 1) (file m four) ≡ Some (Ok lines.now) →
         IsJoinTold one two three four capture.now folder.now m before (S.files shelf.new) (O.written out.new) result)) }
-    ensures cause { CausedBy (S.read_faults shelf.old, S.write_faults shelf.old, O.faults out.old)
+    ensures cause { CausedBy (HasNone (λ m. with_script folder.now m capture.now (pairing_of first second joints.now) lines.now) (S.files shelf.old))
+        (S.read_faults shelf.old, S.write_faults shelf.old, O.faults out.old)
         (S.read_faults shelf.new, S.write_faults shelf.new, O.faults out.new) result }
     ensures usage { result ≢ Outcome.Usage }
 {
@@ -74,7 +75,8 @@ fn join_joined<S: Shelf, O: Sink>(
     ensures answers { ForSome (S.files shelf.old) (λ m. Answers (with_pairing folder.now m script.now capture.now first second joints.now) m (S.files shelf.new) (O.written out.old) (O.written out.new) result) }
     ensures told { ForSome (S.files shelf.old) (λ m. ForSome (O.written out.old) (λ before. (one two three : List ℕ) → option_map topology_of (file m one) ≡ Some (Ok first) → option_map topology_of (file m two) ≡ Some (Ok second) → option_map (joints_of first second) (file m three) ≡ Some (Ok joints.now) →
         IsJoinTold one two three script.now capture.now folder.now m before (S.files shelf.new) (O.written out.new) result)) }
-    ensures cause { CausedBy (S.read_faults shelf.old, S.write_faults shelf.old, O.faults out.old)
+    ensures cause { CausedBy (HasNone (λ m. with_pairing folder.now m script.now capture.now first second joints.now) (S.files shelf.old))
+        (S.read_faults shelf.old, S.write_faults shelf.old, O.faults out.old)
         (S.read_faults shelf.new, S.write_faults shelf.new, O.faults out.new) result }
     ensures usage { result ≢ Outcome.Usage }
 {
@@ -104,7 +106,8 @@ fn join_both<S: Shelf, O: Sink>(
     ensures answers { ForSome (S.files shelf.old) (λ m. Answers (with_both folder.now m joints.now script.now capture.now first second) m (S.files shelf.new) (O.written out.old) (O.written out.new) result) }
     ensures told { ForSome (S.files shelf.old) (λ m. ForSome (O.written out.old) (λ before. (one two : List ℕ) → option_map topology_of (file m one) ≡ Some (Ok first) → option_map topology_of (file m two) ≡ Some (Ok second) →
         IsJoinTold one two joints.now script.now capture.now folder.now m before (S.files shelf.new) (O.written out.new) result)) }
-    ensures cause { CausedBy (S.read_faults shelf.old, S.write_faults shelf.old, O.faults out.old)
+    ensures cause { CausedBy (HasNone (λ m. with_both folder.now m joints.now script.now capture.now first second) (S.files shelf.old))
+        (S.read_faults shelf.old, S.write_faults shelf.old, O.faults out.old)
         (S.read_faults shelf.new, S.write_faults shelf.new, O.faults out.new) result }
     ensures usage { result ≢ Outcome.Usage }
 {
@@ -134,7 +137,8 @@ fn join_first<S: Shelf, O: Sink>(
     ensures answers { ForSome (S.files shelf.old) (λ m. Answers (with_first folder.now m second.now joints.now script.now capture.now first) m (S.files shelf.new) (O.written out.old) (O.written out.new) result) }
     ensures told { ForSome (S.files shelf.old) (λ m. ForSome (O.written out.old) (λ before. (one : List ℕ) → option_map topology_of (file m one) ≡ Some (Ok first) →
         IsJoinTold one second.now joints.now script.now capture.now folder.now m before (S.files shelf.new) (O.written out.new) result)) }
-    ensures cause { CausedBy (S.read_faults shelf.old, S.write_faults shelf.old, O.faults out.old)
+    ensures cause { CausedBy (HasNone (λ m. with_first folder.now m second.now joints.now script.now capture.now first) (S.files shelf.old))
+        (S.read_faults shelf.old, S.write_faults shelf.old, O.faults out.old)
         (S.read_faults shelf.new, S.write_faults shelf.new, O.faults out.new) result }
     ensures usage { result ≢ Outcome.Usage }
 {
@@ -170,8 +174,10 @@ pub fn join<S: Shelf, O: Sink>(
     // alone; and what is told as delivered has crossed the networks of all its legs.
     ensures told { ForSome (S.files shelf.old) (λ m. ForSome (O.written out.old) (λ before.
         IsJoinTold first.now second.now joints.now script.now capture.now folder.now m before (S.files shelf.new) (O.written out.new) result)) }
-    // A fault comes only where its count rose; every other count is as before.
-    ensures cause { CausedBy (S.read_faults shelf.old, S.write_faults shelf.old, O.faults out.old)
+    // A fault comes only where its count rose, or a read's over a sound shelf where an input isn't there; every other count is as
+    // before.
+    ensures cause { CausedBy (HasNone (join_answer first.now second.now joints.now script.now capture.now folder.now) (S.files shelf.old))
+        (S.read_faults shelf.old, S.write_faults shelf.old, O.faults out.old)
         (S.read_faults shelf.new, S.write_faults shelf.new, O.faults out.new) result }
     ensures usage { result ≢ Outcome.Usage }
 {

@@ -1,6 +1,6 @@
 //! What a run keeps for its report.
 ghost use Rattle.std.specs.Prelude.{◌≡◌, ◌++◌, [], map, IfOk, OnOk};
-ghost use Rattle.mn_course.specs.Expansion.{sending_by};
+ghost use Rattle.mn_course_laws.specs.Expansion.{sending_by};
 ghost use Rattle.mn_perform.specs.Shown.{sending_of};
 
 use mn_join_script::JoinLine;

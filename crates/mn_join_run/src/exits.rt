@@ -2,12 +2,12 @@
 ghost use Rattle.std.specs.Prelude.{◌≡◌, ◌++◌, ◌∷◌, [], ℕ, List, IfOk, OnOk, OnErr, Some, None};
 ghost use Rattle.std.specs.List.{flat_map};
 ghost use Rattle.std.specs.Option.{ForSome};
-ghost use Rattle.mn_edge.specs.Faults.{Counted};
+ghost use Rattle.mn_edge.specs.Faults.{Counted, CountedUnless};
 ghost use Rattle.mn_edge.specs.Files.{Files};
-ghost use Rattle.mn_edge.specs.Kept.{Framed};
+ghost use Rattle.mn_edge.specs.Kept.{Framed, Lacking};
 ghost use Rattle.mn_edge.specs.Laid.{named};
 ghost use Rattle.mn_edge.specs.Written.{laid, texts, PartWritten};
-ghost use Rattle.mn_legs.specs.Course.{Exit};
+ghost use Rattle.mn_leg_laws.specs.Course.{Exit};
 ghost use Rattle.mn_pcap.specs.Format.{header, record_of};
 ghost use Rattle.mn_join_report.specs.Report.{exit_record, exits_file};
 ghost use Rattle.mn_join_run.specs.Answer.{exits_name};
@@ -81,7 +81,8 @@ impl ExitsFile {
             Beginning self.old.names (bytes ++ piece.now) (S.files shelf.new)) }
         ensures names { self.new.names ≡ self.old.names }
         ensures framed { Framed self.old.names (S.files shelf.old) (S.files shelf.new) }
-        ensures writes { Counted (S.write_faults shelf.old) (S.write_faults shelf.new) result }
+        ensures writes { CountedUnless (Lacking self.old.names (S.files shelf.old))
+            (S.write_faults shelf.old) (S.write_faults shelf.new) result }
         ensures reads { S.read_faults shelf.new ≡ S.read_faults shelf.old }
     {
         self.gather.put(shelf, &self.names, 0, piece)
@@ -100,7 +101,8 @@ impl ExitsFile {
             Beginning self.old.names (bytes ++ record_of tick packet.now) (S.files shelf.new)) }
         ensures names { self.new.names ≡ self.old.names }
         ensures framed { Framed self.old.names (S.files shelf.old) (S.files shelf.new) }
-        ensures writes { Counted (S.write_faults shelf.old) (S.write_faults shelf.new) result }
+        ensures writes { CountedUnless (Lacking self.old.names (S.files shelf.old))
+            (S.write_faults shelf.old) (S.write_faults shelf.new) result }
         ensures reads { S.read_faults shelf.new ≡ S.read_faults shelf.old }
     {
         self.append(shelf, &record_header(tick, packet.len()))?;
@@ -115,7 +117,8 @@ impl ExitsFile {
             Beginning self.old.names (bytes ++ flat_map exit_record pair.now.exits) (S.files shelf.new)) }
         ensures names { self.new.names ≡ self.old.names }
         ensures framed { Framed self.old.names (S.files shelf.old) (S.files shelf.new) }
-        ensures writes { Counted (S.write_faults shelf.old) (S.write_faults shelf.new) result }
+        ensures writes { CountedUnless (Lacking self.old.names (S.files shelf.old))
+            (S.write_faults shelf.old) (S.write_faults shelf.new) result }
         ensures reads { S.read_faults shelf.new ≡ S.read_faults shelf.old }
     {
         let mut k: u32 = 0;
@@ -157,7 +160,8 @@ impl ExitsFile {
             Beginning self.old.names bytes (S.files shelf.new)) }
         ensures names { self.new.names ≡ self.old.names }
         ensures framed { Framed self.old.names (S.files shelf.old) (S.files shelf.new) }
-        ensures writes { Counted (S.write_faults shelf.old) (S.write_faults shelf.new) result }
+        ensures writes { CountedUnless (Lacking self.old.names (S.files shelf.old))
+            (S.write_faults shelf.old) (S.write_faults shelf.new) result }
         ensures reads { S.read_faults shelf.new ≡ S.read_faults shelf.old }
     {
         self.gather.end(shelf, &self.names)

@@ -1,8 +1,9 @@
 //! The packets that lines name.
 ghost use Rattle.std.specs.Prelude.{◌≡◌, ℕ, List, option_map, IfOk};
 ghost use Rattle.std.specs.Option.{ForSome};
-ghost use Rattle.mn_edge.specs.Faults.{Counted};
-ghost use Rattle.mn_course.specs.Course.{record_of};
+ghost use Rattle.mn_edge.specs.Faults.{CountedUnless};
+ghost use Rattle.mn_edge.specs.Files.{Absent};
+ghost use Rattle.mn_course_laws.specs.Course.{record_of};
 ghost use Rattle.mn_perform.specs.Recorded.{told_packets};
 ghost use Rattle.mn_join_run.specs.Playing.{IsPacket};
 
@@ -24,7 +25,8 @@ fn fetch_record<'b, S: Shelf>(
     ensures told { IfOk result (λ packet. (names : List (List ℕ)) →
         ForSome (told_packets (S.files shelf.old) names capture.now) (λ all. option_map (λ bytes. bytes.now) packet ≡ record_of all nth)) }
     ensures same { S.files shelf.new ≡ S.files shelf.old }
-    ensures reads { Counted (S.read_faults shelf.old) (S.read_faults shelf.new) result }
+    ensures reads { CountedUnless (Absent (S.files shelf.old) capture.now.name)
+        (S.read_faults shelf.old) (S.read_faults shelf.new) result }
     ensures writes { S.write_faults shelf.new ≡ S.write_faults shelf.old }
 {
     if !is_record(capture.records(), nth) {
@@ -45,7 +47,8 @@ pub(crate) fn fetch<'b, S: Shelf>(
     ensures told { IfOk result (λ packet. (names : List (List ℕ)) →
         IsPacket (S.files shelf.old) names capture.now command.now (option_map (λ bytes. bytes.now) packet)) }
     ensures same { S.files shelf.new ≡ S.files shelf.old }
-    ensures reads { Counted (S.read_faults shelf.old) (S.read_faults shelf.new) result }
+    ensures reads { CountedUnless (Absent (S.files shelf.old) capture.now.name)
+        (S.read_faults shelf.old) (S.read_faults shelf.new) result }
     ensures writes { S.write_faults shelf.new ≡ S.write_faults shelf.old }
 {
     match command {

@@ -1,10 +1,11 @@
 //! The lines of a script, one after another.
-ghost use Rattle.std.specs.Prelude.{◌≡◌, true, All, Some, map};
-ghost use Rattle.mn_edge.specs.Kept.{Framed};
+ghost use Rattle.std.specs.Prelude.{◌≡◌, true, All, None, Some, map};
+ghost use Rattle.mn_edge.specs.Kept.{Framed, Lacking};
+ghost use Rattle.mn_perform.specs.Recorded.{told_packets};
 ghost use Rattle.mn_perform.specs.Faults.{Blamed};
 ghost use Rattle.mn_perform.specs.Shown.{sending_of};
-ghost use Rattle.mn_legs.specs.Pairing.{Pairing, network};
-ghost use Rattle.mn_legs.specs.Course.{PairCourse};
+ghost use Rattle.mn_leg_laws.specs.Pairing.{Pairing, network};
+ghost use Rattle.mn_leg_laws.specs.Course.{PairCourse};
 ghost use Rattle.mn_join_report.specs.Pairs.{net_of};
 ghost use Rattle.mn_join_script.specs.Language.{line_fits};
 ghost use Rattle.mn_join_report.specs.Course.{JoinRun, at_start, after_course, with_packet};
@@ -37,7 +38,8 @@ fn note<S: Shelf, O: Sink>(
         (net_of pair.now line.now.which).topology ≡ network pairing line.now.which → pair.now.exits ≡ course.exits → map sending_of desk.old.sent.items ≡ run.sendings →
         Stands start (refused_texts run) (exits_file run.exits) (outside desk.old.page (O.written out.old) file.old.held (S.files shelf.old)) →
         IsNoted start (after_course pairing run line.now course (ending_of played)) desk.new (outside desk.new.page (O.written out.new) file.new.held (S.files shelf.new)) result }
-    ensures cause { Blamed (S.read_faults shelf.old, S.write_faults shelf.old, O.faults out.old)
+    ensures cause { Blamed ⊥ (Lacking file.old.names (S.files shelf.old))
+        (S.read_faults shelf.old, S.write_faults shelf.old, O.faults out.old)
         (S.read_faults shelf.new, S.write_faults shelf.new, O.faults out.new) result }
 {
     file.put_exits(shelf, pair)?;
@@ -77,7 +79,8 @@ fn play_line<S: Shelf, O: Sink>(
     ensures went { (pairing : Pairing) (start : Start) (run : JoinRun) → start.names ≡ file.old.names →
         Keeps pairing start run pair.old desk.old (outside desk.old.page (O.written out.old) file.old.held (S.files shelf.old)) →
         Went pairing start (with_packet pairing run line.now (Some packet.now)) pair.new desk.new (outside desk.new.page (O.written out.new) file.new.held (S.files shelf.new)) result }
-    ensures cause { Blamed (S.read_faults shelf.old, S.write_faults shelf.old, O.faults out.old)
+    ensures cause { Blamed ⊥ (Lacking file.old.names (S.files shelf.old))
+        (S.read_faults shelf.old, S.write_faults shelf.old, O.faults out.old)
         (S.read_faults shelf.new, S.write_faults shelf.new, O.faults out.new) result }
 {
     match pair.play(line.which, &line.command, packet) {
@@ -112,7 +115,8 @@ fn do_line<S: Shelf, O: Sink>(
     ensures went { (pairing : Pairing) (start : Start) (run : JoinRun) → start.names ≡ file.old.names →
         Keeps pairing start run pair.old desk.old (outside desk.old.page (O.written out.old) file.old.held (S.files shelf.old)) →
         LineWent pairing start run line.now (S.files shelf.old) capture.now pair.new desk.new (outside desk.new.page (O.written out.new) file.new.held (S.files shelf.new)) result }
-    ensures cause { Blamed (S.read_faults shelf.old, S.write_faults shelf.old, O.faults out.old)
+    ensures cause { Blamed (told_packets (S.files shelf.old) file.old.names capture.now ≡ None) (Lacking file.old.names (S.files shelf.old))
+        (S.read_faults shelf.old, S.write_faults shelf.old, O.faults out.old)
         (S.read_faults shelf.new, S.write_faults shelf.new, O.faults out.new) result }
 {
     match fetch(shelf, capture, &line.command, buffer) {
@@ -151,7 +155,8 @@ pub(crate) fn do_lines<S: Shelf, O: Sink>(
     ensures went { (pairing : Pairing) (start : Start) → start.names ≡ file.old.names →
         Keeps pairing start at_start pair.old desk.old (outside desk.old.page (O.written out.old) file.old.held (S.files shelf.old)) →
         AllWent pairing start (S.files shelf.old) capture.now lines.now pair.new desk.new (outside desk.new.page (O.written out.new) file.new.held (S.files shelf.new)) result }
-    ensures cause { Blamed (S.read_faults shelf.old, S.write_faults shelf.old, O.faults out.old)
+    ensures cause { Blamed (told_packets (S.files shelf.old) file.old.names capture.now ≡ None) (Lacking file.old.names (S.files shelf.old))
+        (S.read_faults shelf.old, S.write_faults shelf.old, O.faults out.old)
         (S.read_faults shelf.new, S.write_faults shelf.new, O.faults out.new) result }
 {
     for line in lines {

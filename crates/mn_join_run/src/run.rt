@@ -2,11 +2,11 @@
 ghost use Rattle.std.specs.Prelude.{◌≡◌, ◌≢◌, None, Some, true, false, All, Ok, OnOk};
 ghost use Rattle.std.specs.Option.{ForSome};
 ghost use Rattle.mn_edge.specs.Faults.{Counted};
-ghost use Rattle.mn_edge.specs.Files.{file};
-ghost use Rattle.mn_edge.specs.Kept.{Framed};
+ghost use Rattle.mn_edge.specs.Files.{Absent, file};
+ghost use Rattle.mn_edge.specs.Kept.{Framed, Lacking};
 ghost use Rattle.mn_answer.specs.Endings.{Answers, CausedBy};
 ghost use Rattle.mn_capture.specs.Packets.{packets_in};
-ghost use Rattle.mn_legs.specs.Pairing.{Pairing, at_first};
+ghost use Rattle.mn_leg_laws.specs.Pairing.{Pairing, at_first};
 ghost use Rattle.mn_join_report.specs.Pairs.{pairing_of, AreSites, AreApart, PairStands};
 ghost use Rattle.mn_perform.specs.Faults.{Blamed};
 ghost use Rattle.mn_perform.specs.Inside.{is_inside};
@@ -65,7 +65,8 @@ fn finish<S: Shelf, O: Sink>(
     ensures went { (pairing : Pairing) (start : Start) (run : JoinRun) → start.names ≡ file.old.names → Framed start.names start.base (S.files shelf.old) →
         Went pairing start run pair.now desk.old (outside desk.old.page (O.written out.old) file.old.held (S.files shelf.old)) (Ok how) →
         RunEnds pairing start run (S.files shelf.new) (O.written out.new) result }
-    ensures cause { Blamed (S.read_faults shelf.old, S.write_faults shelf.old, O.faults out.old)
+    ensures cause { Blamed ⊥ (Lacking file.old.names (S.files shelf.old))
+        (S.read_faults shelf.old, S.write_faults shelf.old, O.faults out.old)
         (S.read_faults shelf.new, S.write_faults shelf.new, O.faults out.new) result }
 {
     file.end(shelf)?;
@@ -91,7 +92,8 @@ fn perform<S: Shelf, O: Sink>(
     ensures ends { (pairing : Pairing) → PairStands pairing pair at_first → pair.stopped ≡ None →
         ForSome (S.files shelf.old) (λ m. ForSome (file m capture.now.name) (λ bytes.
         RunEnds pairing (start_in folder.now (S.files shelf.old) (O.written out.old)) (run_of pairing (packets_in capture.now bytes) lines.now) (S.files shelf.new) (O.written out.new) result)) }
-    ensures cause { Blamed (S.read_faults shelf.old, S.write_faults shelf.old, O.faults out.old)
+    ensures cause { Blamed (Absent (S.files shelf.old) capture.now.name) ⊥
+        (S.read_faults shelf.old, S.write_faults shelf.old, O.faults out.old)
         (S.read_faults shelf.new, S.write_faults shelf.new, O.faults out.new) result }
 {
     let mut file = ExitsFile::open(alloc, shelf, folder)?;
@@ -146,7 +148,8 @@ pub(crate) fn join_networks<S: Shelf, O: Sink>(
         Answers (Some (join_done folder.now (pairing_of first second joints.now) lines.now (packets_in capture.now bytes))) m (S.files shelf.new) (O.written out.old) (O.written out.new) result)) }
     ensures lawful { ForSome (S.files shelf.old) (λ m. ForSome (file m capture.now.name) (λ bytes.
         AreLawfulIfDone (pairing_of first second joints.now) (run_of (pairing_of first second joints.now) (packets_in capture.now bytes) lines.now) result)) }
-    ensures cause { CausedBy (S.read_faults shelf.old, S.write_faults shelf.old, O.faults out.old)
+    ensures cause { CausedBy (Absent (S.files shelf.old) capture.now.name)
+        (S.read_faults shelf.old, S.write_faults shelf.old, O.faults out.old)
         (S.read_faults shelf.new, S.write_faults shelf.new, O.faults out.new) result }
     ensures usage { result ≢ Outcome.Usage }
 {

@@ -1,8 +1,8 @@
 //! The script from its file.
 ghost use Rattle.std.specs.Prelude.{◌≡◌, IfOk, Some};
 ghost use Rattle.std.specs.Option.{ForSome};
-ghost use Rattle.mn_edge.specs.Faults.{Counted};
-ghost use Rattle.mn_edge.specs.Files.{file};
+ghost use Rattle.mn_edge.specs.Faults.{CountedUnless};
+ghost use Rattle.mn_edge.specs.Files.{Absent, file};
 ghost use Rattle.mn_answer.specs.Inputs.{IsSound, LinesAre, LinesFit};
 ghost use Rattle.mn_join_script.specs.Language.{join_says, line_fits};
 
@@ -50,7 +50,8 @@ pub(crate) fn load_script<S: Shelf>(
     ensures fits { IfOk result (LinesFit (line_fits first.now second.now)) }
     ensures sound { IfOk result IsSound }
     ensures same { S.files shelf.new ≡ S.files shelf.old }
-    ensures reads { Counted (S.read_faults shelf.old) (S.read_faults shelf.new) result }
+    ensures reads { CountedUnless (Absent (S.files shelf.old) name.now)
+        (S.read_faults shelf.old) (S.read_faults shelf.new) result }
     ensures writes { S.write_faults shelf.new ≡ S.write_faults shelf.old }
 {
     match read_all(alloc, shelf, name, MOST_SCRIPT_BYTES)? {

@@ -1,23 +1,22 @@
 -- The command that asks for an entry: its step, or the damage that made it.
-use Rattle.std.proofs.Common.{◌≡◌, ◌<◌, ◌^◌, ℕ, Bool, true, false, List, Some, Ok, refl, ap, sym, ◌∙◌, subst}
+use Rattle.std.proofs.Common.{◌≡◌, ◌<◌, ◌^◌, ℕ, Bool, true, false, Some, Ok, refl, ap, sym, ◌∙◌, subst}
 use Rattle.std.specs.Prelude.{nat_lt, if◌then◌else◌}
 use Rattle.mn_base.specs.declared.numbers.NodeNo.{NodeNo}
 use Rattle.mn_wiring.specs.declared.links.Dir.TheVariants as dir
 use Rattle.mn_topo.specs.Lawful.{IsLawful}
 use Rattle.mn_topo.specs.Network.{Network}
-use Rattle.mn_topo.specs.Steps.{fits}
 use Rattle.mn_topo.specs.declared.steps.Step.TheVariants.{BgpDown}
 use Rattle.mn_topo.specs.declared.steps.Damage.{Damage}
 use Rattle.mn_topo.specs.declared.steps.Damage.TheVariants.{Ldp, Bgp}
 use Rattle.mn_topo.specs.declared.steps.Damaged.TheVariants as mark
 use Rattle.mn_topo.specs.declared.steps.JournalEntry.{JournalEntry}
-use Rattle.mn_entry.specs.Damages.{damage_fits, mark_of, entry_for}
-use Rattle.mn_entry.specs.Entries.{entry_fits, IsMadeBy, Plain, ByDamage}
+use Rattle.mn_entry.specs.Damages.{mark_of, entry_for}
+use Rattle.mn_entry.specs.Entries.{IsMadeBy, Plain, ByDamage}
 use Rattle.mn_entry.proofs.Told.{one_or_the_other}
 use Rattle.mn_script.specs.declared.command.Command.{Command}
 use Rattle.mn_script.specs.declared.command.Command.TheVariants as command
-use Rattle.mn_script.specs.Lines.{line_says, command_fits}
-use Rattle.mn_script.specs.Spelled.{step_words, damage_words, command_words, IsDamage, IsCommand}
+use Rattle.mn_script.specs.Lines.{line_says}
+use Rattle.mn_script.specs.Spelled.{damage_words, command_words, IsDamage}
 use Rattle.mn_script.proofs.Again.{command_again}
 use Rattle.mn_journal.specs.Lines.{done_words, entry_words, IsMark, IsEntry}
 use Rattle.mn_journal.specs.Reading.{entry_at}

@@ -1,17 +1,15 @@
 -- A journal, read line by line.
-use Rattle.std.proofs.Common.{◌≡◌, ◌<◌, ℕ, zero, suc, true, List, [], ◌∷◌, ◌++◌, length, Some, None, Option, refl, ap, sym, ◌∙◌, subst, arith, append-nil}
+use Rattle.std.proofs.Common.{◌≡◌, ℕ, suc, true, List, [], ◌∷◌, ◌++◌, Some, refl, ap, sym, ◌∙◌, arith}
 use Rattle.std.proofs.Common.{append_assoc}
 use Rattle.std.specs.Prelude.{All, map}
-use Rattle.std.specs.Str.Lines.{lines}
 use Rattle.std.proofs.lemmas.List.{map-append}
-use Rattle.std.proofs.lemmas.List.Elements.{All-nil, All-push}
 use Rattle.mn_text.specs.Words.{words}
 use Rattle.mn_topo.specs.Lawful.{IsLawful}
 use Rattle.mn_topo.specs.Network.{Network}
 use Rattle.mn_entry.specs.Entries.{entry_fits}
 use Rattle.mn_topo.specs.declared.steps.JournalEntry.{JournalEntry}
 use Rattle.mn_journal.specs.Lines.{text_of, IsEntry}
-use Rattle.mn_journal.specs.Reading.{asked_by, IsText, AllFit, IsFirstBad}
+use Rattle.mn_journal.specs.Reading.{asked_by, IsText, AllFit}
 use Rattle.mn_journal.proofs.Words.{asked_again}
 
 -- an entry whose text asks for it

@@ -1,5 +1,5 @@
 -- The words of a step have no blank, and none begins a comment.
-use Rattle.std.proofs.Common.{◌≡◌, ◌<◌, ◌≤◌, ◌+◌, ◌^◌, ◌/◌, ◌%◌, ℕ, zero, suc, Bool, true, false, List, [], ◌∷◌, ◌++◌, length, get_or, refl, ap, ◌∙◌, arith}
+use Rattle.std.proofs.Common.{◌≡◌, ◌<◌, ◌≤◌, ◌^◌, ◌/◌, ◌%◌, ℕ, zero, suc, Bool, true, false, List, [], ◌∷◌, ◌++◌, length, get_or, refl, ap, ◌∙◌, arith}
 use Rattle.std.specs.Prelude.{codes, nat_lt, nat_le, not, ◌&&◌, ◌==◌, decimal, if◌then◌else◌, slice_index_or}
 use Rattle.std.specs.Char.{is_ascii_digit}
 use Rattle.std.specs.List.{list_all}
@@ -192,14 +192,14 @@ step_plain network (AddRoute site prefix) lawful fit is =
     (refl, (refl, (site_plain network site lawful (ltb-true _ _ (and_parts _ _ fit).0), (prefix_plain prefix is, tt))))
 step_plain network (DelRoute site prefix) lawful fit is =
     (refl, (refl, (site_plain network site lawful (ltb-true _ _ (and_parts _ _ fit).0), (prefix_plain prefix is, tt))))
-step_plain network (Import vrf target on) lawful fit is = (
+step_plain network (Import vrf on target) lawful fit is = (
   refl,
   (
     whether on (codes "add") (codes "del") refl refl,
     (vrf_plain network vrf lawful (ltb-true _ _ (and_parts _ _ fit).0), (target_plain target, tt)),
   ),
 )
-step_plain network (Export vrf target on) lawful fit is = (
+step_plain network (Export vrf on target) lawful fit is = (
   refl,
   (
     whether on (codes "add") (codes "del") refl refl,

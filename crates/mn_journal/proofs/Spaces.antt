@@ -3,7 +3,7 @@ use Rattle.std.proofs.Common.{◌≡◌, ◌+◌, ◌<◌, ◌≤◌, ℕ, List,
 use Rattle.std.proofs.lemmas.List.{at_drop_more, at_drop_all, take_all, take_at, drop_all, length-drop, length-replicate}
 use borrow.Rule.Slice.PartMut.{put_mid}
 use Rattle.std.specs.Prelude.{OnOk, Result, Ok, Err, codes}
-use Rattle.mn_journal.specs.Lines.{spaced, texts, Grew}
+use Rattle.mn_journal.specs.Lines.{joined, spaced, texts, Grew}
 
 pub grown : (old mid new part : List ℕ) → Grew old mid → new ≡ mid ++ part → Grew old new
 grown old mid new part g is = record { more = g.more ++ part; new_is = is ∙ ap (λ xs. xs ++ part) g.new_is ∙ append_assoc old g.more part }
@@ -14,37 +14,35 @@ grown_same old mid new g is = record { more = g.more; new_is = is ∙ g.new_is }
 pub the_same : (old : List ℕ) → Grew old old
 the_same old = record { more = []; new_is = sym (append-nil old) }
 
--- one more word
-pub word_put : (out mid new goal : List ℕ) (words : List (Bor (List ℕ))) (i : ℕ) (d : Bor (List ℕ)) → i < length words
-    → mid ≡ out ++ 32 ∷ [] → new ≡ mid ++ (get_or words i d).now
-    → out ++ spaced (texts (drop i words)) ≡ goal → new ++ spaced (texts (drop (i + 1) words)) ≡ goal
-word_put out mid new goal words i d below first then before =
-    ap (λ xs. xs ++ spaced (texts (drop (i + 1) words))) (then ∙ ap (λ xs. xs ++ (get_or words i d).now) first)
-    ∙ append_assoc (out ++ 32 ∷ []) (get_or words i d).now (spaced (texts (drop (i + 1) words)))
-    ∙ append_assoc out (32 ∷ []) ((get_or words i d).now ++ spaced (texts (drop (i + 1) words)))
-    ∙ sym (ap (λ xs. out ++ xs) (at_drop_more (λ ws. spaced (texts ws)) words i d below))
+-- one more piece
+pub piece_put : (out new goal : List ℕ) (pieces : List (Bor (List ℕ))) (i : ℕ) (d : Bor (List ℕ)) → i < length pieces → new ≡ out ++ (get_or pieces i d).now
+    → out ++ joined (texts (drop i pieces)) ≡ goal → new ++ joined (texts (drop (i + 1) pieces)) ≡ goal
+piece_put out new goal pieces i d below then before =
+    ap (λ xs. xs ++ joined (texts (drop (i + 1) pieces))) then
+    ∙ append_assoc out (get_or pieces i d).now (joined (texts (drop (i + 1) pieces)))
+    ∙ sym (ap (λ xs. out ++ xs) (at_drop_more (λ ws. joined (texts ws)) pieces i d below))
     ∙ before
 
--- no word more
-pub words_put : (out goal : List ℕ) (words : List (Bor (List ℕ))) (i : ℕ) → length words ≤ i → out ++ spaced (texts (drop i words)) ≡ goal → out ≡ goal
-words_put out goal words i past before =
-    sym (append-nil out) ∙ sym (ap (λ xs. out ++ xs) (at_drop_all (λ ws. spaced (texts ws)) words i past)) ∙ before
+-- no piece more
+pub pieces_put : (out goal : List ℕ) (pieces : List (Bor (List ℕ))) (i : ℕ) → length pieces ≤ i → out ++ joined (texts (drop i pieces)) ≡ goal → out ≡ goal
+pieces_put out goal pieces i past before =
+    sym (append-nil out) ∙ sym (ap (λ xs. out ++ xs) (at_drop_all (λ ws. joined (texts ws)) pieces i past)) ∙ before
 
 -- how many bytes they have from one on
-pub words_from : (words : List (Bor (List ℕ))) (i : ℕ) (d : Bor (List ℕ)) → i < length words →
-    length (spaced (texts (drop i words))) ≡ 1 + length (get_or words i d).now + length (spaced (texts (drop (i + 1) words)))
-words_from words i d below =
-    ap length (at_drop_more (λ ws. spaced (texts ws)) words i d below)
-    ∙ (let l = length-append (get_or words i d).now (spaced (texts (drop (i + 1) words))) in omega (arith, l))
+pub pieces_from : (pieces : List (Bor (List ℕ))) (i : ℕ) (d : Bor (List ℕ)) → i < length pieces →
+    length (joined (texts (drop i pieces))) ≡ length (get_or pieces i d).now + length (joined (texts (drop (i + 1) pieces)))
+pieces_from pieces i d below =
+    ap length (at_drop_more (λ ws. joined (texts ws)) pieces i d below)
+    ∙ length-append (get_or pieces i d).now (joined (texts (drop (i + 1) pieces)))
 
-pub no_words : (words : List (Bor (List ℕ))) (i : ℕ) → length words ≤ i → length (spaced (texts (drop i words))) ≡ 0
-no_words words i past = ap length (at_drop_all (λ ws. spaced (texts ws)) words i past)
+pub no_pieces : (pieces : List (Bor (List ℕ))) (i : ℕ) → length pieces ≤ i → length (joined (texts (drop i pieces))) ≡ 0
+no_pieces pieces i past = ap length (at_drop_all (λ ws. joined (texts ws)) pieces i past)
 
 -- all of them stand
-pub all_laid : (bytes goal : List ℕ) (at : ℕ) (words : List (Bor (List ℕ))) (i : ℕ) → length words ≤ i →
-    take at bytes ++ spaced (texts (drop i words)) ≡ goal → at + length (spaced (texts (drop i words))) ≡ length bytes → bytes ≡ goal
-all_laid bytes goal at words i past laid left =
-    sym (take_all at bytes (let n = no_words words i past in omega (arith, n, left))) ∙ words_put (take at bytes) goal words i past laid
+pub all_laid : (bytes goal : List ℕ) (at : ℕ) (pieces : List (Bor (List ℕ))) (i : ℕ) → length pieces ≤ i →
+    take at bytes ++ joined (texts (drop i pieces)) ≡ goal → at + length (joined (texts (drop i pieces))) ≡ length bytes → bytes ≡ goal
+all_laid bytes goal at pieces i past laid left =
+    sym (take_all at bytes (let n = no_pieces pieces i past in omega (arith, n, left))) ∙ pieces_put (take at bytes) goal pieces i past laid
 
 -- what stands behind the bytes of before, for which room was made
 pub laid_behind : (old items R B goal rest : List ℕ) (at end m len : ℕ) → at ≡ length old → m ≡ length old → end ≡ at + length goal
@@ -74,3 +72,20 @@ put_as (Err bad) new old a b e h = tt
 pub damage_is : (word from to number f t n : List ℕ) → from ≡ f → to ≡ t → number ≡ n
     → spaced (codes "damage" ∷ word ∷ from ∷ to ∷ number ∷ []) ≡ spaced (codes "damage" ∷ word ∷ f ∷ t ∷ n ∷ [])
 damage_is word from to number f t n is_from is_to is_number = rw (is_from, is_to, is_number) refl
+
+-- a line in one piece after another is its tick, its words and a line feed
+pub carried : (tick from to place t f r p : List ℕ) → tick ≡ t → from ≡ f → to ≡ r → place ≡ p
+    → joined (tick ∷ codes " carry " ∷ from ∷ codes " " ∷ to ∷ codes " " ∷ place ∷ codes "\n" ∷ [])
+    ≡ (t ++ spaced (codes "carry" ∷ f ∷ r ∷ p ∷ [])) ++ 10 ∷ []
+carried tick from to place t f r p is_tick is_from is_to is_place =
+    (λ i. joined (is_tick i ∷ codes " carry " ∷ is_from i ∷ codes " " ∷ is_to i ∷ codes " " ∷ is_place i ∷ codes "\n" ∷ []))
+    ∙ sym (append_assoc t (spaced (codes "carry" ∷ f ∷ r ∷ p ∷ [])) (10 ∷ [])
+    ∙ ap (λ l. t ++ (codes " carry " ++ l)) (append_assoc f (32 ∷ (r ++ (32 ∷ (p ++ [])))) (10 ∷ [])
+    ∙ ap (λ l. f ++ (32 ∷ l)) (append_assoc r (32 ∷ (p ++ [])) (10 ∷ []) ∙ ap (λ l. r ++ (32 ∷ (l ++ 10 ∷ []))) (append-nil p))))
+
+pub injected : (tick site number t s n : List ℕ) → tick ≡ t → site ≡ s → number ≡ n
+    → joined (tick ∷ codes " inject " ∷ site ∷ codes " " ∷ number ∷ codes "\n" ∷ []) ≡ (t ++ spaced (codes "inject" ∷ s ∷ n ∷ [])) ++ 10 ∷ []
+injected tick site number t s n is_tick is_site is_number =
+    (λ i. joined (is_tick i ∷ codes " inject " ∷ is_site i ∷ codes " " ∷ is_number i ∷ codes "\n" ∷ []))
+    ∙ sym (append_assoc t (spaced (codes "inject" ∷ s ∷ n ∷ [])) (10 ∷ [])
+    ∙ ap (λ l. t ++ (codes " inject " ++ l)) (append_assoc s (32 ∷ (n ++ [])) (10 ∷ []) ∙ ap (λ l. s ++ (32 ∷ (l ++ 10 ∷ []))) (append-nil n)))

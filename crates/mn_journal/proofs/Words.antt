@@ -1,5 +1,5 @@
 -- The words of an entry's text, and the entry for which they ask.
-use Rattle.std.proofs.Common.{◌≡◌, ◌<◌, ◌+◌, ◌^◌, ℕ, zero, suc, Bool, true, false, List, [], ◌∷◌, ◌++◌, length, take, Some, None, Result, Ok, Err, refl, ap}
+use Rattle.std.proofs.Common.{◌≡◌, ◌<◌, ◌^◌, ℕ, zero, suc, Bool, true, false, List, [], ◌∷◌, ◌++◌, length, take, Some, None, Result, Ok, Err, refl, ap}
 use Rattle.std.proofs.Common.{sym, ◌∙◌, subst, arith, append-nil, append_assoc}
 use Rattle.std.specs.Prelude.{nat_lt, nat_le, ◌-◌, map, slice_index, not, cond, ◌&&◌, ◌==◌, All, filter, take_while, if◌then◌else◌, Option}
 use Rattle.std.specs.List.{flat_map, list_all, slice_split}

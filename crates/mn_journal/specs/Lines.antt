@@ -17,6 +17,11 @@ abbrev pub spaced : List (List ℕ) → List ℕ
 spaced [] = []
 spaced (word ∷ words) = 32 ∷ (word ++ spaced words)
 
+-- pieces, one behind another
+abbrev pub joined : List (List ℕ) → List ℕ
+joined [] = []
+joined (piece ∷ pieces) = piece ++ joined pieces
+
 -- the words of a script that ask for an entry: for its step, or for the damage that made it
 abbrev pub told_words : Network → Option Damage → List (List ℕ)
 told_words network None = []

@@ -8,17 +8,18 @@ ghost use Rattle.mn_text.specs.Numbers.{number_text};
 ghost use Rattle.mn_text.specs.Pairs.{rt_text};
 ghost use Rattle.mn_topo.specs.Network.{wiring_of};
 ghost use Rattle.mn_topo.specs.declared.steps.Damage.TheVariants.{Ldp, Bgp};
+ghost use Rattle.mn_topo.specs.declared.steps.Step.TheVariants.{Carry, Inject};
 ghost use Rattle.mn_entry.specs.Damages.{damage_fits};
 ghost use Rattle.mn_entry.specs.Entries.{entry_fits};
 ghost use Rattle.mn_topo.specs.Steps.{fits};
-ghost use Rattle.mn_journal.specs.Lines.{entry_words, line_of, spaced, text_of, texts, Grew};
+ghost use Rattle.mn_journal.specs.Lines.{entry_words, joined, line_of, spaced, text_of, texts, Grew};
 
 use crate::text::{prefix_text, target_text};
 use itoa::Buffer;
 use mn_base::{LinkNo, NodeNo, Rt, SiteNo, VrfNo};
 use mn_entry::damage_of;
 use mn_prefix::Prefix;
-use mn_topo::{Damage, JournalEntry, Step, Topology};
+use mn_topo::{Damage, Damaged, JournalEntry, Step, Topology};
 use mn_wiring::Dir;
 use std::alloc::AllocError;
 
@@ -34,43 +35,42 @@ fn lay(bytes: &mut [u8], at: usize, piece: &[u8]) -> usize
     end
 }
 
-/// Copies words, each after a space, over as many bytes as they have.
+/// Copies pieces, one behind another, over as many bytes as they have.
 #[inline(always)]
-fn lay_all(bytes: &mut [u8], words: &[&[u8]])
-    requires { length bytes.old ≡ length (spaced (texts words.now)) }
-    ensures { bytes.new ≡ spaced (texts words.now) }
+fn lay_all(bytes: &mut [u8], pieces: &[&[u8]])
+    requires { length bytes.old ≡ length (joined (texts pieces.now)) }
+    ensures { bytes.new ≡ joined (texts pieces.now) }
 {
     let mut at = 0;
-    for word in words {
-        let begin = lay(bytes, at, b" ");
-        at = lay(bytes, begin, word);
+    for piece in pieces {
+        at = lay(bytes, at, piece);
     }
 }
 
-/// Where words end that begin at a place, each after a space; none where no number tells it.
+/// Where pieces end that begin at a place; none where no number tells it.
 #[inline(always)]
-fn end_of(from: usize, words: &[&[u8]]) -> Option<usize>
-    ensures { IfSome result (λ end. end ≡ from + length (spaced (texts words.now))) }
+fn end_of(from: usize, pieces: &[&[u8]]) -> Option<usize>
+    ensures { IfSome result (λ end. end ≡ from + length (joined (texts pieces.now))) }
 {
     let mut end = from;
-    for word in words {
-        end = end.checked_add(word.len())?.checked_add(1)?;
+    for piece in pieces {
+        end = end.checked_add(piece.len())?;
     }
     Some(end)
 }
 
-/// Appends words, each after a space, for all of which room is made once; an `Err` none of them.
+/// Appends pieces, for all of which room is made once; an `Err` none of them.
 #[inline(always)]
-fn put_words(out: &mut Vec<u8>, words: &[&[u8]]) -> Result<(), AllocError>
-    ensures ok { OnOk result (out.new.items ≡ out.old.items ++ spaced (texts words.now)) }
+fn put_pieces(out: &mut Vec<u8>, pieces: &[&[u8]]) -> Result<(), AllocError>
+    ensures ok { OnOk result (out.new.items ≡ out.old.items ++ joined (texts pieces.now)) }
     ensures grew { Grew out.old.items out.new.items }
 {
     let before = out.len();
-    let Some(end) = end_of(before, words) else {
+    let Some(end) = end_of(before, pieces) else {
         return Err(AllocError);
     };
     out.resize(end, 0)?;
-    lay_all(&mut out[before..], words);
+    lay_all(&mut out[before..], pieces);
     Ok(())
 }
 
@@ -125,7 +125,7 @@ fn put_link(
     ensures grew { Grew out.old.items out.new.items }
 {
     let (from, to) = ends(topology, link, direction);
-    put_words(out, &[one, other, from, to])
+    put_pieces(out, &[b" ", one, b" ", other, b" ", from, b" ", to])
 }
 
 /// Two words, and two nodes.
@@ -142,9 +142,18 @@ fn put_nodes(
         (one.now ∷ other.now ∷ node_text topology.now a ∷ node_text topology.now b ∷ [])) }
     ensures grew { Grew out.old.items out.new.items }
 {
-    put_words(
+    put_pieces(
         out,
-        &[one, other, node_name(topology, a), node_name(topology, b)],
+        &[
+            b" ",
+            one,
+            b" ",
+            other,
+            b" ",
+            node_name(topology, a),
+            b" ",
+            node_name(topology, b),
+        ],
     )
 }
 
@@ -162,9 +171,18 @@ fn put_route(
     ensures grew { Grew out.old.items out.new.items }
 {
     let text = prefix_text(prefix);
-    put_words(
+    put_pieces(
         out,
-        &[b"route", word, site_name(topology, site), text.as_slice()],
+        &[
+            b" ",
+            b"route",
+            b" ",
+            word,
+            b" ",
+            site_name(topology, site),
+            b" ",
+            text.as_slice(),
+        ],
     )
 }
 
@@ -184,12 +202,16 @@ fn put_target(
 {
     let text = target_text(target);
     let whether = if on { "add" } else { "del" };
-    put_words(
+    put_pieces(
         out,
         &[
+            b" ",
             word,
+            b" ",
             whether.as_bytes(),
+            b" ",
             vrf_name(topology, vrf),
+            b" ",
             text.as_slice(),
         ],
     )
@@ -211,7 +233,19 @@ fn put_frame(
 {
     let (from, to) = ends(topology, link, direction);
     let mut digits = Buffer::new();
-    put_words(out, &[word, from, to, digits.format(place).as_bytes()])
+    put_pieces(
+        out,
+        &[
+            b" ",
+            word,
+            b" ",
+            from,
+            b" ",
+            to,
+            b" ",
+            digits.format(place).as_bytes(),
+        ],
+    )
 }
 
 /// `inject`, a site and the number of a record.
@@ -227,11 +261,14 @@ fn put_record(
     ensures grew { Grew out.old.items out.new.items }
 {
     let mut digits = Buffer::new();
-    put_words(
+    put_pieces(
         out,
         &[
+            b" ",
             b"inject",
+            b" ",
             site_name(topology, site),
+            b" ",
             digits.format(number).as_bytes(),
         ],
     )
@@ -243,7 +280,7 @@ fn put_tick(out: &mut Vec<u8>, ticks: u32) -> Result<(), AllocError>
     ensures grew { Grew out.old.items out.new.items }
 {
     let mut digits = Buffer::new();
-    put_words(out, &[b"tick", digits.format(ticks).as_bytes()])
+    put_pieces(out, &[b" ", b"tick", b" ", digits.format(ticks).as_bytes()])
 }
 
 /// The words of a step, each after a space.
@@ -270,10 +307,23 @@ fn put_step_words(out: &mut Vec<u8>, topology: &Topology, step: &Step) -> Result
         Step::HearBgp(a, b) => put_nodes(out, topology, b"hear", b"bgp", a, b),
         Step::AddRoute(site, prefix) => put_route(out, topology, b"add", site, prefix),
         Step::DelRoute(site, prefix) => put_route(out, topology, b"del", site, prefix),
-        Step::Import(vrf, target, on) => put_target(out, topology, b"import", vrf, target, on),
-        Step::Export(vrf, target, on) => put_target(out, topology, b"export", vrf, target, on),
-        Step::Attach(site) => put_words(out, &[b"site", b"up", site_name(topology, site)]),
-        Step::Detach(site) => put_words(out, &[b"site", b"down", site_name(topology, site)]),
+        Step::Import(vrf, on, target) => put_target(out, topology, b"import", vrf, target, on),
+        Step::Export(vrf, on, target) => put_target(out, topology, b"export", vrf, target, on),
+        Step::Attach(site) => put_pieces(
+            out,
+            &[b" ", b"site", b" ", b"up", b" ", site_name(topology, site)],
+        ),
+        Step::Detach(site) => put_pieces(
+            out,
+            &[
+                b" ",
+                b"site",
+                b" ",
+                b"down",
+                b" ",
+                site_name(topology, site),
+            ],
+        ),
         Step::Inject(site, number) => put_record(out, topology, site, number),
         Step::Carry(link, direction, place) => {
             put_frame(out, topology, b"carry", link, direction, place)
@@ -299,13 +349,18 @@ fn put_damaged_ldp(
 {
     let (from, to) = ends(topology, link, direction);
     let mut digits = Buffer::new();
-    put_words(
+    put_pieces(
         out,
         &[
+            b" ",
             b"damage",
+            b" ",
             b"ldp",
+            b" ",
             from,
+            b" ",
             to,
+            b" ",
             digits.format(number).as_bytes(),
         ],
     )
@@ -324,13 +379,18 @@ fn put_damaged_bgp(
     ensures grew { Grew out.old.items out.new.items }
 {
     let mut digits = Buffer::new();
-    put_words(
+    put_pieces(
         out,
         &[
+            b" ",
             b"damage",
+            b" ",
             b"bgp",
+            b" ",
             node_name(topology, from),
+            b" ",
             node_name(topology, to),
+            b" ",
             digits.format(number).as_bytes(),
         ],
     )
@@ -386,7 +446,8 @@ pub(crate) fn put_text(
     put_entry_words(out, topology, entry)
 }
 
-fn put_line(out: &mut Vec<u8>, topology: &Topology, entry: &JournalEntry) -> Result<(), AllocError>
+/// The line of any entry, in three parts.
+fn put_parts(out: &mut Vec<u8>, topology: &Topology, entry: &JournalEntry) -> Result<(), AllocError>
     requires { entry_fits topology.now entry.now ≡ true }
     ensures ok { OnOk result (out.new.items ≡ out.old.items ++ line_of topology.now entry.now) }
     ensures grew { Grew out.old.items out.new.items }
@@ -394,6 +455,80 @@ fn put_line(out: &mut Vec<u8>, topology: &Topology, entry: &JournalEntry) -> Res
     put_text(out, topology, entry)?;
     out.push(b'\n')?;
     Ok(())
+}
+
+/// The line of a carry, by one call: most lines of a long run are carries.
+fn put_carry(
+    out: &mut Vec<u8>,
+    topology: &Topology,
+    tick: u64,
+    link: LinkNo,
+    direction: Dir,
+    place: u32,
+) -> Result<(), AllocError>
+    requires { link.0 < length topology.now.links }
+    ensures ok { OnOk result (out.new.items ≡ out.old.items ++
+        ((number_text tick ++ spaced (step_words topology.now (Carry link direction place))) ++ 10 ∷ [])) }
+    ensures grew { Grew out.old.items out.new.items }
+{
+    let (from, to) = ends(topology, link, direction);
+    let (mut ticks, mut places) = (Buffer::new(), Buffer::new());
+    put_pieces(
+        out,
+        &[
+            ticks.format(tick).as_bytes(),
+            b" carry ",
+            from,
+            b" ",
+            to,
+            b" ",
+            places.format(place).as_bytes(),
+            b"\n",
+        ],
+    )
+}
+
+/// The line of a packet that is sent, by one call: most other lines are of these.
+fn put_inject(
+    out: &mut Vec<u8>,
+    topology: &Topology,
+    tick: u64,
+    site: SiteNo,
+    number: u32,
+) -> Result<(), AllocError>
+    requires { site.0 < length topology.now.sites }
+    ensures ok { OnOk result (out.new.items ≡ out.old.items ++
+        ((number_text tick ++ spaced (step_words topology.now (Inject site number))) ++ 10 ∷ [])) }
+    ensures grew { Grew out.old.items out.new.items }
+{
+    let (mut ticks, mut numbers) = (Buffer::new(), Buffer::new());
+    put_pieces(
+        out,
+        &[
+            ticks.format(tick).as_bytes(),
+            b" inject ",
+            site_name(topology, site),
+            b" ",
+            numbers.format(number).as_bytes(),
+            b"\n",
+        ],
+    )
+}
+
+fn put_line(out: &mut Vec<u8>, topology: &Topology, entry: &JournalEntry) -> Result<(), AllocError>
+    requires { entry_fits topology.now entry.now ≡ true }
+    ensures ok { OnOk result (out.new.items ≡ out.old.items ++ line_of topology.now entry.now) }
+    ensures grew { Grew out.old.items out.new.items }
+{
+    match (entry.step, entry.damaged) {
+        (Step::Carry(link, direction, place), Damaged::Undamaged) => {
+            put_carry(out, topology, entry.tick, link, direction, place)
+        }
+        (Step::Inject(site, number), Damaged::Undamaged) => {
+            put_inject(out, topology, entry.tick, site, number)
+        }
+        _ => put_parts(out, topology, entry),
+    }
 }
 
 /// Appends the line of an entry: of its step, or of the damage that made it. An `Err` appends nothing.

@@ -1,7 +1,7 @@
 -- A label is had just where it has a meaning, and the next one is the first that has none.
 use Rattle.std.proofs.Common.{ℕ, zero, suc, ◌≡◌, ◌≢◌, ◌+◌, ◌≤◌, ◌<◌, ◌⊎◌, inl, inr, Bool, true, false, List, [], ◌∷◌, filter, length, get_or}
 use Rattle.std.proofs.Common.{refl, arith, sym, ◌∙◌, ap, subst}
-use Rattle.std.specs.Prelude.{Option, Some, None, is_some, not, nat_lt, ◌==◌, ◌&&◌, ◌||◌, ◌-◌, slice_get, if◌then◌else◌}
+use Rattle.std.specs.Prelude.{Option, Some, None, IfSome, is_some, not, nat_lt, ◌==◌, ◌&&◌, ◌||◌, ◌-◌, slice_get, if◌then◌else◌}
 use Rattle.std.specs.List.{list_any, range_with_len}
 use Rattle.mn_base.proofs.Bools.{less_tells, not_less_tells, two_ways, no, never, same_numbers, same_test, or_right, and_left, and_right}
 use Rattle.mn_base.proofs.Members.{In, in_filter, filter_in, in_range, in_contained, contained_in, passes_none}
@@ -315,3 +315,11 @@ next_none given fecs meanings reusable me kept e = next_is given fecs meanings r
     none : (xs : List ℕ) → slice_get xs 0 ≡ None → first_or (greatest given + 1) xs ≡ greatest given + 1
     none [] e = refl
     none (x ∷ xs) e = cc
+
+pub next_found : (given : List Given) (fecs : List (Option ℕ)) (meanings : List (Option Bind)) (reusable : List ℕ) (me : ℕ) →
+    AreKept given fecs meanings reusable me → (found : Option ℕ) → slice_get (filter (is_vacant meanings) reusable) 0 ≡ found →
+    IfSome found (λ label. next_label (record { given = given; fecs = fecs }) ≡ label) × IfSome found (λ label. label ≤ greatest given)
+    × (found ≡ None → next_label (record { given = given; fecs = fecs }) ≡ greatest given + 1)
+next_found given fecs meanings reusable me kept (Some label) e =
+    let n = next_some given fecs meanings reusable me kept label e in (n.0, n.1, λ q. cc)
+next_found given fecs meanings reusable me kept None e = (tt, tt, λ q. next_none given fecs meanings reusable me kept e)

@@ -1,5 +1,6 @@
 mod Lists
 mod Having
 mod Keeping
+mod Passing
 pub mod GivingUp
 pub mod Offering

@@ -1,5 +1,5 @@
 -- What is true of every node's labels.
-use Rattle.std.specs.Prelude.{◌≡◌, ℕ, ◌+◌, ◌-◌, ◌≤◌, ◌<◌, Bool, true, false, not, List, length, filter, Option, Some, None, is_some, slice_index_or}
+use Rattle.std.specs.Prelude.{◌≡◌, ℕ, ◌+◌, ◌-◌, ◌≤◌, ◌<◌, Bool, true, false, not, List, length, filter, drop, Option, Some, None, is_some, slice_index_or}
 use Rattle.std.specs.List.{Contains, range_with_len}
 use Rattle.mn_base.specs.declared.numbers.NodeNo.{NodeNo}
 use Rattle.mn_base.specs.declared.numbers.SiteNo.{SiteNo}
@@ -40,5 +40,7 @@ pub record AreKept (given : List Given) (fecs : List (Option ℕ)) (meanings : L
   pub node : me < length fecs
   pub own : slice_index_or fecs me None ≡ None
 
-abbrev pub Stands : Inside → Type 0
-Stands inside = AreKept inside.given.items inside.fecs.items inside.meanings.items inside.reusable.items inside.me.0
+-- labels that are passed once needn't be looked at again
+pub record Stands (inside : Inside) : Type 0 where
+  pub kept : AreKept inside.given.items inside.fecs.items inside.meanings.items inside.reusable.items inside.me.0
+  pub passed : filter (is_vacant inside.meanings.items) (drop inside.passed inside.reusable.items) ≡ filter (is_vacant inside.meanings.items) inside.reusable.items

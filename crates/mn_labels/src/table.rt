@@ -1,4 +1,4 @@
-ghost use Rattle.std.specs.Prelude.{◌≡◌, ◌≢◌, ◌+◌, ◌-◌, ◌≤◌, ◌<◌, ◌^◌, ◌↔◌, ℕ, [], ◌∷◌, ◌++◌, length, filter, slice_get, slice_set, slice_index_or, None, Some, OnOk, OnErr, IfOk, IfSome, IsErrOf, IsErr};
+ghost use Rattle.std.specs.Prelude.{◌≡◌, ◌≢◌, ◌+◌, ◌-◌, ◌≤◌, ◌<◌, ◌^◌, ◌↔◌, ℕ, [], ◌∷◌, ◌++◌, length, filter, drop, true, slice_get, slice_set, slice_index_or, None, Some, OnOk, OnErr, IfOk, IfSome, IsErrOf, IsErr};
 ghost use Rattle.std.specs.List.{All};
 ghost use Rattle.mn_base.specs.Limits.{most_labels};
 ghost use Rattle.mn_labels.specs.declared.meaning.Bind.{Bind};
@@ -25,6 +25,7 @@ pub struct Labels {
     fecs: Vec<Option<u32>>,
     meanings: Vec<Option<Bind>>, // by label from 16 on, what has it now
     reusable: Vec<u32>, // the labels that aren't attachments', the least first
+    passed: usize, // of so many of these, from the first on, none is vacant
 }
 
 impl Model for Labels {
@@ -61,6 +62,7 @@ impl Labels {
             fecs,
             meanings: Vec::new(alloc),
             reusable: Vec::new(alloc),
+            passed: 0,
         })
     }
 
@@ -172,6 +174,7 @@ impl Labels {
         if let Some(label) = self.of(fec) {
             self.meanings[(label - FIRST) as usize] = None;
             self.fecs[fec.0 as usize] = None;
+            self.passed = 0;
         }
     }
 
@@ -199,11 +202,23 @@ impl Labels {
         ensures me { self.new.me ≡ self.old.me }
     {
         if self.fecs[fec.0 as usize].is_none() {
-            match first_vacant(&self.reusable, &self.meanings) {
+            match self.vacant() {
                 Some(label) => self.reuse(fec, label),
                 None => self.make(fec),
             }
         }
+    }
+
+    /// The first label that was a FEC's and is nobody's now. Labels that were passed once aren't looked at again, until one is
+    /// given up.
+    fn vacant(&mut self) -> Option<u32>
+        ensures next { IfSome result (λ label. next_label self.old.labels ≡ label) }
+        ensures given { IfSome result (λ label. label ≤ greatest self.old.labels.given) }
+        ensures new { result ≡ None → next_label self.old.labels ≡ greatest self.old.labels.given + 1 }
+        ensures kept { self.new ≡ self.old }
+    {
+        self.passed = first_vacant(&self.reusable, &self.meanings, self.passed);
+        label_at(&self.reusable, self.passed)
     }
 
     /// A FEC without a label takes one that was a FEC's and is nobody's now.
@@ -292,6 +307,17 @@ fn meaning_at(meanings: &[Option<Bind>], place: usize) -> Option<Bind>
     }
 }
 
+/// The label at a place.
+fn label_at(labels: &[u32], place: usize) -> Option<u32>
+    ensures { result ≡ slice_get labels.now place }
+{
+    if place < labels.len() {
+        Some(labels[place])
+    } else {
+        None
+    }
+}
+
 /// Whether nothing has the label now.
 fn is_vacant(meanings: &[Option<Bind>], label: u32) -> bool
     ensures { result ≡ is_vacant meanings.now label }
@@ -299,14 +325,15 @@ fn is_vacant(meanings: &[Option<Bind>], label: u32) -> bool
     meaning_at(meanings, label.saturating_sub(FIRST) as usize).is_none()
 }
 
-/// The first of these labels that nothing has now.
-fn first_vacant(labels: &[u32], meanings: &[Option<Bind>]) -> Option<u32>
-    ensures { result ≡ slice_get (filter (is_vacant meanings.now) labels.now) 0 }
+/// The place of the first of these labels, from so many on, that nothing has now; past the last where there is none.
+fn first_vacant(labels: &[u32], meanings: &[Option<Bind>], passed: usize) -> usize
+    ensures rest { filter (is_vacant meanings.now) (drop result labels.now) ≡ filter (is_vacant meanings.now) (drop passed labels.now) }
+    ensures vacant { result < length labels.now → is_vacant meanings.now (slice_index_or labels.now result 0) ≡ true }
 {
-    for label in labels {
-        if is_vacant(meanings, *label) {
-            return Some(*label);
+    for place in passed..labels.len() {
+        if is_vacant(meanings, labels[place]) {
+            return place;
         }
     }
-    None
+    labels.len()
 }

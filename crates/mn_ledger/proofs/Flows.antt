@@ -606,12 +606,12 @@ routes_go t w p q (AddRoute a b) tick n items edge peer order full u =
 routes_go t w p q (DelRoute a b) tick n items edge peer order full u =
     tells t w p q (DelRoute a b) tick n items edge peer _ _ (told_by t w (DelRoute a b)) (loads_kept t (DelRoute a b) (Routes edge peer) refl refl items
     ∙ u.0) u.1 (in_routes edge peer (told_by t w (DelRoute a b)))
-routes_go t w p q (Import v x on) tick n items edge peer order full u =
-    tells t w p q (Import v x on) tick n items edge peer _ _ (told_by t w (Import v x on)) (loads_kept t (Import v x on) (Routes edge peer) refl refl items
-    ∙ u.0) u.1 (in_routes edge peer (told_by t w (Import v x on)))
-routes_go t w p q (Export v x on) tick n items edge peer order full u =
-    tells t w p q (Export v x on) tick n items edge peer _ _ (told_by t w (Export v x on)) (loads_kept t (Export v x on) (Routes edge peer) refl refl items
-    ∙ u.0) u.1 (in_routes edge peer (told_by t w (Export v x on)))
+routes_go t w p q (Import v on x) tick n items edge peer order full u =
+    tells t w p q (Import v on x) tick n items edge peer _ _ (told_by t w (Import v on x)) (loads_kept t (Import v on x) (Routes edge peer) refl refl items
+    ∙ u.0) u.1 (in_routes edge peer (told_by t w (Import v on x)))
+routes_go t w p q (Export v on x) tick n items edge peer order full u =
+    tells t w p q (Export v on x) tick n items edge peer _ _ (told_by t w (Export v on x)) (loads_kept t (Export v on x) (Routes edge peer) refl refl items
+    ∙ u.0) u.1 (in_routes edge peer (told_by t w (Export v on x)))
 routes_go t w p q (Attach a) tick n items edge peer order full u =
     tells t w p q (Attach a) tick n items edge peer _ _ (told_by t w (Attach a)) (loads_kept t (Attach a) (Routes edge peer) refl refl items ∙ u.0) u.1
     (in_routes edge peer (told_by t w (Attach a)))

@@ -65,8 +65,8 @@ drops w p r n h l d = adds_none w (drop_at w p r n) p (Dropped r (record { 0 = n
 delivers : (w : Packets) (p s ttl : ℕ) (b : List ℕ) → p < length w.verdicts → Adds w (deliver w p s ttl b) p
 unfolding Adds carried_on
 delivers w p s ttl b h l d =
-    adds_none w (deliver w p s ttl b) p (Delivered (record { 0 = s }) ttl (w.copies + 1))
-    (judged_is w p (Delivered (record { 0 = s }) ttl (w.copies + 1)) h) l d refl refl
+    adds_none w (deliver w p s ttl b) p (Delivered ttl (record { 0 = s }) (w.copies + 1))
+    (judged_is w p (Delivered ttl (record { 0 = s }) (w.copies + 1)) h) l d refl refl
 
 flies : (w : Packets) (p : ℕ) (tok : Token) (k : ℕ) (e : Dir) → p < length w.verdicts →
     Adds w (record (judged w p (Flying (record { 0 = k }) e)) { flying = put w.flying (channel k e) (w.flying (channel k e) ++ tok ∷ []) }) p

@@ -121,7 +121,7 @@ a_release_comes_before_the_withdraw = refl
 pub a_session_opens_anew : ends (LdpAdmin (link_no 0) false ∷ LdpAdmin (link_no 0) true ∷ Inject (site_no 0) 1 ∷ HearLdp (link_no 0) Back
     ∷ HearLdp (link_no 0) Forth ∷ HearLdp (link_no 0) Forth ∷ HearLdp (link_no 0) Back ∷ HearLdp (link_no 0) Back ∷ HearLdp (link_no 0) Back
     ∷ HearLdp (link_no 0) Back ∷ Inject (site_no 0) 1 ∷ Carry (link_no 0) Forth 0 ∷ Carry (link_no 1) Forth 0 ∷ [])
-    (packet ∷ packet ∷ []) ≡ Dropped rule.NoLsp (node_no 0) ∷ Delivered (site_no 1) 61 1 ∷ []
+    (packet ∷ packet ∷ []) ≡ Dropped rule.NoLsp (node_no 0) ∷ Delivered 61 (site_no 1) 1 ∷ []
 unfolding next knowledge_of news sessions_after peerings_after held packets_after is_not_ipv4 is_malformed is_truncated has_bad_checksum good checksum_for
     with_ttl aged in_flight bytes_flying
 a_session_opens_anew = refl
@@ -166,8 +166,8 @@ neighbours_go_by_number = refl
 -- 2. BGP and the routes of VRFs
 
 -- the import set as it was when the route was heard decides nothing
-pub an_earlier_import_set_decides_nothing : (packets_of two_links (at_start (Import (vrf_no 0) target false)
-    ∷ settled_then (Import (vrf_no 0) target true ∷ Inject (site_no 0) 1 ∷ [])) (packet ∷ [])).verdicts ≡ Flying (link_no 0) Forth ∷ []
+pub an_earlier_import_set_decides_nothing : (packets_of two_links (at_start (Import (vrf_no 0) false target)
+    ∷ settled_then (Import (vrf_no 0) true target ∷ Inject (site_no 0) 1 ∷ [])) (packet ∷ [])).verdicts ≡ Flying (link_no 0) Forth ∷ []
 unfolding next knowledge_of news sessions_after peerings_after held packets_after is_not_ipv4 is_malformed is_truncated has_bad_checksum good checksum_for
     with_ttl aged in_flight bytes_flying
 an_earlier_import_set_decides_nothing = refl
@@ -187,7 +187,7 @@ unfolding next knowledge_of news sessions_after peerings_after held packets_afte
 a_session_that_ends_takes_its_routes = refl
 
 -- an announcement with other targets takes the place of the one before
-pub a_new_announcement_takes_the_place : ends (Export (vrf_no 1) lesser_target true ∷ Export (vrf_no 1) target false ∷ HearBgp (node_no 2) (node_no 0)
+pub a_new_announcement_takes_the_place : ends (Export (vrf_no 1) true lesser_target ∷ Export (vrf_no 1) false target ∷ HearBgp (node_no 2) (node_no 0)
     ∷ Inject (site_no 0) 1 ∷ HearBgp (node_no 2) (node_no 0) ∷ Inject (site_no 0) 1 ∷ []) (packet ∷ packet ∷ []) ≡ Flying (link_no 0) Forth
     ∷ Dropped rule.NoRoute (node_no 0) ∷ []
 unfolding next knowledge_of news sessions_after peerings_after held packets_after is_not_ipv4 is_malformed is_truncated has_bad_checksum good checksum_for
@@ -196,7 +196,7 @@ a_new_announcement_takes_the_place = refl
 
 -- changed targets are announced, in ascending order, and a route without targets is withdrawn
 pub changed_targets_are_announced : (world_of two_links
-    (settled_then (Export (vrf_no 1) lesser_target true ∷ Export (vrf_no 1) target false ∷ Export (vrf_no 1) lesser_target false ∷ []))).peerings.told 2 0 ≡
+    (settled_then (Export (vrf_no 1) true lesser_target ∷ Export (vrf_no 1) false target ∷ Export (vrf_no 1) false lesser_target ∷ []))).peerings.told 2 0 ≡
     Open ∷ BgpKeepAlive ∷ Announcement (record { vrf = 1; prefix = far_block; site = 1; attachment = 1; targets = target.0 ∷ [] })
     ∷ Announcement (record { vrf = 1; prefix = far_block; site = 1; attachment = 1; targets = lesser_target.0 ∷ target.0 ∷ [] })
     ∷ Announcement (record { vrf = 1; prefix = far_block; site = 1; attachment = 1; targets = lesser_target.0 ∷ [] }) ∷ Withdrawal 1 far_block ∷ []
@@ -223,22 +223,22 @@ the_lesser_edge_opens_first = refl
 
 -- a default route of the own VRF is shorter than the far route; of equal prefixes the own static is preferred
 pub the_longest_prefix_is_best : ends (AddRoute (site_no 0) (block 0 0) ∷ Inject (site_no 0) 1 ∷ AddRoute (site_no 0) far_block ∷ Inject (site_no 0) 1 ∷ [])
-    (packet ∷ packet ∷ []) ≡ Flying (link_no 0) Forth ∷ Delivered (site_no 0) 63 1 ∷ []
+    (packet ∷ packet ∷ []) ≡ Flying (link_no 0) Forth ∷ Delivered 63 (site_no 0) 1 ∷ []
 unfolding next knowledge_of news sessions_after peerings_after held packets_after is_not_ipv4 is_malformed is_truncated has_bad_checksum good checksum_for
     with_ttl aged in_flight bytes_flying
 the_longest_prefix_is_best = refl
 
 -- a VRF holds its own statics whatever its targets
-pub own_statics_need_no_target : ends (Import (vrf_no 0) target false ∷ Export (vrf_no 0) target false ∷ AddRoute (site_no 0) far_block
-    ∷ Inject (site_no 0) 1 ∷ []) (packet_of_ttl_2 ∷ []) ≡ Delivered (site_no 0) 1 1 ∷ []
+pub own_statics_need_no_target : ends (Import (vrf_no 0) false target ∷ Export (vrf_no 0) false target ∷ AddRoute (site_no 0) far_block
+    ∷ Inject (site_no 0) 1 ∷ []) (packet_of_ttl_2 ∷ []) ≡ Delivered 1 (site_no 0) 1 ∷ []
 unfolding next knowledge_of news sessions_after peerings_after held packets_after is_not_ipv4 is_malformed is_truncated has_bad_checksum good checksum_for
     with_ttl aged in_flight bytes_flying
 own_statics_need_no_target = refl
 
 -- another VRF of the edge imports by target, and only what is attached
 pub another_vrf_of_the_edge : (packets_of wider
-    (map at_start (Inject (site_no 2) 1 ∷ Import (vrf_no 2) target false ∷ Inject (site_no 2) 1 ∷ Import (vrf_no 2) target true ∷ Detach (site_no 0)
-    ∷ Inject (site_no 2) 1 ∷ [])) (packet_back ∷ packet_back ∷ packet_back ∷ [])).verdicts ≡ Delivered (site_no 0) 63 1 ∷ Dropped rule.NoRoute (node_no 0)
+    (map at_start (Inject (site_no 2) 1 ∷ Import (vrf_no 2) false target ∷ Inject (site_no 2) 1 ∷ Import (vrf_no 2) true target ∷ Detach (site_no 0)
+    ∷ Inject (site_no 2) 1 ∷ [])) (packet_back ∷ packet_back ∷ packet_back ∷ [])).verdicts ≡ Delivered 63 (site_no 0) 1 ∷ Dropped rule.NoRoute (node_no 0)
     ∷ Dropped rule.NoRoute (node_no 0) ∷ []
 unfolding next knowledge_of news sessions_after peerings_after held packets_after is_not_ipv4 is_malformed is_truncated has_bad_checksum good checksum_for
     with_ttl aged in_flight bytes_flying
@@ -301,7 +301,7 @@ an_ended_session_forgets = refl
 
 -- two packets are delivered, each with its own TTL, and numbered in the order of delivery
 pub two_are_delivered : ends (Inject (site_no 0) 1 ∷ Inject (site_no 0) 1 ∷ Carry (link_no 0) Forth 1 ∷ Carry (link_no 1) Forth 0
-    ∷ Carry (link_no 0) Forth 0 ∷ Carry (link_no 1) Forth 0 ∷ []) (packet ∷ packet_of_ttl_4 ∷ []) ≡ Delivered (site_no 1) 61 2 ∷ Delivered (site_no 1) 1 1
+    ∷ Carry (link_no 0) Forth 0 ∷ Carry (link_no 1) Forth 0 ∷ []) (packet ∷ packet_of_ttl_4 ∷ []) ≡ Delivered 61 (site_no 1) 2 ∷ Delivered 1 (site_no 1) 1
     ∷ []
 unfolding next knowledge_of news sessions_after peerings_after held packets_after is_not_ipv4 is_malformed is_truncated has_bad_checksum good checksum_for
     with_ttl aged in_flight bytes_flying
@@ -336,7 +336,7 @@ rules_at_entry_in_order = refl
 -- 4. Refusals
 
 -- a target, a switch, a site, a session and a link that are so already
-pub so_already : map (λ step. refusal two_links settling [] step []) (Import (vrf_no 0) target true ∷ Import (vrf_no 0) lesser_target false
+pub so_already : map (λ step. refusal two_links settling [] step []) (Import (vrf_no 0) true target ∷ Import (vrf_no 0) false lesser_target
     ∷ LdpAdmin (link_no 0) true ∷ Attach (site_no 0) ∷ BgpUp (node_no 0) (node_no 2) ∷ LinkUp (link_no 0) ∷ []) ≡ Some Unchanged ∷ Some Unchanged
     ∷ Some Unchanged ∷ Some Unchanged ∷ Some Unchanged ∷ Some Unchanged ∷ []
 unfolding next knowledge_of news sessions_after peerings_after held packets_after is_not_ipv4 is_malformed is_truncated has_bad_checksum good checksum_for
@@ -344,7 +344,7 @@ unfolding next knowledge_of news sessions_after peerings_after held packets_afte
 so_already = refl
 
 -- and those that are not
-pub not_so_yet : map (λ step. refusal two_links settling [] step []) (Import (vrf_no 0) target false ∷ Export (vrf_no 0) lesser_target true
+pub not_so_yet : map (λ step. refusal two_links settling [] step []) (Import (vrf_no 0) false target ∷ Export (vrf_no 0) true lesser_target
     ∷ LdpAdmin (link_no 0) false ∷ Detach (site_no 0) ∷ BgpDown (node_no 0) (node_no 2) ∷ LinkDown (link_no 0) ∷ []) ≡ None ∷ None ∷ None ∷ None ∷ None
     ∷ None ∷ []
 unfolding next knowledge_of news sessions_after peerings_after held packets_after is_not_ipv4 is_malformed is_truncated has_bad_checksum good checksum_for
@@ -382,8 +382,8 @@ abbrev with_targets : ℕ → Config
 with_targets count = record (first_config two_links) { imports = λ v. range_with_len 0 count; exports = λ v. range_with_len 0 count }
 
 -- a set has at most 16 targets
-pub targets_are_full : is_targets_full (with_targets 15) (Import (vrf_no 0) target true) ∷ is_targets_full (with_targets 16) (Import (vrf_no 0) target true)
-    ∷ is_targets_full (with_targets 16) (Export (vrf_no 0) target true) ∷ is_targets_full (with_targets 16) (Export (vrf_no 0) target false) ∷ [] ≡ false
+pub targets_are_full : is_targets_full (with_targets 15) (Import (vrf_no 0) true target) ∷ is_targets_full (with_targets 16) (Import (vrf_no 0) true target)
+    ∷ is_targets_full (with_targets 16) (Export (vrf_no 0) true target) ∷ is_targets_full (with_targets 16) (Export (vrf_no 0) false target) ∷ [] ≡ false
     ∷ true ∷ true ∷ false ∷ []
 unfolding next knowledge_of news sessions_after peerings_after held packets_after is_not_ipv4 is_malformed is_truncated has_bad_checksum good checksum_for
     with_ttl aged in_flight bytes_flying
@@ -498,7 +498,7 @@ all_full = record (noticed 2000000) { config = record (with_targets 16) { attach
 
 -- of several causes the first is told
 pub causes_in_order : map (λ step. refusal_at two_links all_full no_packets 4000000 step []) (LinkDown (link_no 0) ∷ Detach (site_no 0)
-    ∷ Carry (link_no 0) Forth 0 ∷ AddRoute (site_no 0) near_block ∷ DelRoute (site_no 0) far_block ∷ Import (vrf_no 0) target true ∷ Attach (site_no 0)
+    ∷ Carry (link_no 0) Forth 0 ∷ AddRoute (site_no 0) near_block ∷ DelRoute (site_no 0) far_block ∷ Import (vrf_no 0) true target ∷ Attach (site_no 0)
     ∷ LinkUp (link_no 0) ∷ Learn (node_no 0) (link_no 0) ∷ []) ≡ Some Unchanged ∷ Some Unchanged ∷ Some Empty ∷ Some (PrefixTaken (site_no 0))
     ∷ Some NoRouteThere ∷ Some TargetsFull ∷ Some LabelsSpent ∷ Some NetFull ∷ Some TooManySteps ∷ []
 unfolding next knowledge_of news sessions_after peerings_after held packets_after is_not_ipv4 is_malformed is_truncated has_bad_checksum good checksum_for

@@ -59,12 +59,12 @@ not_one p = omega arith
 by_once : (v : Verdict) (c e : ℕ) → c ≢ e → 1 ≤ times_by v c → (times_by v c ≡ 1) × (times_by v e ≡ 0)
 by_once (Flying l d) c e h p =
     elim (eqb_tells (channel l.0 d) c) [ inl q ↦ (ap one_if q.0, one_other (channel l.0 d) e (λ r. h (sym q.1 ∙ r))) | inr q ↦ absurd (not_one (rw q.0 at p)) ]
-by_once (Delivered s t n) c e h p = absurd (not_one p)
+by_once (Delivered t s n) c e h p = absurd (not_one p)
 by_once (Dropped r n) c e h p = absurd (not_one p)
 
 by_one : (v : Verdict) (c : ℕ) → times_by v c ≤ 1
 by_one (Flying l d) c = elim (eqb_tells (channel l.0 d) c) [ inl q ↦ rw q.0 (omega arith) | inr q ↦ rw q.0 (omega arith) ]
-by_one (Delivered s t n) c = omega arith
+by_one (Delivered t s n) c = omega arith
 by_one (Dropped r n) c = omega arith
 
 -- the packet is on no channel, each other one is where its verdict says, and there are so many
@@ -97,7 +97,7 @@ times-put : (f : ℕ → List Token) (c : ℕ) (ks : List Token) (j b x : ℕ) �
     (b ≢ c → times_in j (f b) ≡ x) → times_in j (put f c ks b) ≡ x
 times-put f c ks j b x g h = elim (eqb_tells b c) [ inl q ↦ rw q.0 (g q.1) | inr q ↦ rw q.0 (h q.1) ]
 
-past : (w : Packets) (j : ℕ) → length w.verdicts ≤ j → verdict_on w j ≡ Delivered (record { 0 = 0 }) 0 0
+past : (w : Packets) (j : ℕ) → length w.verdicts ≤ j → verdict_on w j ≡ Delivered 0 (record { 0 = 0 }) 0
 past w j h = grind (arith, common_steps, h)
 
 flown_places : (w : Packets) (p count : ℕ) (tok : Token) (l : ℕ) (d : Dir) → Loose w p count → tok.packet ≡ p →
@@ -141,7 +141,7 @@ loosen w c n count k h e =
       paths = h.paths;
     }
 
-more : (w : Packets) (v : Verdict) (j : ℕ) → j ≢ length w.verdicts → get_or (w.verdicts ++ v ∷ []) j (Delivered (record { 0 = 0 }) 0 0) ≡ verdict_on w j
+more : (w : Packets) (v : Verdict) (j : ℕ) → j ≢ length w.verdicts → get_or (w.verdicts ++ v ∷ []) j (Delivered 0 (record { 0 = 0 }) 0) ≡ verdict_on w j
 more w v j h = grind (arith, common_steps, h)
 
 pub fresh : (w : Packets) (count edge : ℕ) → AreInOnePlace w count → Loose (one_more w edge) (length w.verdicts) (1 + count)
@@ -159,7 +159,7 @@ dropped w p count r n k = settle w p count (Dropped r (record { 0 = n })) k (λ 
 
 delivered : (w : Packets) (p count s ttl : ℕ) (b : List ℕ) → Loose w p count → AreInOnePlace (deliver w p s ttl b) count
 delivered w p count s ttl b k =
-    let h = settle w p count (Delivered (record { 0 = s }) ttl (w.copies + 1)) k (λ c. refl) in
+    let h = settle w p count (Delivered ttl (record { 0 = s }) (w.copies + 1)) k (λ c. refl) in
     record { places = h.places; verdicts = h.verdicts; paths = h.paths }
 
 hopped : (t : Network) (w : Packets) (k : Token) (count x : ℕ) (r : Rule) (o : Option (ℕ × ℕ)) → Loose w k.packet count →

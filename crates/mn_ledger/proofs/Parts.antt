@@ -38,8 +38,8 @@ config_kept t w (BgpUp a b) h = cc
 config_kept t w (BgpDown a b) h = cc
 config_kept t w (AddRoute s p) h = cc
 config_kept t w (DelRoute s p) h = cc
-config_kept t w (Import v x on) h = cc
-config_kept t w (Export v x on) h = cc
+config_kept t w (Import v on x) h = cc
+config_kept t w (Export v on x) h = cc
 config_kept t w (Attach s) h = cc
 config_kept t w (Detach s) h = cc
 
@@ -65,8 +65,8 @@ peerings_kept t w (BgpDown a b) h = cc
 peerings_kept t w (HearBgp a b) h = cc
 peerings_kept t w (AddRoute s p) h = cc
 peerings_kept t w (DelRoute s p) h = cc
-peerings_kept t w (Import v x on) h = cc
-peerings_kept t w (Export v x on) h = cc
+peerings_kept t w (Import v on x) h = cc
+peerings_kept t w (Export v on x) h = cc
 peerings_kept t w (Attach s) h = cc
 peerings_kept t w (Detach s) h = cc
 peerings_kept t w _ h = refl
@@ -99,8 +99,8 @@ held_kept t w (BgpDown a b) edge v h = cc
 held_kept t w (HearBgp a b) edge v h = cc
 held_kept t w (AddRoute s p) edge v h = cc
 held_kept t w (DelRoute s p) edge v h = cc
-held_kept t w (Import x r on) edge v h = cc
-held_kept t w (Export x r on) edge v h = cc
+held_kept t w (Import x on r) edge v h = cc
+held_kept t w (Export x on r) edge v h = cc
 held_kept t w (Attach s) edge v h = cc
 held_kept t w (Detach s) edge v h = cc
 held_kept t w _ edge v h = refl
@@ -111,8 +111,8 @@ exports_kept t w (BgpDown a b) edge h = cc
 exports_kept t w (HearBgp a b) edge h = cc
 exports_kept t w (AddRoute s p) edge h = cc
 exports_kept t w (DelRoute s p) edge h = cc
-exports_kept t w (Import x r on) edge h = cc
-exports_kept t w (Export x r on) edge h = cc
+exports_kept t w (Import x on r) edge h = cc
+exports_kept t w (Export x on r) edge h = cc
 exports_kept t w (Attach s) edge h = cc
 exports_kept t w (Detach s) edge h = cc
 exports_kept t w _ edge h = refl
@@ -245,11 +245,11 @@ targets_say : (f : ℕ → List ℕ) (k y : ℕ) (on : Bool) (v x : ℕ) →
 targets_say f k y on v x = elim (eqb_tells v k) [ inl p ↦ rw (p.0, p.1) (set_says (f k) y on x) | inr p ↦ rw p.0 refl ]
 
 import_set : (t : Network) (v x : ℕ) → IsSet t (λ w. has_target (w.config.imports v) x) (imports_target v x)
-import_set t v x w (Import k y on) = targets_say w.config.imports k.0 y.0 on v x
+import_set t v x w (Import k on y) = targets_say w.config.imports k.0 y.0 on v x
 import_set t v x w _ = refl
 
 export_set : (t : Network) (v x : ℕ) → IsSet t (λ w. has_target (w.config.exports v) x) (exports_target v x)
-export_set t v x w (Export k y on) = targets_say w.config.exports k.0 y.0 on v x
+export_set t v x w (Export k on y) = targets_say w.config.exports k.0 y.0 on v x
 export_set t v x w _ = refl
 
 -- a site's attachment

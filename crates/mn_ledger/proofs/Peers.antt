@@ -442,8 +442,8 @@ peers_go t w k (step.HearBgp a b) order full h =
     (hear_step t w.config w.peerings (bgp_counted w.peerings (step.HearBgp a b)) a.0 b.0 order refl back (above _ _ parts.1) alive h)
 peers_go t w k (step.AddRoute s prefix) order full h = config_step t w.config (config_after w.config (step.AddRoute s prefix)) w.peerings (λ a b. refl) h
 peers_go t w k (step.DelRoute s prefix) order full h = config_step t w.config (config_after w.config (step.DelRoute s prefix)) w.peerings (λ a b. refl) h
-peers_go t w k (step.Import v target on) order full h = config_step t w.config (config_after w.config (step.Import v target on)) w.peerings (λ a b. refl) h
-peers_go t w k (step.Export v target on) order full h = config_step t w.config (config_after w.config (step.Export v target on)) w.peerings (λ a b. refl) h
+peers_go t w k (step.Import v on target) order full h = config_step t w.config (config_after w.config (step.Import v on target)) w.peerings (λ a b. refl) h
+peers_go t w k (step.Export v on target) order full h = config_step t w.config (config_after w.config (step.Export v on target)) w.peerings (λ a b. refl) h
 peers_go t w k (step.Attach s) order full h = config_step t w.config (config_after w.config (step.Attach s)) w.peerings (λ a b. refl) h
 peers_go t w k (step.Detach s) order full h = config_step t w.config (config_after w.config (step.Detach s)) w.peerings (λ a b. refl) h
 peers_go t w k _ order full h = λ edge peer d. let g = h edge peer d in record { heard = g.heard; silent = g.silent; talk = g.talk }

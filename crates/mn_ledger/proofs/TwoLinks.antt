@@ -153,7 +153,7 @@ abbrev pub across_both : List JournalEntry
 across_both = settling ++ at_start (Inject (site_no 0) 1) ∷ at_start (Carry (link_no 0) Forth 0) ∷ at_start (Carry (link_no 1) Forth 0) ∷ []
 
 -- it reaches site b with TTL 61, as the first delivery
-pub arrives_at_the_other_site : (packets_of two_links across_both (packet ∷ [])).verdicts ≡ Delivered (site_no 1) 61 1 ∷ []
+pub arrives_at_the_other_site : (packets_of two_links across_both (packet ∷ [])).verdicts ≡ Delivered 61 (site_no 1) 1 ∷ []
 unfolding next knowledge_of news sessions_after peerings_after held packets_after is_not_ipv4 is_malformed is_truncated has_bad_checksum good checksum_for
     with_ttl aged in_flight bytes_flying
 arrives_at_the_other_site = refl
@@ -172,7 +172,7 @@ unfolding next knowledge_of news sessions_after peerings_after held packets_afte
 arrives_with_a_new_checksum = refl
 
 -- two links take four of the TTL, and leave one at least
-pub arrives_with_ttl_1 : (packets_of two_links across_both (packet_of_ttl_4 ∷ [])).verdicts ≡ Delivered (site_no 1) 1 1 ∷ []
+pub arrives_with_ttl_1 : (packets_of two_links across_both (packet_of_ttl_4 ∷ [])).verdicts ≡ Delivered 1 (site_no 1) 1 ∷ []
 unfolding next knowledge_of news sessions_after peerings_after held packets_after is_not_ipv4 is_malformed is_truncated has_bad_checksum good checksum_for
     with_ttl aged in_flight bytes_flying
 arrives_with_ttl_1 = refl
@@ -199,7 +199,7 @@ site_comes_back =
 -- the near VRF stops importing, and imports again
 abbrev pub import_comes_back : List JournalEntry
 import_comes_back =
-    settling ++ at_start (Import (vrf_no 0) target false) ∷ at_start (Inject (site_no 0) 1) ∷ at_start (Import (vrf_no 0) target true)
+    settling ++ at_start (Import (vrf_no 0) false target) ∷ at_start (Inject (site_no 0) 1) ∷ at_start (Import (vrf_no 0) true target)
     ∷ at_start (Inject (site_no 0) 1) ∷ at_start (Carry (link_no 0) Forth 0) ∷ at_start (Carry (link_no 1) Forth 0) ∷ []
 
 -- LDP is switched off at the first link
@@ -226,7 +226,7 @@ the_new_attachment_is_another_one = refl
 
 -- the import set is looked at as it is, and no message is needed
 pub import_is_looked_at_now : (packets_of two_links import_comes_back (packet ∷ packet ∷ [])).verdicts ≡ Dropped rule.NoRoute (node_no 0)
-    ∷ Delivered (site_no 1) 61 1 ∷ []
+    ∷ Delivered 61 (site_no 1) 1 ∷ []
 unfolding next knowledge_of news sessions_after peerings_after held packets_after is_not_ipv4 is_malformed is_truncated has_bad_checksum good checksum_for
     with_ttl aged in_flight bytes_flying
 import_is_looked_at_now = refl
@@ -245,7 +245,7 @@ unfolding next knowledge_of news sessions_after peerings_after held packets_afte
 links_cut_what_they_carry = refl
 
 -- the other one is the first delivery
-pub the_other_one_arrives : (packets_of two_links one_is_lost (packet ∷ packet ∷ [])).verdicts ≡ Dropped rule.Lost (node_no 0) ∷ Delivered (site_no 1) 61 1 ∷ []
+pub the_other_one_arrives : (packets_of two_links one_is_lost (packet ∷ packet ∷ [])).verdicts ≡ Dropped rule.Lost (node_no 0) ∷ Delivered 61 (site_no 1) 1 ∷ []
 unfolding next knowledge_of news sessions_after peerings_after held packets_after is_not_ipv4 is_malformed is_truncated has_bad_checksum good checksum_for
     with_ttl aged in_flight bytes_flying
 the_other_one_arrives = refl

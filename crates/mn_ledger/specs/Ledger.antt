@@ -68,8 +68,8 @@ config_after config (BgpUp a b) = record config { bgp_on = put_pair config.bgp_o
 config_after config (BgpDown a b) = record config { bgp_on = put_pair config.bgp_on a.0 b.0 false }
 config_after config (AddRoute s prefix) = record config { statics = config.statics ++ record { site = s.0; prefix = prefix } ∷ [] }
 config_after config (DelRoute s prefix) = record config { statics = filter (λ static. not (is_static s.0 prefix static)) config.statics }
-config_after config (Import v target on) = record config { imports = put config.imports v.0 (with_target target.0 on (config.imports v.0)) }
-config_after config (Export v target on) = record config { exports = put config.exports v.0 (with_target target.0 on (config.exports v.0)) }
+config_after config (Import v on target) = record config { imports = put config.imports v.0 (with_target target.0 on (config.imports v.0)) }
+config_after config (Export v on target) = record config { exports = put config.exports v.0 (with_target target.0 on (config.exports v.0)) }
 config_after config (Attach s) =
     record config { attached = put config.attached s.0 (Some (config.attaches s.0 + 2)); attaches = put config.attaches s.0 (config.attaches s.0 + 1) }
 config_after config (Detach s) = record config { attached = put config.attached s.0 None }

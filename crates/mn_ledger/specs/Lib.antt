@@ -7,6 +7,7 @@ pub mod Exports
 pub mod Bgp
 pub mod Held
 pub mod Eligible
+pub mod Heads
 pub mod Packets
 pub mod Time
 pub mod Ledger

@@ -65,7 +65,7 @@ visited packets packet node = record packets { paths = slice_set packets.paths p
 
 -- it reaches the site with this TTL
 abbrev pub deliver : Packets → ℕ → ℕ → ℕ → List ℕ → Packets
-deliver packets packet site ttl bytes = record (judged packets packet (Delivered (record { 0 = site }) ttl (packets.copies + 1))) {
+deliver packets packet site ttl bytes = record (judged packets packet (Delivered ttl (record { 0 = site }) (packets.copies + 1))) {
   copies = packets.copies + 1;
   delivered = Some (aged bytes (ttl_of bytes - ttl));
 }

@@ -108,11 +108,11 @@ makes_attached s _ = None
 
 -- whether a step gives a set a target or takes it away
 abbrev pub imports_target : ℕ → ℕ → Step → Option Bool
-imports_target v target (Import vrf changed on) = cond (v == vrf.0) (cond (target == changed.0) (Some on) None) None
+imports_target v target (Import vrf on changed) = cond (v == vrf.0) (cond (target == changed.0) (Some on) None) None
 imports_target v target _ = None
 
 abbrev pub exports_target : ℕ → ℕ → Step → Option Bool
-exports_target v target (Export vrf changed on) = cond (v == vrf.0) (cond (target == changed.0) (Some on) None) None
+exports_target v target (Export vrf on changed) = cond (v == vrf.0) (cond (target == changed.0) (Some on) None) None
 exports_target v target _ = None
 
 -- whether a step gives a site a prefix or takes it away

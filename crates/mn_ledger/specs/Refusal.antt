@@ -35,8 +35,8 @@ is_unchanged config (LinkDown l) = not (config.is_up l.0)
 is_unchanged config (LdpAdmin l on) = agree on (config.ldp_on l.0)
 is_unchanged config (BgpUp a b) = config.bgp_on a.0 b.0
 is_unchanged config (BgpDown a b) = not (config.bgp_on a.0 b.0)
-is_unchanged config (Import v target on) = agree on (has_target (config.imports v.0) target.0)
-is_unchanged config (Export v target on) = agree on (has_target (config.exports v.0) target.0)
+is_unchanged config (Import v on target) = agree on (has_target (config.imports v.0) target.0)
+is_unchanged config (Export v on target) = agree on (has_target (config.exports v.0) target.0)
 is_unchanged config (Attach s) = is_some (config.attached s.0)
 is_unchanged config (Detach s) = is_none (config.attached s.0)
 is_unchanged config _ = false
@@ -70,8 +70,8 @@ static_refusal topology config _ = None
 
 -- one more target than a set may have
 abbrev pub is_targets_full : Config → Step → Bool
-is_targets_full config (Import v target true) = nat_le most_targets (length (config.imports v.0))
-is_targets_full config (Export v target true) = nat_le most_targets (length (config.exports v.0))
+is_targets_full config (Import v true target) = nat_le most_targets (length (config.imports v.0))
+is_targets_full config (Export v true target) = nat_le most_targets (length (config.exports v.0))
 is_targets_full config _ = false
 
 -- how many labels a node has given: one for each other node's FEC, and one for each attachment of its sites

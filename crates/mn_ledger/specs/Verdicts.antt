@@ -27,7 +27,7 @@ times_by _ at = 0
 
 -- the verdict on a packet; past the last there is none that flies
 abbrev pub verdict_on : Packets → ℕ → Verdict
-verdict_on packets packet = slice_index_or packets.verdicts packet (Delivered (record { 0 = 0 }) 0 0)
+verdict_on packets packet = slice_index_or packets.verdicts packet (Delivered 0 (record { 0 = 0 }) 0)
 
 -- each packet flies once where its verdict says so, and in no other place; each that was injected has one verdict and one path
 pub record AreInOnePlace (packets : Packets) (count : ℕ) : Type 0 where

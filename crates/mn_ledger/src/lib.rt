@@ -14,7 +14,7 @@
 //!
 //! - `specs/World`: the records; `specs/Places`: what a topology says by number; `specs/Tables`: tables by number
 //! - `specs/Transport`: views, LDP sessions and where a node can send; `specs/Exports`, `specs/Bgp`, `specs/Held`: what edges
-//!   export, what they tell each other, and which routes a VRF holds
+//!   export, what they tell each other, and which routes a VRF holds; `specs/Heads`: the prefixes of these, each with its best route
 //! - `specs/Entry`, `specs/Packets`: entry, hops and ends; `specs/Ledger`: the start, one step, a journal
 //! - `specs/Refusal`: which steps are refused; `specs/Lawful`: journals of which none is
 //! - `specs/Items`: what is in flight, with numbers and due ticks; `specs/Settled`: settled worlds

@@ -30,7 +30,7 @@ label-other : (r : Option (List (Option ℕ))) (q p : ℕ) (l : Option ℕ) → 
 label-other None q p l d = refl
 label-other (Some row) q p l d = get_or-set_other row q p l None d
 
-row-other : (rows : List (Option (List (Option ℕ)))) (k h q p : ℕ) (l : Option ℕ) → p ≢ q →
+pub row-other : (rows : List (Option (List (Option ℕ)))) (k h q p : ℕ) (l : Option ℕ) → p ≢ q →
     label_learned (slice_index_or (slice_set rows k (with_label (slice_index_or rows k None) q l)) h None) p ≡ label_learned (slice_index_or rows h None) p
 row-other [] k h q p l d = refl
 row-other (r ∷ rows) zero zero q p l d = label-other r q p l d
@@ -142,7 +142,7 @@ apart-before q least (x ∷ xs) h a = (differ q least x h a.0, apart-before q (x
     less : (q least x : ℕ) → q < least → least ≤ x → q < x + 1
     less q least x h g = omega (arith, h, g)
 
-flat_all : {A : Type 0} (f g : ℕ → List A) (n least : ℕ) →
+pub flat_all : {A : Type 0} (f g : ℕ → List A) (n least : ℕ) →
     ((q : ℕ) → q < least + n → f q ≡ g q) → flat_map f (range_with_len least n) ≡ flat_map g (range_with_len least n)
 flat_all f g zero least same = refl
 flat_all f g (suc n) least same =
@@ -202,15 +202,15 @@ below-range (suc n) least end h = (omega (arith, h), below-range n (least + 1) e
 -- 3. What is told
 
 -- what is told of a FEC by what was offered, and by what it is to be
-was : (b a : Bindings) (es : List LibEvent) (q : ℕ) → q < nodes b → tells_of (slice_index_or (offered b) q false) a es q ≡ told_since a es (so_far b q)
+pub was : (b a : Bindings) (es : List LibEvent) (q : ℕ) → q < nodes b → tells_of (slice_index_or (offered b) q false) a es q ≡ told_since a es (so_far b q)
 was b a es q h = ap (λ o. tells_of o a es q) (get_or-map-range_with_len (offers b) 0 (nodes b) q q false h (omega arith))
 
-not_ended : (x y : Bool) (q : ℕ) → x ≡ y → cond (x && not y) (q ∷ []) [] ≡ []
+pub not_ended : (x y : Bool) (q : ℕ) → x ≡ y → cond (x && not y) (q ∷ []) [] ≡ []
 not_ended true true q e = refl
 not_ended false y q e = refl
 not_ended true false q e = cc
 
-not_begun : (x y : Bool) (q : ℕ) → x ≡ y → cond (not x && y) (q ∷ []) [] ≡ []
+pub not_begun : (x y : Bool) (q : ℕ) → x ≡ y → cond (not x && y) (q ∷ []) [] ≡ []
 not_begun true y q e = refl
 not_begun false false q e = refl
 not_begun false true q e = cc

@@ -1,6 +1,6 @@
 -- Of which FECs something may have to be told after a change of the bindings.
-use Rattle.std.specs.Prelude.{ℕ, ◌≡◌, ◌≢◌, ◌≤◌, ◌<◌, ◌+◌, ◌&&◌, not, cond, List, [], ◌∷◌, map, Option, Some, None, ⊤}
-use Rattle.std.specs.List.{All, flat_map, range_with_len}
+use Rattle.std.specs.Prelude.{ℕ, ◌≡◌, ◌≢◌, ◌≤◌, ◌<◌, ◌+◌, ◌&&◌, not, cond, true, List, [], ◌∷◌, map, Option, Some, None, ⊤}
+use Rattle.std.specs.List.{All, flat_map, list_all, range_with_len}
 use Rattle.std.specs.Option.{option_to_list}
 use Rattle.mn_lib.specs.declared.event.LibEvent.{LibEvent}
 use Rattle.mn_lib.specs.declared.event.LibEvent.TheVariants as event
@@ -50,6 +50,10 @@ so_far bindings fec = record { fec = record { 0 = fec }; offered = offers bindin
 
 abbrev pub so_far_in : Bindings → LibEvent → List SoFar
 so_far_in bindings event = map (so_far bindings) (option_to_list (fec_of event))
+
+-- each event is of a FEC, in node order and none twice, and all of these are offered already
+abbrev pub AreOfOffered : Bindings → List LibEvent → Type 0
+AreOfOffered bindings events = InOrder 0 events × (list_all (λ so_far. so_far.offered) (flat_map (so_far_in bindings) events) ≡ true)
 
 -- what is told of a FEC since then
 abbrev pub told_since : Bindings → List LibEvent → SoFar → List Tell

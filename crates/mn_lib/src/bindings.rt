@@ -1,10 +1,11 @@
-ghost use Rattle.std.specs.Prelude.{ℕ, ◌≡◌, ◌≤◌, ◌<◌, ◌++◌, ◌==◌, ◌||◌, List, [], length, slice_index_or, slice_set, replicate, map, IfOk, OnOk, OnErr, is_some, true, false, Bool};
+ghost use Rattle.std.specs.Prelude.{ℕ, ◌≡◌, ◌≤◌, ◌<◌, ◌++◌, ◌==◌, ◌||◌, ◌↔◌, List, [], length, slice_index_or, slice_set, replicate, map, IfOk, OnOk, OnErr, is_some, true, false, Bool};
 ghost use Rattle.std.specs.List.{All, flat_map, list_all, range_with_len};
 ghost use Rattle.mn_lib.specs.Bindings.{nothing_heard, nodes, is_open, usable, offers, after_event, after_events, EventFits, EventsFit, row_of, with_label, label_learned};
 ghost use Rattle.mn_lib.specs.declared.undo.Undo.TheVariants.{Label};
 ghost use Rattle.mn_lib.specs.Undoing.{heard_label, undone, all_undone, undo_of};
 ghost use Rattle.mn_lib.specs.Tells.{tells, told, tells_of, releases, closes, opens};
-ghost use Rattle.mn_lib.specs.News.{fecs_in, InOrder, AreBelow, begun, so_far, so_far_in, told_since, AreAllNews};
+ghost use Rattle.mn_lib.specs.Aside.{is_hop, is_aside};
+ghost use Rattle.mn_lib.specs.News.{fecs_in, InOrder, AreBelow, begun, so_far, so_far_in, told_since, AreAllNews, AreOfOffered};
 
 use crate::event::{LibEvent, Tell, TellKind, closes, opened_alone, opens, opens_any};
 use crate::news::{SoFar, are_of_fecs};
@@ -22,6 +23,7 @@ pub(crate) struct Bound {
     alloc: Global,
     me: NodeNo,
     heard: Vec<Option<Row>>,
+    opened: Vec<bool>, // by neighbour, whether it is open: who tells all of them reads no row
     hops: Vec<Option<NodeNo>>,
 }
 
@@ -49,12 +51,14 @@ impl Bound {
         for _ in 0..nodes {
             heard.push(None)?;
         }
+        let opened = vec![in alloc; false; nodes as usize]?;
         let mut hops = Vec::new(alloc);
         hops.resize(nodes as usize, None)?;
         Ok(Bound {
             alloc,
             me,
             heard,
+            opened,
             hops,
         })
     }
@@ -88,14 +92,7 @@ impl Bound {
         ensures rows { length self.now.heard ≡ nodes self.now }
     {
         let at = to.0 as usize;
-        if at < self.heard.len() {
-            match &self.heard[at] {
-                None => false,
-                Some(_) => true,
-            }
-        } else {
-            false
-        }
+        at < self.opened.len() && self.opened[at]
     }
 
     /// The label that a neighbour said last, where it is open and its last word of the FEC was a Mapping.
@@ -174,7 +171,8 @@ impl Bound {
     /// Whether an offer may begin by these events: not where each is of a FEC that is offered already.
     pub fn may_begin(&self, events: &[LibEvent]) -> bool
         requires { EventsFit self.now events.now }
-        ensures { result ≡ false → begun self.now (after_events self.now events.now) ≡ [] }
+        ensures exact { result ≡ false ↔ AreOfOffered self.now events.now }
+        ensures none { result ≡ false → begun self.now (after_events self.now events.now) ≡ [] }
     {
         !are_of_fecs(events) || !self.are_offered(events)
     }
@@ -194,6 +192,32 @@ impl Bound {
         true
     }
 
+    /// Whether all that the event does is that a neighbour maps a FEC, which isn't its next hop.
+    pub fn is_aside(&self, event: LibEvent) -> bool
+        requires { EventFits self.now event }
+        ensures { result ≡ is_aside self.now event }
+    {
+        match event {
+            LibEvent::Map(from, fec, _) => !is_hop(self.hops[fec.0 as usize], from),
+            LibEvent::Opened(_)
+            | LibEvent::Closed(_)
+            | LibEvent::Withdraw(_, _)
+            | LibEvent::Released(_, _)
+            | LibEvent::Next(_, _) => false,
+        }
+    }
+
+    /// Takes such an event.
+    pub fn hear_aside(&mut self, event: LibEvent)
+        requires fit { EventFits self.old event }
+        requires aside { is_aside self.old event ≡ true }
+        ensures { self.new ≡ after_event self.old event }
+    {
+        if let LibEvent::Map(from, fec, label) = event {
+            let _ = self.hear(from, fec, Some(label));
+        }
+    }
+
     /// Takes an event, and says what puts it back.
     fn event(&mut self, event: LibEvent) -> Result<Undo, AllocError>
         requires { EventFits self.old event }
@@ -206,9 +230,13 @@ impl Bound {
             LibEvent::Opened(from) => {
                 let row = Row::new(self.alloc, self.hops.len())?;
                 self.heard[from.0 as usize] = Some(row);
+                self.opened[from.0 as usize] = true;
                 Ok(Undo::Row(from, None))
             }
-            LibEvent::Closed(from) => Ok(Undo::Row(from, self.heard[from.0 as usize].take())),
+            LibEvent::Closed(from) => {
+                self.opened[from.0 as usize] = false;
+                Ok(Undo::Row(from, self.heard[from.0 as usize].take()))
+            }
             LibEvent::Map(from, fec, label) => Ok(self.hear(from, fec, Some(label))),
             LibEvent::Withdraw(from, fec) => Ok(self.hear(from, fec, None)),
             LibEvent::Released(_, _) => {
@@ -256,6 +284,7 @@ impl Bound {
             Undo::Row(from, row) => {
                 let at = from.0 as usize;
                 if at < self.heard.len() {
+                    self.opened[at] = row.is_some();
                     self.heard[at] = row;
                 }
             }
@@ -313,9 +342,26 @@ impl Bound {
         ensures told { OnOk result (tells.new.items ≡ tells.old.items ++ told before self.now events.now fec.0 to.0) }
         ensures rows { length self.now.heard ≡ nodes self.now }
     {
-        if !self.is_open(to) {
-            return Ok(());
+        if self.is_open(to) {
+            self.tell_open(events, fec, before, to, tells)
+        } else {
+            Ok(())
         }
+    }
+
+    /// Tells an open neighbour what it must know of such a FEC.
+    fn tell_open(
+        &self,
+        events: &[LibEvent],
+        fec: NodeNo,
+        before: bool,
+        to: NodeNo,
+        tells: &mut Vec<Tell>,
+    ) -> Result<(), AllocError>
+        requires fec { fec.0 < nodes self.now }
+        requires open { is_open self.now to.0 ≡ true }
+        ensures { OnOk result (tells.new.items ≡ tells.old.items ++ told before self.now events.now fec.0 to.0) }
+    {
         let before = before && !opens(events, to);
         let kind = match (before, self.offers(fec)) {
             (false, true) => TellKind::Map,
@@ -427,6 +473,16 @@ impl Bound {
         let mut tells = releases(self.alloc, events)?;
         self.changes(events, before, &mut tells)?;
         Ok(tells)
+    }
+}
+
+/// Whether the next hop is this neighbour.
+fn is_hop(hop: Option<NodeNo>, neighbour: NodeNo) -> bool
+    ensures { result ≡ is_hop hop neighbour.0 }
+{
+    match hop {
+        None => false,
+        Some(hop) => hop == neighbour,
     }
 }
 

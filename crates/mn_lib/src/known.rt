@@ -1,9 +1,10 @@
-ghost use Rattle.std.specs.Prelude.{ℕ, ◌≡◌, ◌≤◌, ◌<◌, ◌+◌, ◌&&◌, ◌++◌, not, cond, false, [], ◌∷◌, None, length, map, vec_len, vec_capacity, filter, replicate, slice_index_or, IfOk, OnOk, OnErr};
+ghost use Rattle.std.specs.Prelude.{ℕ, ◌≡◌, ◌≤◌, ◌<◌, ◌+◌, ◌&&◌, ◌++◌, not, cond, true, false, [], ◌∷◌, None, length, map, vec_len, vec_capacity, filter, replicate, slice_index_or, IfOk, OnOk, OnErr, ◌↔◌, nat_lt};
 ghost use Rattle.std.specs.List.{All, flat_map, range_with_len};
 ghost use Rattle.mn_rest.specs.Rests.{Resting, row_of, count_in};
 ghost use Rattle.mn_lib.specs.Bindings.{nodes, usable, offers, after_events, EventFits, EventsFit};
 ghost use Rattle.mn_lib.specs.Tells.{tells};
-ghost use Rattle.mn_lib.specs.News.{begun, begun_since, ended_since};
+ghost use Rattle.mn_lib.specs.Aside.{is_aside};
+ghost use Rattle.mn_lib.specs.News.{begun, begun_since, ended_since, AreOfOffered};
 ghost use Rattle.mn_lib.specs.Known.{nothing_known, rested_event, rested_events, owed_by, owed_for, all_stopped, known_after, AreFew, is_free, opened_in, RestFits};
 
 use crate::bindings::Bound;
@@ -91,7 +92,8 @@ impl Lib {
 
     /// Whether some FEC may be free at this tick. It looks at no FEC.
     pub fn may_be_free(&self, tick: u64) -> bool
-        ensures { result ≡ false → (fec : ℕ) → is_free self.now tick fec ≡ false }
+        ensures exact { result ≡ nat_lt self.now.resting.life tick }
+        ensures none { result ≡ false → (fec : ℕ) → is_free self.now tick fec ≡ false }
     {
         self.rests.may_have_rested(tick)
     }
@@ -99,9 +101,32 @@ impl Lib {
     /// Whether an offer may begin by these events. It takes no memory, and looks at the FECs alone that the events are of.
     pub fn may_begin(&self, events: &[LibEvent]) -> bool
         requires { EventsFit self.now.bindings events.now }
-        ensures { result ≡ false → begun self.now.bindings (after_events self.now.bindings events.now) ≡ [] }
+        ensures exact { result ≡ false ↔ AreOfOffered self.now.bindings events.now }
+        ensures none { result ≡ false → begun self.now.bindings (after_events self.now.bindings events.now) ≡ [] }
     {
         self.bound.may_begin(events)
+    }
+
+    /// Whether all that the event does is that a neighbour maps a FEC, which isn't its next hop: nothing is to be told then, no
+    /// offer begins, and no way changes. It takes no memory.
+    pub fn is_aside(&self, event: LibEvent) -> bool
+        requires { EventFits self.now.bindings event }
+        ensures { result ≡ is_aside self.now.bindings event }
+    {
+        self.bound.is_aside(event)
+    }
+
+    /// Takes such an event. It takes no memory, and looks at no other neighbour.
+    pub fn hear_aside(&mut self, event: LibEvent)
+        requires fit { EventFits self.old.bindings event }
+        requires aside { is_aside self.old.bindings event ≡ true }
+        ensures after { (tick : ℕ) → self.new ≡ known_after self.old (event ∷ []) tick }
+        ensures tells { tells self.old.bindings (event ∷ []) ≡ [] }
+        ensures begun { begun self.old.bindings (after_events self.old.bindings (event ∷ [])) ≡ [] }
+        ensures offers { (fec : ℕ) → offers (after_events self.old.bindings (event ∷ [])) fec ≡ offers self.old.bindings fec }
+        ensures ways { (fec : ℕ) → usable (after_events self.old.bindings (event ∷ [])) fec ≡ usable self.old.bindings fec }
+    {
+        self.bound.hear_aside(event);
     }
 
     /// Takes the events of this tick as one change, and says what must be told, in order: a Release for each Withdraw whose neighbour

@@ -64,13 +64,12 @@ laid_behind old items R B goal rest at end m len here old_is ends items_are is l
 pub text_then : (old mid new one two : List ℕ) → mid ≡ old ++ one → new ≡ mid ++ two → new ≡ old ++ (one ++ two)
 text_then old mid new one two first then = then ∙ ap (λ l. l ++ two) first ∙ append_assoc old one two
 
--- six of them
-pub six_put : (old l1 l2 l3 l4 l5 new a b c d e f : List ℕ) → l1 ≡ old ++ a → l2 ≡ l1 ++ b → l3 ≡ l2 ++ c → l4 ≡ l3 ++ d → l5 ≡ l4 ++ e → new ≡ l5 ++ f
-    → new ≡ old ++ (a ++ (b ++ (c ++ (d ++ (e ++ f)))))
-six_put old l1 l2 l3 l4 l5 new a b c d e f h1 h2 h3 h4 h5 h6 =
-    text_then old l1 new a (b ++ (c ++ (d ++ (e ++ f)))) h1
-    (text_then l1 l2 new b (c ++ (d ++ (e ++ f))) h2
-    (text_then l2 l3 new c (d ++ (e ++ f)) h3 (text_then l3 l4 new d (e ++ f) h4 (text_then l4 l5 new e f h5 h6))))
+-- the four parts of a packet's line
+pub four_put : (old l1 l2 l3 new a space b word c feed : List ℕ) → l1 ≡ old ++ (a ++ space) → l2 ≡ l1 ++ (b ++ word) → l3 ≡ l2 ++ c → new ≡ l3 ++ feed
+    → new ≡ old ++ (a ++ (space ++ (b ++ (word ++ (c ++ feed)))))
+four_put old l1 l2 l3 new a space b word c feed h1 h2 h3 h4 =
+    text_then old l1 new (a ++ space) ((b ++ word) ++ (c ++ feed)) h1 (text_then l1 l2 new (b ++ word) (c ++ feed) h2 (text_then l2 l3 new c feed h3 h4))
+    ∙ ap (λ l. old ++ l) (append_assoc a space ((b ++ word) ++ (c ++ feed)) ∙ ap (λ l. a ++ (space ++ l)) (append_assoc b word (c ++ feed)))
 
 -- what stood before stands at the beginning
 pub begins_with_itself : (old : List ℕ) → IsPrefix old old

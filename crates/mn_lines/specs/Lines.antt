@@ -63,7 +63,7 @@ cause_text sites cause = cause_name cause
 
 -- what became of a packet
 unfoldable pub verdict_text : NameLists → Verdict → List ℕ
-verdict_text names (Delivered site ttl copy) =
+verdict_text names (Delivered ttl site copy) =
     text (codes "delivered " ∷ name_at names.sites site.0 ∷ codes " ttl " ∷ decimal ttl ∷ codes " copy " ∷ decimal copy ∷ [])
 verdict_text names (Dropped rule node) = text (codes "dropped " ∷ rule_name rule ∷ codes " at " ∷ name_at names.nodes node.0 ∷ [])
 verdict_text names (Flying link dir) =

@@ -1,5 +1,5 @@
 // Text that goes to a sink by few puts.
-ghost use Rattle.std.specs.Prelude.{◌≡◌, ◌+◌, ◌<◌, ◌≤◌, ◌++◌, [], length, IfOk, OnOk, OnErr};
+ghost use Rattle.std.specs.Prelude.{◌≡◌, ◌+◌, ◌<◌, ◌≤◌, ◌++◌, [], Some, length, IfErr, IfOk, OnOk, OnErr};
 ghost use Rattle.mn_edge.specs.Faults.{Counted};
 ghost use Rattle.mn_lines.specs.Putting.{Puts, PutsPart};
 
@@ -56,6 +56,7 @@ impl Page {
         ensures room { length self.new ≤ 65536 }
         ensures dropped { OnErr result (self.new ≡ []) }
         ensures cause { Counted (O.faults out.old) (O.faults out.new) result }
+        ensures ends { IfErr result (λ e. O.refusal out.new ≡ Some e) }
     {
         if piece.len() <= ROOM - self.held {
             self.hold(piece);
@@ -76,6 +77,7 @@ impl Page {
         ensures ended { self.new ≡ [] }
         ensures untouched { self.old ≡ [] → out.new ≡ out.old }
         ensures cause { Counted (O.faults out.old) (O.faults out.new) result }
+        ensures ends { IfErr result (λ e. O.refusal out.new ≡ Some e) }
     {
         if self.held == 0 {
             return Ok(());

@@ -88,7 +88,7 @@ fn or_nothing(
     put
 }
 
-/// Which packet it is: its number, from 1, and what sent it.
+/// Which packet it is: its number, from 1, and what sent it. A space is put behind it, as a piece of the same call.
 #[tactic(auto, unfolding(crate::specs::Lines::sent_text))]
 fn put_sent(
     line: &mut Vec<u8>,
@@ -96,7 +96,7 @@ fn put_sent(
     number: u32,
     sent: Sent,
 ) -> Result<(), AllocError>
-    ensures ok { OnOk result (line.new.items ≡ line.old.items ++ sent_text (names_of topology.now) number sent) }
+    ensures ok { OnOk result (line.new.items ≡ line.old.items ++ text (sent_text (names_of topology.now) number sent ∷ codes " " ∷ [])) }
     ensures begins { IsPrefix line.old.items line.new.items }
 {
     let (mut packet, mut script, mut record) = (Buffer::new(), Buffer::new(), Buffer::new());
@@ -111,11 +111,12 @@ fn put_sent(
             site_name(topology, sent.site),
             b" record ",
             record.format(sent.record).as_bytes(),
+            b" ",
         ],
     )
 }
 
-/// A packet that reached a site.
+/// A packet that reached a site, and the word before its path.
 #[tactic(auto, unfolding(crate::specs::Lines::verdict_text))]
 fn put_delivered(
     line: &mut Vec<u8>,
@@ -125,7 +126,7 @@ fn put_delivered(
     copy: u32,
 ) -> Result<(), AllocError>
     ensures ok { OnOk result (line.new.items ≡
-        line.old.items ++ verdict_text (names_of topology.now) (Verdict.Delivered site ttl copy)) }
+        line.old.items ++ text (verdict_text (names_of topology.now) (Verdict.Delivered ttl site copy) ∷ codes " path" ∷ [])) }
     ensures begins { IsPrefix line.old.items line.new.items }
 {
     let (mut left, mut nth) = (Buffer::new(), Buffer::new());
@@ -138,23 +139,36 @@ fn put_delivered(
             left.format(ttl).as_bytes(),
             b" copy ",
             nth.format(copy).as_bytes(),
+            b" path",
         ],
     )
 }
 
-/// A packet that fell to a rule at a node.
+/// A packet that fell to a rule at a node, and the word before its path.
 fn put_dropped(line: &mut Vec<u8>, rule: &str, node: &[u8]) -> Result<(), AllocError>
     ensures ok { OnOk result (line.new.items ≡
-        line.old.items ++ text (codes "dropped " ∷ rule.now ∷ codes " at " ∷ node.now ∷ [])) }
+        line.old.items ++ text (text (codes "dropped " ∷ rule.now ∷ codes " at " ∷ node.now ∷ []) ∷ codes " path" ∷ [])) }
     ensures begins { IsPrefix line.old.items line.new.items }
 {
-    put_pieces(line, &[b"dropped ", rule.as_bytes(), b" at ", node])
+    put_pieces(
+        line,
+        &[b"dropped ", rule.as_bytes(), b" at ", node, b" path"],
+    )
 }
 
-/// What became of a packet.
+/// A packet that is on a link between two nodes, and the word before its path.
+fn put_flying(line: &mut Vec<u8>, sender: &[u8], hearer: &[u8]) -> Result<(), AllocError>
+    ensures ok { OnOk result (line.new.items ≡
+        line.old.items ++ text (text (codes "flying " ∷ sender.now ∷ codes " " ∷ hearer.now ∷ []) ∷ codes " path" ∷ [])) }
+    ensures begins { IsPrefix line.old.items line.new.items }
+{
+    put_pieces(line, &[b"flying ", sender, b" ", hearer, b" path"])
+}
+
+/// What became of a packet, and the word before its path.
 #[tactic(auto, unfolding(crate::specs::Lines::verdict_text))]
 fn put_verdict(line: &mut Vec<u8>, topology: &Topology, verdict: Verdict) -> Result<(), AllocError>
-    ensures ok { OnOk result (line.new.items ≡ line.old.items ++ verdict_text (names_of topology.now) verdict) }
+    ensures ok { OnOk result (line.new.items ≡ line.old.items ++ text (verdict_text (names_of topology.now) verdict ∷ codes " path" ∷ [])) }
     ensures begins { IsPrefix line.old.items line.new.items }
 {
     match verdict {
@@ -164,7 +178,7 @@ fn put_verdict(line: &mut Vec<u8>, topology: &Topology, verdict: Verdict) -> Res
         }
         Verdict::Flying { link, dir } => {
             let (sender, hearer) = direction(topology, link.0, dir);
-            put_pieces(line, &[b"flying ", sender, b" ", hearer])
+            put_flying(line, sender, hearer)
         }
     }
 }
@@ -195,11 +209,10 @@ fn put_packet(
     ensures begins { IsPrefix line.old.items line.new.items }
 {
     put_sent(line, topology, number, sent)?;
-    put_pieces(line, &[b" "])?;
     put_verdict(line, topology, verdict)?;
-    put_pieces(line, &[b" path"])?;
     put_path(line, topology, path)?;
-    put_pieces(line, &[b"\n"])
+    line.push(b'\n')?;
+    Ok(())
 }
 
 /// Appends the line of the packet of this number, from 1: what became of it, and at which nodes it was. An `Err`

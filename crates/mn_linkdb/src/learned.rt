@@ -5,6 +5,7 @@ ghost use Rattle.mn_linkdb.specs.Learned.{IsView, links_up, after_learn};
 
 use crate::LinkDb;
 use crate::changes::is_odd;
+use crate::shared::SharedList;
 use mn_base::LinkNo;
 use mn_wiring::LinkEnds;
 use std::alloc::{AllocError, Global};
@@ -18,7 +19,7 @@ pub struct Empty;
 #[derive(Drop)]
 pub struct View {
     nodes: u32,
-    ends: Vec<LinkEnds>,
+    ends: SharedList<LinkEnds>,
     learned: Vec<u32>,
 }
 
@@ -27,9 +28,9 @@ impl Model for View {
 
     ghost Value = { Learned };
 
-    ghost view = { λ v. record { nodes = v.nodes; ends = v.ends.items; counts = v.learned.items } };
+    ghost view = { λ v. record { nodes = v.nodes; ends = v.ends; counts = v.learned.items } };
 
-    ghost invariant = { λ v. IsView (record { nodes = v.nodes; ends = v.ends.items; counts = v.learned.items }) };
+    ghost invariant = { λ v. IsView (record { nodes = v.nodes; ends = v.ends; counts = v.learned.items }) };
 }
 
 impl View {
@@ -38,8 +39,18 @@ impl View {
         requires { IsNetwork nodes ends.now }
         ensures { IfOk result (λ view. view ≡ record { nodes = nodes; ends = ends.now; counts = replicate (length ends.now) 0 }) }
     {
-        let learned = vec![in alloc; 0; ends.len()]?;
         let ends = Vec::from_slice(alloc, ends)?;
+        let ends = SharedList::from_vec(alloc, ends)?;
+        View::over(alloc, nodes, &ends)
+    }
+
+    /// The same over links that the view shares with others.
+    pub fn over(alloc: Global, nodes: u32, ends: &SharedList<LinkEnds>) -> Result<View, AllocError>
+        requires { IsNetwork nodes ends.now }
+        ensures { IfOk result (λ view. view ≡ record { nodes = nodes; ends = ends.now; counts = replicate (length ends.now) 0 }) }
+    {
+        let learned = vec![in alloc; 0; ends.as_slice().len()]?;
+        let ends = ends.share()?;
         Ok(View {
             nodes,
             ends,
@@ -60,7 +71,7 @@ impl View {
         ensures value { result.now ≡ self.now.ends }
         ensures form { IsView self.now }
     {
-        &self.ends
+        self.ends.as_slice()
     }
 
     /// How many changes of the link the node has learned.

@@ -14,6 +14,7 @@
 //!
 //! - `changes`: `LinkDb`, how often each link was changed, and so which are up
 //! - `learned`: `View`, how many of these changes one node has learned
+//! - `shared`: `SharedList`, a list that the views of all nodes own together
 //! - `paths`: `Tree`, by node the least cost and the next hop
 //! - `network`: the networks with which a view can be made
 //! - `laws`: the count of changes tells what the last of them was; each root has one tree
@@ -24,9 +25,11 @@ mod laws;
 mod learned;
 mod network;
 mod paths;
+mod shared;
 
 pub use changes::{LinkDb, Unchanged};
 pub use laws::{count_tells_the_last_change, each_root_has_a_tree, one_tree, tree_is_computed};
 pub use learned::{Empty, View};
 pub use network::is_network;
 pub use paths::Tree;
+pub use shared::SharedList;

@@ -42,6 +42,7 @@ use Rattle.mn_node.proofs.News.{EachBy, by-append, by-said}
 use Rattle.mn_node.proofs.Opening.{hearing-in}
 use Rattle.mn_ldp_session.specs.Spelling.{pdus}
 use Rattle.mn_lsr.specs.declared.parts.Open.{Open}
+use Rattle.mn_lsr.specs.OwnEnds.{Listed}
 use Rattle.mn_lsr.specs.declared.parts.Parts.{Parts}
 use Rattle.mn_lsr.specs.Standing.{IsMendedFor, IsUseOf, is_of, session_in, session_label, way_to, state_in}
 use Rattle.mn_lsr.specs.Message.{HasOne}
@@ -355,14 +356,14 @@ module _ (p : Parts) (st : Stands p) (e : Event) (counts : List ℕ) (es : List 
       }
 
   -- what the parts are then
-  pub record IsThen (tick : ℕ) (v : Learned) (sessions : Vec (Option Open) Global) (known : Known) (table : LabelTable) : Type 0 where
+  pub record IsThen (tick : ℕ) (v : Learned) (sessions : Listed) (known : Known) (table : LabelTable) : Type 0 where
     pub view_is : v ≡ record { nodes = p.view.nodes; ends = p.view.ends; counts = counts }
     pub known_is : known ≡ known_after p.lib es tick
     pub ends_are : sessions.items ≡ ends_after ends words
     pub labels_are : table.labels ≡ offered_labels (is_free p.lib tick) p.labels.labels (begun p.lib.bindings b)
 
   -- the parts stand again
-  pub stands-then : (tick : ℕ) (v : Learned) (mended : Mended) (sessions : Vec (Option Open) Global) (known : Known) (table : LabelTable) (uses : List (ℕ × Use))
+  pub stands-then : (tick : ℕ) (v : Learned) (mended : Mended) (sessions : Listed) (known : Known) (table : LabelTable) (uses : List (ℕ × Use))
       → IsThen tick v sessions known table → length counts ≡ length p.view.counts → IsMendedFor w (map is_odd counts) p.me.0 mended →
       HaveLabels p.me.0 (length p.loopbacks.items) b table → ((label : ℕ) → IsUseOf (lib.usable b) (meaning_of table.labels label) (use_of uses label))
       → Stands (record {
@@ -413,7 +414,7 @@ module _ (p : Parts) (st : Stands p) (e : Event) (counts : List ℕ) (es : List 
         table = stands;
       }))
 
-  pub kept-of : (tick : ℕ) (v : Learned) (mended : Mended) (sessions : Vec (Option Open) Global) (known : Known) (table : LabelTable) (uses : List (ℕ × Use))
+  pub kept-of : (tick : ℕ) (v : Learned) (mended : Mended) (sessions : Listed) (known : Known) (table : LabelTable) (uses : List (ℕ × Use))
       → IsThen tick v sessions known table
       → kept_of (record {
         me = p.me;
@@ -461,7 +462,7 @@ module _ (p : Parts) (st : Stands p) (e : Event) (counts : List ℕ) (es : List 
       ∙ ap (of (after w n e) (labels_then w tick (kept_of p) e)) (ap (λ (y : Known). y.resting) is.known_is ∙ resting-then tick)
 
   -- the events may be followed, whatever was said before
-  pub may-follow : (v : Learned) (mended : Mended) (sessions : Vec (Option Open) Global) (withdrawn : ℕ)
+  pub may-follow : (v : Learned) (mended : Mended) (sessions : Listed) (withdrawn : ℕ)
       → v ≡ record { nodes = p.view.nodes; ends = p.view.ends; counts = counts } → length sessions.items ≡ length p.view.ends →
       ((labels : Labels) → MayTell (length p.loopbacks.items) p.me.0 labels withdrawn (releases es))
       → MayFollow (record {

@@ -30,6 +30,7 @@ use Rattle.mn_lib.specs.Bindings.{Bindings, usable}
 use Rattle.mn_node.specs.Node.{Session, Node}
 use Rattle.mn_ldp_session.specs.declared.session.Session.{Session as Machine}
 use Rattle.mn_lsr.specs.declared.parts.Open.{Open}
+use Rattle.mn_lsr.specs.OwnEnds.{Listed}
 use Rattle.mn_lsr.specs.declared.parts.Parts.{Parts}
 use Rattle.mn_lsr.specs.Standing.{IsWired, IsMendedFor, IsUseOf, attachments, sessions_from}
 use Rattle.mn_lsr.specs.Turns.{Kept}
@@ -124,7 +125,7 @@ no_machines zero = refl
 no_machines (suc n) = ap (λ ss. let o : List (Option Machine) = None ∷ ss in o) (no_machines n)
 
 -- the parts of a node that has learned nothing stand
-module _ (me : NodeNo) (loopbacks : Vec ℕ Global) (ends : List LinkEnds) (mended : Mended) (sessions : Vec (Option Open) Global) (labels : LabelTable) (life : ℕ)
+module _ (me : NodeNo) (loopbacks : Vec ℕ Global) (ends : List LinkEnds) (mended : Mended) (sessions : Listed) (labels : LabelTable) (life : ℕ)
     (attached : Vec ℕ Global) (links : Vec (Option LinkNo) Global)
     (below : me.0 < length loopbacks.items) (wired : IsWired (record { loopbacks = loopbacks.items; ends = ends }))
     (sessions_are : sessions.items ≡ replicate (length ends) None)

@@ -24,3 +24,7 @@ pub mod Wired
 pub mod Mended
 pub mod Opened
 pub mod Followed
+pub mod Unmoved
+pub mod Aside
+pub mod Likely
+pub mod Noted

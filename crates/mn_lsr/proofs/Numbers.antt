@@ -2,8 +2,7 @@
 use Rattle.std.proofs.Common.{ℕ, true, zero, suc, ◌≡◌, ◌+◌, ◌≤◌, ◌^◌, List, [], ◌∷◌, ◌++◌, map, length, length-append, refl, arith}
 use Rattle.std.proofs.Common.{sym, ◌∙◌, ap, subst, Option, Some, None}
 use Rattle.std.specs.Prelude.{slice_index_or, slice_set, option_map}
-use Rattle.std.specs.List.{list_all}
-use Rattle.mn_base.proofs.Bools.{at_most_tells, and_left, and_right}
+use Rattle.mn_base.proofs.Bools.{at_most_tells}
 use Rattle.std.proofs.lemmas.List.{length-map}
 use Rattle.mn_wiring.specs.Wiring.{Wiring}
 use Rattle.mn_node.specs.Ldp.{Said}
@@ -92,17 +91,12 @@ by-ends p said has l =
       count-is (wiring_in p) p.me.0 p.lib.bindings l (slice_index_or p.sessions.items l None),
     )
 
-all-fit : (ends : List (Option Open)) → list_all has_numbers ends ≡ true → NumbersFit ends 0
-all-fit [] h l = omega arith
-all-fit (end ∷ ends) h zero = omega (arith, at_most_tells (said_in end) (2 ^ 62) (and_left (has_numbers end) (list_all has_numbers ends) h))
-all-fit (end ∷ ends) h (suc l) = all-fit ends (and_right (has_numbers end) (list_all has_numbers ends) h) l
-
 -- where all ends have said little, so has the node
-pub all-have : (p : Parts) → list_all has_numbers p.sessions.items ≡ true → HasNumbers (node_in p)
+pub all-have : (p : Parts) → ((l : ℕ) → has_numbers (slice_index_or p.sessions.items l None) ≡ true) → HasNumbers (node_in p)
 all-have p h l =
     omega (
       arith,
-      all-fit p.sessions.items h l,
+      at_most_tells (said_in (slice_index_or p.sessions.items l None)) (2 ^ 62) (h l),
       ap count_of (at-is (wiring_in p) p.me.0 p.lib.bindings p.sessions.items 0 l l (omega arith)),
       count-is (wiring_in p) p.me.0 p.lib.bindings l (slice_index_or p.sessions.items l None),
     )

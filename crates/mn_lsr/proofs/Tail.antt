@@ -20,6 +20,7 @@ use Rattle.mn_ldp_session.specs.declared.session.Reply.TheVariants as says
 use Rattle.mn_ldp_session.specs.Spelling.{Pdu, pdus}
 use Rattle.mn_lsr.specs.Replies.{replied}
 use Rattle.mn_lsr.specs.declared.parts.Open.{Open}
+use Rattle.mn_lsr.specs.OwnEnds.{Listed}
 use Rattle.mn_lsr.specs.declared.parts.Parts.{Parts}
 use Rattle.mn_lsr.specs.Telling.{said_by_tell, MayTell}
 use Rattle.mn_lsr.specs.Parts.{wiring_in, node_in, kept_of, HaveLabels, SitesStay, Stands, MaySpeak, MayFollow, machines_of, pdus_by, ends_after}
@@ -88,17 +89,17 @@ module _ (p : Parts) (st : Stands p) (e : Event) (es : List LibEvent) (ends : Li
   abbrev pre : List Message
   pre = replied reply
 
-  abbrev with_sessions : Vec (Option Open) Global → Parts
+  abbrev with_sessions : Listed → Parts
   with_sessions s = record p { sessions = s }
 
   ends-length : length ends ≡ length p.view.ends
   ends-length = sym (length-machines ends) ∙ h.own.one_each
 
-  pub may-speak : (q : Parts) (s : Vec (Option Open) Global) → q ≡ record p { sessions = s } → s.items ≡ ends → MaySpeak q
+  pub may-speak : (q : Parts) (s : Listed) → q ≡ record p { sessions = s } → s.items ≡ ends → MaySpeak q
   may-speak q s q_is s_is =
       subst MaySpeak (sym q_is) (record { few = st.wired.spelled.few; me = st.me; joins = st.wired.joins; one_each = ap length s_is ∙ ends-length })
 
-  pub may-follow-then : (q : Parts) (s : Vec (Option Open) Global) (withdrawn : ℕ) → q ≡ record p { sessions = s } →
+  pub may-follow-then : (q : Parts) (s : Listed) (withdrawn : ℕ) → q ≡ record p { sessions = s } →
       s.items ≡ ends_after ends (said_on l p.me.0 (replied reply)) → ((labels : Labels) → MayTell (length p.loopbacks.items) p.me.0 labels withdrawn (releases es))
       → MayFollow q withdrawn es
   may-follow-then q s withdrawn q_is s_is may =
@@ -106,7 +107,7 @@ module _ (p : Parts) (st : Stands p) (e : Event) (es : List LibEvent) (ends : Li
       (may-follow p st e p.view.counts es ends l (replied reply) h p.view p.mended s withdrawn refl
       (ap length s_is ∙ length-ends_after ends (said_on l p.me.0 (replied reply)) ∙ ends-length) may)
 
-  told : (s : Vec (Option Open) Global) (r : Parts) (withdrawn tick : ℕ) (own : ℕ → ℕ) (before middle after_it : List Pdu) →
+  told : (s : Listed) (r : Parts) (withdrawn tick : ℕ) (own : ℕ → ℕ) (before middle after_it : List Pdu) →
       s.items ≡ ends_after ends (said_on l p.me.0 (replied reply))
       → middle ≡ before ++ pdus_by (wiring_in p) p.me.0 own 0 ends (said_on l p.me.0 (replied reply)) →
       HasTold (with_sessions s) r withdrawn tick es middle after_it →
@@ -134,14 +135,14 @@ module _ (p : Parts) (st : Stands p) (e : Event) (es : List LibEvent) (ends : Li
       }
 
   -- what was said first has its PDUs, and then what is told
-  pub after-all : (q : Parts) (s : Vec (Option Open) Global) (r : Parts) (withdrawn tick : ℕ) (own : ℕ → ℕ) (before middle after_it : List Pdu) →
+  pub after-all : (q : Parts) (s : Listed) (r : Parts) (withdrawn tick : ℕ) (own : ℕ → ℕ) (before middle after_it : List Pdu) →
       q ≡ record p { sessions = s } → s.items ≡ ends_after ends (said_on l p.me.0 (replied reply))
       → middle ≡ before ++ pdus_by (wiring_in p) p.me.0 own 0 ends (said_on l p.me.0 (replied reply)) → HasTold q r withdrawn tick es middle after_it →
       IsAfter p r withdrawn tick e before after_it
   after-all q s r withdrawn tick own before middle after_it q_is s_is m_is t =
       told s r withdrawn tick own before middle after_it s_is m_is (subst (λ x. HasTold x r withdrawn tick es middle after_it) q_is t)
 
-  pub machines-then : (q : Parts) (s : Vec (Option Open) Global) (r : Parts) (withdrawn tick : ℕ) (middle after_it : List Pdu) → q ≡ record p { sessions = s } →
+  pub machines-then : (q : Parts) (s : Listed) (r : Parts) (withdrawn tick : ℕ) (middle after_it : List Pdu) → q ≡ record p { sessions = s } →
       s.items ≡ ends_after ends (said_on l p.me.0 (replied reply)) → HasTold q r withdrawn tick es middle after_it
       → machines_of r.sessions.items ≡ machines_of ends
   machines-then q s r withdrawn tick middle after_it q_is s_is t =
@@ -152,7 +153,7 @@ module _ (p : Parts) (st : Stands p) (e : Event) (es : List LibEvent) (ends : Li
 
 -- without events nothing is told
 pub none-told : (p : Parts) → Stands p →
-    (s : Vec (Option Open) Global) (withdrawn tick : ℕ) (said : List Pdu) →
+    (s : Listed) (withdrawn tick : ℕ) (said : List Pdu) →
     HasTold (record p { sessions = s }) (record p { sessions = s }) withdrawn tick [] said said
 none-told p st s withdrawn tick said = record {
   said = sym (ap (λ ts. said ++ pdus_by (wiring_in p) p.me.0 (own_labels p.me.0 p.labels.labels) withdrawn s.items (flat_map (said_by_tell (wiring_in p) p.me.0) ts))

@@ -9,3 +9,4 @@ pub mod Hearing
 pub mod Inside
 pub mod InNetwork
 pub mod Turns
+pub mod OwnEnds

@@ -3,7 +3,7 @@ ghost use Rattle.std.specs.Option.{option_to_list};
 ghost use Rattle.mn_ldp_wire.specs.Grammar.{IsLawful};
 ghost use Rattle.mn_node.specs.Node.{session_at};
 ghost use Rattle.mn_node.specs.Node as node;
-ghost use Rattle.mn_ldp_session.specs.Spelling.{message_in};
+ghost use Rattle.mn_ldp_session.specs.Spelling.{AreSpelled, message_in};
 ghost use Rattle.mn_lsr.specs.Said.{pdu_of};
 ghost use Rattle.mn_lsr.specs.Message.{meaning, meant};
 ghost use Rattle.mn_lsr.specs.Replies.{heard_by};
@@ -24,6 +24,7 @@ use std::alloc::{AllocError, Global};
 /// What a body says to the node, and the label that it brings. A mention of a FEC that is no node's is passed over.
 fn heard_in(loopbacks: &[u32], body: &LdpBody) -> Option<(Message, u32)>
     requires few { length loopbacks.now ≤ 256 }
+    requires spelled { AreSpelled (record { loopbacks = loopbacks.now; ends = [] }) }
     ensures { option_map meant result ≡ message_in (record { loopbacks = loopbacks.now; ends = [] }) body.now }
 {
     match body {
@@ -104,7 +105,7 @@ impl Parts {
             session,
             said: was.said,
         };
-        self.set_session(link, Some(now));
+        self.set_session(link, Some(now))?;
         self.reply(alloc, link, reply, out)?;
         self.tell(alloc, event, label, tick, out)?;
         Ok(())

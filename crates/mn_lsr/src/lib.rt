@@ -22,6 +22,7 @@
 //!
 //! - `lsr`: the node, in the words of its contract; `refusal`: why it refuses
 //! - `parts`, `hearing`, `making`, `sites`: its parts, and what each change does to them
+//! - `own_ends`: the node's ends of its sessions
 //! - `message`, `speaking`, `said`: what is said, as PDUs on links; `links`: the link to each neighbour
 //! - `ways`: the labels of FECs and their uses
 //! - `laws`: what is said and heard where both ends of a session are nodes
@@ -33,6 +34,7 @@ mod links;
 mod lsr;
 mod making;
 mod message;
+mod own_ends;
 mod parts;
 mod refusal;
 mod said;
@@ -42,5 +44,6 @@ mod ways;
 
 pub use laws::{a_node_speaks_of_nodes, routers_in_a_row_are_wired, what_is_said_is_one_change};
 pub use lsr::Lsr;
+pub use mn_spf_inc::SharedLinks;
 pub use refusal::LsrBad;
 pub use said::Said;

@@ -24,7 +24,7 @@ use mn_base::{LinkNo, NodeNo, SiteNo};
 use mn_labels::{LabelBad, Labels};
 use mn_lfib::{Forwarded, Lfib};
 use mn_linkdb::{LinkDb, Tree, View};
-use mn_spf_inc::MendTree;
+use mn_spf_inc::{MendTree, SharedLinks};
 use mn_stack::Frame;
 use mn_states::LdpState;
 use mn_wiring::LinkEnds;
@@ -91,7 +91,33 @@ impl Lsr {
             }) }
         ensures table { IfOk result (λ lsr. TableStands lsr) }
     {
-        let parts = Parts::new(alloc, me, loopbacks, ends, life)?;
+        let links = SharedLinks::new(alloc, loopbacks.len() as u32, ends)?;
+        Lsr::over(alloc, me, loopbacks, &links, life)
+    }
+
+    /// The same over links that the node shares with others, so that their ends aren't copied.
+    pub fn over(
+        alloc: Global,
+        me: NodeNo,
+        loopbacks: &[u32],
+        links: &SharedLinks,
+        life: u32,
+    ) -> Result<Lsr, AllocError>
+        requires me { me.0 < length loopbacks.now }
+        requires nodes { links.now.nodes ≡ length loopbacks.now }
+        requires wired { IsWired (record { loopbacks = loopbacks.now; ends = links.now.ends }) }
+        ensures fresh { let wiring : Wiring = record { loopbacks = loopbacks.now; ends = links.now.ends } in
+            IfOk result (λ lsr. lsr ≡ record {
+              wiring = wiring;
+              node = fresh_node wiring me.0;
+              labels = none_given (length loopbacks.now);
+              resting = at_first (length loopbacks.now) life;
+              uses = [];
+              failed = false;
+            }) }
+        ensures table { IfOk result (λ lsr. TableStands lsr) }
+    {
+        let parts = Parts::over(alloc, me, loopbacks, links, life)?;
         Ok(Lsr {
             alloc,
             parts,

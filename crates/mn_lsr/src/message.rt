@@ -1,7 +1,7 @@
 ghost use Rattle.std.specs.Prelude.{◌≡◌, ◌≤◌, ◌<◌, [], ◌==◌, length, position, IfOk, IfSome, option_map};
 ghost use Rattle.mn_ldp_wire.specs.Grammar.{written, IsWritable};
 ghost use Rattle.mn_labels.specs.Labels.{own_labels};
-ghost use Rattle.mn_ldp_session.specs.Spelling.{body_of, id_of, node_of};
+ghost use Rattle.mn_ldp_session.specs.Spelling.{AreSpelled, body_of, id_of, node_of};
 ghost use Rattle.mn_lsr.specs.Message.{meaning, NamesNode, HasLabel, as_node};
 
 use crate::ways::own_label;
@@ -116,17 +116,40 @@ pub(crate) fn pdu_bytes(
     write_pdu(alloc, id_of(loopbacks, me), &LdpMessage { id, body })
 }
 
-/// The place of an address among the loopbacks.
+/// Where an address would stand, if the loopbacks were in ascending order.
+fn likely_place(loopbacks: &[u32], address: u32) -> usize
+    ensures { result ≤ length loopbacks.now }
+{
+    let mut low = 0;
+    let mut high = loopbacks.len();
+    while low < high {
+        let middle = low + (high - low) / 2;
+        if loopbacks[middle] < address {
+            low = middle + 1;
+        } else {
+            high = middle;
+        }
+    }
+    low
+}
+
+/// The place of an address among the loopbacks. In a topology they mostly ascend, and then few of them are looked at.
 fn place_of(loopbacks: &[u32], address: u32) -> Option<usize>
+    requires { AreSpelled (record { loopbacks = loopbacks.now; ends = [] }) }
     ensures place { result ≡ position (λ loopback. loopback == address) loopbacks.now }
     ensures there { IfSome result (λ place. place < length loopbacks.now) }
 {
+    let likely = likely_place(loopbacks, address);
+    if likely < loopbacks.len() && loopbacks[likely] == address {
+        return Some(likely);
+    }
     loopbacks.iter().position(|loopback| *loopback == address)
 }
 
 /// The node whose /32 the prefix is.
 pub(crate) fn node_of(loopbacks: &[u32], prefix: &Prefix) -> Option<NodeNo>
     requires few { length loopbacks.now ≤ 256 }
+    requires spelled { AreSpelled (record { loopbacks = loopbacks.now; ends = [] }) }
     ensures node { option_map as_node result ≡ node_of (record { loopbacks = loopbacks.now; ends = [] }) prefix.now }
     ensures there { IfSome result (λ node. node.0 < length loopbacks.now) }
 {

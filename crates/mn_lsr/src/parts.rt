@@ -1,6 +1,6 @@
-ghost use Rattle.std.specs.Prelude.{◌≡◌, ◌≢◌, ◌≤◌, ◌<◌, ◌↔◌, ◌++◌, ◌∷◌, [], ℕ, List, None, Some, Err, length, map, slice_index, slice_index_or, slice_set, ◌+◌, ◌^◌, OnOk, IfOk, IsTrue, true, if◌then◌else◌};
+ghost use Rattle.std.specs.Prelude.{◌≡◌, ◌≢◌, ◌≤◌, ◌<◌, ◌↔◌, ◌++◌, ◌∷◌, [], ℕ, List, None, Some, Err, length, map, slice_index, slice_index_or, slice_set, ◌+◌, ◌^◌, OnOk, IfOk, IsTrue, true, false, if◌then◌else◌};
 ghost use Rattle.std.specs.Option.{option_to_list};
-ghost use Rattle.std.specs.List.{flat_map, list_all};
+ghost use Rattle.std.specs.List.{flat_map};
 ghost use Rattle.mn_wiring.specs.Wiring.{is_end, across};
 ghost use Rattle.mn_node.specs.Ldp.{said_on};
 ghost use Rattle.mn_node.specs.Node.{session_at};
@@ -23,6 +23,7 @@ ghost use Rattle.mn_lsr.specs.Turns.{labels_then, resting_then};
 ghost use Rattle.mn_lsr.specs.Parts.{wiring_in, node_in, kept_of, HaveLabels, SitesStay, Stands, MayFollow, MaySpeak, NumbersFit, has_numbers, same_hop, stays, hop_events, said_in, pdus_by, ends_after};
 
 use crate::message::Message;
+use crate::own_ends::Sessions;
 use crate::refusal::LsrBad;
 use crate::said::Said;
 use crate::speaking::{across, say, say_all};
@@ -53,7 +54,7 @@ pub struct Parts {
     /// The least walks from the node over the links that are up in its view.
     pub mended: MendTree,
     /// By link.
-    pub sessions: Vec<Option<Open>>,
+    pub sessions: Sessions,
     pub lib: Lib,
     pub labels: Labels,
     pub lfib: Lfib,
@@ -64,20 +65,13 @@ pub struct Parts {
 }
 
 /// Whether little was said at an end.
-fn has_numbers(end: &Option<Open>) -> bool
+pub(crate) fn has_numbers(end: &Option<Open>) -> bool
     ensures { result ≡ has_numbers end.now }
 {
     match end {
         None => true,
         Some(open) => open.said <= 1 << 62,
     }
-}
-
-/// Whether little was said at each of these ends.
-fn all_have_numbers(ends: &[Option<Open>]) -> bool
-    ensures { result ≡ list_all has_numbers ends.now }
-{
-    ends.iter().all(has_numbers)
 }
 
 /// Whether two next hops are the same.
@@ -121,6 +115,28 @@ fn next_hops(
         }
     }
     Ok(events)
+}
+
+/// The same. Where the tree hasn't moved no FEC is looked at.
+fn new_hops(
+    alloc: Global,
+    me: NodeNo,
+    before: &Lib,
+    tree: &Tree,
+    nodes: u32,
+    moved: bool,
+) -> Result<Vec<LibEvent>, AllocError>
+    requires few { nodes ≤ 256 }
+    requires before { lib.nodes before.now.bindings ≡ nodes }
+    requires table { IsTable nodes tree.now }
+    requires still { moved ≡ false → (fec : ℕ) → fec < nodes → stays me.0 before.now.bindings.hops tree.now fec ≡ true }
+    ensures { IfOk result (λ events. events.items ≡ hop_events me.0 before.now.bindings.hops tree.now nodes) }
+{
+    if moved {
+        next_hops(alloc, me, before, tree, nodes)
+    } else {
+        Ok(Vec::new(alloc))
+    }
 }
 
 impl Parts {
@@ -193,15 +209,17 @@ impl Parts {
         ensures empty { result ≢ Err LsrBad.NoMemory → (result ≡ Err LsrBad.Empty) ↔ (slice_index self.old.view.counts link.0 ≡ slice_index db.now link.0) }
         ensures unchanged { result ≡ Err LsrBad.Empty → self.new ≡ self.old }
     {
+        let _before = self.mended.tree();
         let Ok(()) = self.view.learn(db, link) else {
             return Err(LsrBad::Empty);
         };
         let up = self.view.up(link);
-        let Ok(()) = self.mended.turn(link, up) else {
+        let Ok(moved) = self.mended.turn_telling(link, up) else {
             return Err(LsrBad::NoMemory);
         };
         let tree = self.mended.tree();
-        let Ok(events) = next_hops(alloc, self.me, &self.lib, tree, self.view.nodes()) else {
+        let nodes = self.view.nodes();
+        let Ok(events) = new_hops(alloc, self.me, &self.lib, tree, nodes, moved) else {
             return Err(LsrBad::NoMemory);
         };
         let mut out = Vec::new(alloc);
@@ -237,36 +255,65 @@ impl Parts {
     {
         match event {
             None => Ok(()),
-            Some(event) => self.follow(alloc, &[event], withdrawn, tick, out),
+            Some(event) => self.follow_one(alloc, event, withdrawn, tick, out),
         }
+    }
+
+    /// The same for one event. What is heard of a FEC from a neighbour that isn't its next hop is kept, and nothing else is done.
+    fn follow_one(
+        &mut self,
+        alloc: Global,
+        event: LibEvent,
+        withdrawn: u32,
+        tick: u64,
+        out: &mut Vec<Said>,
+    ) -> Result<(), AllocError>
+        requires follow { MayFollow self.old withdrawn (event ∷ []) }
+        requires numbers { NumbersFit self.old.sessions.items (length out.old.items) }
+        requires owed { AreFew (2 ^ 62 + length out.old.items) self.old.lib.resting }
+        ensures said { OnOk result (map pdu_of out.new.items ≡ map pdu_of out.old.items ++ pdus_by (wiring_in self.old) self.old.me.0 (own_labels self.old.me.0 self.new.labels.labels) withdrawn
+            self.old.sessions.items (flat_map (said_by_tell (wiring_in self.old) self.old.me.0) (tells self.old.lib.bindings (event ∷ [])))) }
+        ensures counted { OnOk result (self.new.sessions.items ≡ ends_after self.old.sessions.items (flat_map (said_by_tell (wiring_in self.old) self.old.me.0) (tells self.old.lib.bindings (event ∷ [])))) }
+        ensures known { OnOk result (self.new.lib ≡ known_after self.old.lib (event ∷ []) tick) }
+        ensures labels { OnOk result (self.new.labels.labels ≡ offered (is_free self.old.lib tick) self.old.labels.labels
+            (begun self.old.lib.bindings (after_events self.old.lib.bindings (event ∷ [])))) }
+        ensures have { OnOk result (HaveLabels self.old.me.0 (length self.old.loopbacks.items) (after_events self.old.lib.bindings (event ∷ [])) self.new.labels) }
+        ensures table { OnOk result ((label : ℕ) → IsUseOf (lib.usable (after_events self.old.lib.bindings (event ∷ []))) (meaning_of self.new.labels.labels label) (use_of self.new.lfib label)) }
+        ensures sites { OnOk result (SitesStay self.old self.new) }
+        ensures others { OnOk result (self.new ≡ record self.old { sessions = self.new.sessions; lib = self.new.lib; labels = self.new.labels; lfib = self.new.lfib }) }
+    {
+        if self.lib.is_aside(event) {
+            self.lib.hear_aside(event);
+            return Ok(());
+        }
+        self.follow(alloc, &[event], withdrawn, tick, out)
     }
 
     /// The node's end of the session of a link.
     pub(crate) fn session(&self, link: LinkNo) -> Option<Open>
         ensures { result ≡ slice_index_or self.now.sessions.items link.0 None }
     {
-        let at = usize::from(link.0);
-        if at < self.sessions.len() {
-            self.sessions[at]
-        } else {
-            None
-        }
+        self.sessions.get(link)
     }
 
     /// Whether little was said in each session.
     pub(crate) fn has_numbers(&self) -> bool
         ensures { IsTrue result → HasNumbers (node_in self.now) }
     {
-        all_have_numbers(&self.sessions)
+        self.sessions.have_numbers()
     }
 
     /// Sets the node's end of the session of a link.
-    pub(crate) fn set_session(&mut self, link: LinkNo, session: Option<Open>)
+    pub(crate) fn set_session(
+        &mut self,
+        link: LinkNo,
+        session: Option<Open>,
+    ) -> Result<(), AllocError>
         requires { link.0 < length self.old.sessions.items }
-        ensures set { self.new.sessions.items ≡ slice_set self.old.sessions.items link.0 session }
+        ensures set { OnOk result (self.new.sessions.items ≡ slice_set self.old.sessions.items link.0 session) }
         ensures others { self.new ≡ record self.old { sessions = self.new.sessions } }
     {
-        self.sessions[usize::from(link.0)] = session;
+        self.sessions.set(link, session)
     }
 
     /// The neighbour over a link.
@@ -366,7 +413,7 @@ impl Parts {
         let me = self.loopback(self.me);
         let peer = self.loopback(far);
         let session = Session::open(me, peer);
-        self.set_session(link, Some(Open { session, said: 0 }));
+        self.set_session(link, Some(Open { session, said: 0 }))?;
         let mut out = Vec::new(alloc);
         self.reply(alloc, link, first_reply(session), &mut out)?;
         Ok(out)
@@ -392,7 +439,7 @@ impl Parts {
         ensures others { OnOk result (self.new ≡ record self.old { sessions = self.new.sessions; lib = self.new.lib; labels = self.new.labels; lfib = self.new.lfib }) }
     {
         let event = closing(self.session(link), self.far(link));
-        self.set_session(link, None);
+        self.set_session(link, None)?;
         let mut out = Vec::new(alloc);
         self.tell(alloc, event, 0, tick, &mut out)?;
         Ok(out)

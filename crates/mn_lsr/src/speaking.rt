@@ -1,4 +1,4 @@
-ghost use Rattle.std.specs.Prelude.{◌≡◌, ◌≤◌, ◌<◌, ◌+◌, ◌∷◌, ◌++◌, [], ℕ, List, None, length, map, slice_index_or, OnOk};
+ghost use Rattle.std.specs.Prelude.{◌≡◌, ◌≤◌, ◌<◌, ◌+◌, ◌∷◌, ◌++◌, [], ℕ, List, None, length, map, slice_index_or, option_map, OnOk};
 ghost use Rattle.std.specs.List.{flat_map};
 ghost use Rattle.mn_wiring.specs.Wiring.{joining, JoinsNodes};
 ghost use Rattle.mn_labels.specs.Labels.{Labels as NodeLabels, own_labels};
@@ -7,10 +7,11 @@ ghost use Rattle.mn_node.specs.Ldp.{said_on};
 ghost use Rattle.mn_lsr.specs.Message.{meaning, NamesNode, HasLabel};
 ghost use Rattle.mn_lsr.specs.Telling.{said_by_tell, message_of, MayBring, MayTell, other_end, AreLinks};
 ghost use Rattle.mn_lsr.specs.Said.{pdu_of};
-ghost use Rattle.mn_lsr.specs.Parts.{pdus_by, ends_after, said_in, bumped, NumbersFit};
+ghost use Rattle.mn_lsr.specs.Parts.{pdus_by, ends_after, said_in, one_more, bumped, NumbersFit};
 
 use crate::links::link_to;
 use crate::message::{Message, pdu_bytes};
+use crate::own_ends::Sessions;
 use crate::parts::Open;
 use crate::said::Said;
 use mn_base::{LinkNo, NodeNo};
@@ -36,7 +37,7 @@ pub(crate) fn say(
     withdrawn: u32,
     link: LinkNo,
     message: Message,
-    sessions: &mut Vec<Option<Open>>,
+    sessions: &mut Sessions,
     out: &mut Vec<Said>,
 ) -> Result<(), AllocError>
     requires few { length loopbacks.now ≤ 256 }
@@ -53,19 +54,37 @@ pub(crate) fn say(
 {
     let at = usize::from(link.0);
     let far = across(&ends[at], me);
-    let said = match sessions[at] {
-        None => 0,
-        Some(open) => open.said,
-    };
-    let number = said + 1;
+    let end = sessions.get(link);
+    let number = said_at(end) + 1;
     let bytes = pdu_bytes(
         alloc, me, far, loopbacks, labels, withdrawn, number, message,
     )?;
     out.push(Said { link, bytes })?;
-    if let Some(open) = &mut sessions[at] {
-        open.said = number;
+    sessions.set(link, one_more(end))
+}
+
+/// How much was said at an end.
+fn said_at(end: Option<Open>) -> u64
+    ensures { result ≡ said_in end }
+{
+    match end {
+        None => 0,
+        Some(open) => open.said,
     }
-    Ok(())
+}
+
+/// The end once one message more is said there.
+fn one_more(end: Option<Open>) -> Option<Open>
+    requires { said_in end < 18446744073709551615 }
+    ensures { result ≡ option_map one_more end }
+{
+    match end {
+        None => None,
+        Some(open) => Some(Open {
+            session: open.session,
+            said: open.said + 1,
+        }),
+    }
 }
 
 /// Says a message to a neighbour, on the link that joins it.
@@ -79,7 +98,7 @@ pub(crate) fn say_to(
     withdrawn: u32,
     to: NodeNo,
     message: Message,
-    sessions: &mut Vec<Option<Open>>,
+    sessions: &mut Sessions,
     out: &mut Vec<Said>,
 ) -> Result<(), AllocError>
     requires few { length loopbacks.now ≤ 256 }
@@ -126,7 +145,7 @@ pub(crate) fn say_all(
     labels: &Labels,
     withdrawn: u32,
     tells: &[Tell],
-    sessions: &mut Vec<Option<Open>>,
+    sessions: &mut Sessions,
     out: &mut Vec<Said>,
 ) -> Result<(), AllocError>
     requires few { length loopbacks.now ≤ 256 }

@@ -13,14 +13,14 @@ use Rattle.mn_ledger.specs.Ledger.{injects}
 use Rattle.mn_ledger.specs.Time.{ticks_in}
 use Rattle.mn_ledger.specs.OneMore.{tick_from}
 use Rattle.mn_ledger.proofs.Saying.{bounded}
-use Rattle.mn_laws.specs.Flight.{delivering, IsOpen}
-use Rattle.mn_course.specs.declared.coming.Kind.{Kind}
-use Rattle.mn_course.specs.declared.coming.Coming.{Coming}
-use Rattle.mn_course.specs.Coming.{is_kind, kind_of, lost, delivery}
-use Rattle.mn_course.specs.Next.{IsNext}
-use Rattle.mn_net_model.specs.Stands as model
-use Rattle.mn_net_look.specs.Parts.{PartsStand, packed_of}
-use Rattle.mn_net_moves.specs.Now.{NetNow, StandsFor, IsNet}
+use Rattle.mn_ledger_laws.specs.Flight.{delivering, IsOpen}
+use Rattle.mn_course_laws.specs.declared.coming.Kind.{Kind}
+use Rattle.mn_course_laws.specs.declared.coming.Coming.{Coming}
+use Rattle.mn_course_laws.specs.Coming.{is_kind, kind_of, lost, delivery}
+use Rattle.mn_course_laws.specs.Next.{IsNext}
+use Rattle.mn_net_parts_laws.specs.Stands as model
+use Rattle.mn_net_refusals.specs.Parts.{PartsStand, packed_of}
+use Rattle.mn_net_laws.specs.Now.{NetNow, StandsFor, IsNet}
 
 pub parts_stand : (net : NetNow) (ps : List (List ℕ)) → net.moving.channels ≡ 2 * length net.topology.links → StandsFor net ps →
     PartsStand net.topology net.journal ps net.transport net.routes net.moving net.tally

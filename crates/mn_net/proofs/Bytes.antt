@@ -24,22 +24,22 @@ use Rattle.mn_ledger.specs.Items.{flight_of}
 use Rattle.mn_ledger.specs.InFlight.{IsInFlight}
 use Rattle.mn_ledger.proofs.Flows.{in_flight}
 use Rattle.mn_ledger.proofs.Turning.{end_is, dir_ends}
-use Rattle.mn_laws.specs.Flight.{IsOfChannel}
-use Rattle.mn_frames.specs.Given.{given}
-use Rattle.mn_frames.specs.Numbers.{labels_of}
-use Rattle.mn_frames.specs.Frames.{stack_of}
-use Rattle.mn_bgp_spelling.specs.Spelling.{bytes_in}
+use Rattle.mn_ledger_laws.specs.Flight.{IsOfChannel}
+use Rattle.mn_frame_laws.specs.Given.{given}
+use Rattle.mn_frame_laws.specs.Numbers.{labels_of}
+use Rattle.mn_frame_laws.specs.Frames.{stack_of}
+use Rattle.mn_bgp_spelling_laws.specs.Spelling.{bytes_in}
 use Rattle.mn_transit.specs.declared.flown.Flown.{Flown}
 use Rattle.mn_transit.specs.Stands.{AreFlown}
-use Rattle.mn_timetable.specs.Keys.{Numbering, Names, IsThere, is_number, of_notices, of_messages, of_routes, of_frames, channel_from}
-use Rattle.mn_timetable.proofs.OtherKeys.{edge-below, pair_one}
-use Rattle.mn_transport_model.specs.Sending.{spelled}
-use Rattle.mn_transport_model.specs.Stands.{own_of}
-use Rattle.mn_transport_model.proofs.Spelled.{sends-here}
-use Rattle.mn_net_model.proofs.News.{all_there}
-use Rattle.mn_net_look.specs.Coming.{dir_of}
-use Rattle.mn_net_look.proofs.OnChannels.{names_all, message_named, route_named}
-use Rattle.mn_net_moves.specs.Now.{NetNow, StandsFor}
+use Rattle.mn_timetable_laws.specs.Keys.{Numbering, Names, IsThere, is_number, of_notices, of_messages, of_routes, of_frames, channel_from}
+use Rattle.mn_timetable_laws.proofs.OtherKeys.{edge-below, pair_one}
+use Rattle.mn_transport_laws.specs.Sending.{spelled}
+use Rattle.mn_transport_laws.specs.Stands.{own_of}
+use Rattle.mn_transport_laws.proofs.Spelled.{sends-here}
+use Rattle.mn_net_parts_laws.proofs.News.{all_there}
+use Rattle.mn_net_refusals.specs.Coming.{dir_of}
+use Rattle.mn_net_refusals.proofs.OnChannels.{names_all, message_named, route_named}
+use Rattle.mn_net_laws.specs.Now.{NetNow, StandsFor}
 use Rattle.mn_net.specs.declared.flight.Channel.TheVariants as its
 use Rattle.mn_net.specs.declared.flight.Channel.{Channel as Place}
 use Rattle.mn_net.specs.Told.{channel_of, bytes_on}

@@ -8,11 +8,11 @@ use Rattle.mn_topo.specs.declared.steps.Damaged.TheVariants.{Undamaged}
 use Rattle.mn_topo.specs.declared.steps.JournalEntry.{JournalEntry}
 use Rattle.mn_ledger.specs.declared.refused.Refused.TheVariants.{Empty, StillReads}
 use Rattle.mn_ledger.specs.OneMore.{with_packet}
-use Rattle.mn_timetable.specs.Steps.{pushed}
+use Rattle.mn_timetable_laws.specs.Steps.{pushed}
 use Rattle.mn_damage.specs.Damages.{hearing, ending, mark_of, entry_for, damage_fits}
 use Rattle.mn_damage.specs.Same.{unmarked}
-use Rattle.mn_marks.specs.Marks.{marked, marked_last}
-use Rattle.mn_marks.proofs.Still.{marks_last, still}
+use Rattle.mn_mark_laws.specs.Marks.{marked, marked_last}
+use Rattle.mn_mark_laws.proofs.Still.{marks_last, still}
 use Rattle.mn_topo.specs.Network.{Network}
 use Rattle.mn_topo.specs.Steps.{fits}
 use Rattle.mn_ledger.specs.Time.{ticks_in}
@@ -21,8 +21,8 @@ use Rattle.mn_ledger.specs.Refusal.{refusal}
 use Rattle.mn_damage.specs.Refusals.{damage_refusal, still_reads}
 use Rattle.mn_damage.proofs.Lives.{ends, in_turn}
 use Rattle.mn_net.specs.Damaged.{IsDamaged}
-use Rattle.mn_net_moves.specs.Now.{NetNow, StandsFor, IsNet}
-use Rattle.mn_net_moves.specs.Done.{IsDone}
+use Rattle.mn_net_laws.specs.Now.{NetNow, StandsFor, IsNet}
+use Rattle.mn_net_laws.specs.Done.{IsDone}
 
 -- what is taken off the end and put back marked is the last entry marked
 pub put_back : (old rest later : List JournalEntry) (last : JournalEntry) (m : Damaged) → old ≡ rest ++ last ∷ [] → later ≡ rest ++ marked last m ∷ [] →

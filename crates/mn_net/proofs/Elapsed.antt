@@ -3,14 +3,14 @@ use Rattle.std.proofs.Common.{ℕ, ◌≡◌, ◌+◌, [], sym, subst}
 use Rattle.mn_topo.specs.declared.steps.Step.TheVariants.{Tick}
 use Rattle.mn_ledger.specs.Packets.{Packets}
 use Rattle.mn_ledger.specs.Time.{expire}
-use Rattle.mn_frames.specs.Given.{Labelling}
+use Rattle.mn_frame_laws.specs.Given.{Labelling}
 use Rattle.mn_transit.specs.Moving.{Moving, CountsOn}
 use Rattle.mn_transit.specs.Stands as transit
 use Rattle.mn_transit.specs.Aging.{DueAsSent}
-use Rattle.mn_timetable.specs.Keys.{keys_in, keys_in_time}
-use Rattle.mn_timetable.specs.Steps.{pushed}
-use Rattle.mn_net_moves.specs.Now.{NetNow}
-use Rattle.mn_net_moves.proofs.Moves.{Goes}
+use Rattle.mn_timetable_laws.specs.Keys.{keys_in, keys_in_time}
+use Rattle.mn_timetable_laws.specs.Steps.{pushed}
+use Rattle.mn_net_laws.specs.Now.{NetNow}
+use Rattle.mn_net_laws.proofs.Moves.{Goes}
 
 module _ (old : NetNow) (begun moving : Moving) (ticks : ℕ) where
   -- the frames that are too old have ended

@@ -8,9 +8,9 @@ use Rattle.mn_ledger.specs.Ledger.{world_of}
 use Rattle.mn_ledger.proofs.Saying.{bounded}
 use Rattle.mn_wiring.specs.Wiring.{links_of}
 use Rattle.mn_topo.specs.Network.{wiring_of}
-use Rattle.mn_made.proofs.Few.{makes_few}
-use Rattle.mn_net_moves.specs.Now.{NetNow, IsNet, HasRoom}
-use Rattle.mn_net_moves.proofs.Moves.{Goes}
+use Rattle.mn_item_laws.proofs.Few.{makes_few}
+use Rattle.mn_net_laws.specs.Now.{NetNow, IsNet, HasRoom}
+use Rattle.mn_net_laws.proofs.Moves.{Goes}
 
 pub made_fits : (net : NetNow) → IsLawful net.topology → IsNet net → net.made ≤ 2 ^ 62
 made_fits net lawful is =

@@ -9,11 +9,11 @@ use Rattle.mn_base.proofs.Bools.{same_test, other_test, same_numbers, less_is, n
 use Rattle.mn_flight.specs.declared.Item.{Item as ItemOf}
 use Rattle.mn_flight.specs.Flying.{on_channel}
 use Rattle.mn_ledger.specs.Items.{Channel, Load, Item, same_channel, items_on, loads_on}
-use Rattle.mn_laws.specs.Flight.{AreAscending}
-use Rattle.mn_timetable.specs.Keys.{Key, Numbering, key_of, keys_in, keys_on, with_key, Names}
-use Rattle.mn_net_model.proofs.Counted.{counted_in}
-use Rattle.mn_net_look.proofs.OnChannels.{counted_names}
-use Rattle.mn_net_look.specs.Refusal.{count_on}
+use Rattle.mn_ledger_laws.specs.Flight.{AreAscending}
+use Rattle.mn_timetable_laws.specs.Keys.{Key, Numbering, key_of, keys_in, keys_on, with_key, Names}
+use Rattle.mn_net_parts_laws.proofs.Counted.{counted_in}
+use Rattle.mn_net_refusals.proofs.OnChannels.{counted_names}
+use Rattle.mn_net_refusals.specs.Refusal.{count_on}
 
 first_is : {A : Type 0} (x y : A) (xs ys : List A) → x ∷ xs ≡ y ∷ ys → x ≡ y
 first_is x y xs ys e = cc

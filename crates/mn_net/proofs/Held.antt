@@ -21,33 +21,33 @@ use Rattle.mn_ledger.specs.Bgp.{peers_live, state_heard, bgp_state_of}
 use Rattle.mn_ledger.specs.Held.{HeldRoute, is_better, unbeaten, first_of, held}
 use Rattle.mn_ledger.specs.Held as ledger_held
 use Rattle.mn_ledger.proofs.Held.{one_held}
-use Rattle.mn_laws.proofs.There.{edge_there}
-use Rattle.mn_laws.proofs.Holding.{length_range}
-use Rattle.mn_frames.specs.Given.{given, label_at}
-use Rattle.mn_frames.specs.Numbers.{labels_of}
-use Rattle.mn_frames.proofs.Anew.{gives_to_no_other}
-use Rattle.mn_frames.proofs.Named.{all_have_labels}
+use Rattle.mn_ledger_laws.proofs.There.{edge_there}
+use Rattle.mn_ledger_laws.proofs.Holding.{length_range}
+use Rattle.mn_frame_laws.specs.Given.{given, label_at}
+use Rattle.mn_frame_laws.specs.Numbers.{labels_of}
+use Rattle.mn_frame_laws.proofs.Anew.{gives_to_no_other}
+use Rattle.mn_frame_laws.proofs.Named.{all_have_labels}
 use Rattle.mn_vrf.specs.Vrf.{VrfState, heads, IsHeldAt}
 use Rattle.mn_vrf.specs.declared.source.Source.{Source}
 use Rattle.mn_pe.specs.Edge.{Edge}
 use Rattle.mn_pe.specs.Entries as entry
 use Rattle.mn_pe.specs.Held.{held_by, far_over}
 use Rattle.mn_pe.specs.Pe.{PeNow, found_in}
-use Rattle.mn_bgp_spelling.specs.Spelling.{Labels, session_in}
+use Rattle.mn_bgp_spelling_laws.specs.Spelling.{Labels, session_in}
 use Rattle.mn_bgp_session.specs.declared.session.BgpSession.{BgpSession}
-use Rattle.mn_routing_model.specs.Routed.{working}
-use Rattle.mn_routing_model.specs.Sending.{bgp_state_by}
-use Rattle.mn_routing_model.specs.Sources.{as_held, source_from}
-use Rattle.mn_routing_model.specs.Standing.{vrf_in, edge_in}
-use Rattle.mn_routing_model.specs.Whole.{routes_in, edge_or_none, session_or_none}
-use Rattle.mn_routing_model.proofs.Holding.{Stands, holds}
-use Rattle.mn_routing_model.proofs.Lawful.{rests, stands}
-use Rattle.mn_routing_model.proofs.Tables.{map_numbers_at}
-use Rattle.mn_net_look.specs.Refusal.{asked}
-use Rattle.mn_net_look.proofs.Vrfs.{vrf_is}
-use Rattle.mn_net_moves.specs.Now.{NetNow, IsNet}
-use Rattle.mn_net.specs.Tables.{prefixes_of, best_at, held_at}
-use Rattle.mn_net.proofs.Prefixes.{place_told}
+use Rattle.mn_routing_laws.specs.Routed.{working}
+use Rattle.mn_routing_laws.specs.Sending.{bgp_state_by}
+use Rattle.mn_routing_laws.specs.Sources.{as_held, source_from}
+use Rattle.mn_routing_laws.specs.Standing.{vrf_in, edge_in}
+use Rattle.mn_routing_laws.specs.Whole.{routes_in, edge_or_none, session_or_none}
+use Rattle.mn_routing_laws.proofs.Holding.{Stands, holds}
+use Rattle.mn_routing_laws.proofs.Lawful.{rests, stands}
+use Rattle.mn_routing_laws.proofs.Tables.{map_numbers_at}
+use Rattle.mn_net_refusals.specs.Refusal.{asked}
+use Rattle.mn_net_refusals.proofs.Vrfs.{vrf_is}
+use Rattle.mn_net_laws.specs.Now.{NetNow, IsNet}
+use Rattle.mn_ledger.specs.Heads.{prefixes_of, best_at, held_at}
+use Rattle.mn_routing_laws.proofs.Prefixes.{place_told}
 
 -- 1. Sessions
 

@@ -16,9 +16,9 @@ use Rattle.mn_ledger.specs.Ledger.{after, start, no_packets, injects, next_of, l
 use Rattle.mn_ledger.specs.Time.{timed}
 use Rattle.mn_ledger.specs.Verdicts.{one_if, AreInOnePlace}
 use Rattle.mn_ledger.proofs.OnePlace.{stepped, timed_places}
-use Rattle.mn_laws.specs.Accounts.{is_copy}
-use Rattle.mn_laws.proofs.Copies.{Goes, goes, nowhere, numbered}
-use Rattle.mn_frames.specs.Given.{Labelling}
+use Rattle.mn_ledger_laws.specs.Accounts.{is_copy}
+use Rattle.mn_ledger_laws.proofs.Copies.{Goes, goes, nowhere, numbered}
+use Rattle.mn_frame_laws.specs.Given.{Labelling}
 use Rattle.mn_transit.specs.Moving.{Moving}
 use Rattle.mn_transit.specs.Stands as transit
 use Rattle.mn_transit.specs.Landed.{site_as, IsLast, HasLandedBy, HasLanded}
@@ -50,29 +50,29 @@ counted_from t (e ∷ es) w k count ps one h =
 
 -- a verdict that is a copy tells its site
 no_site : (c : ℕ) (v : Verdict) → is_copy c v ≡ true → site_as c (Some v) ≡ None → ⊥
-no_site c (Delivered s ttl n) h none = some (sym (ap (λ b. cond b (Some s) None) h) ∙ none)
+no_site c (Delivered ttl s n) h none = some (sym (ap (λ b. cond b (Some s) None) h) ∙ none)
   where
     some : Some s ≡ None → ⊥
     some e = cc
 no_site c (Dropped cause node) h none = no h
 no_site c (Flying link dir) h none = no h
 
-no_site_at : (c : ℕ) (vs : List Verdict) (p : ℕ) → p < length vs → is_copy c (slice_index_or vs p (Delivered (record { 0 = 0 }) 0 0)) ≡ true
+no_site_at : (c : ℕ) (vs : List Verdict) (p : ℕ) → p < length vs → is_copy c (slice_index_or vs p (Delivered 0 (record { 0 = 0 }) 0)) ≡ true
     → site_as c (slice_get vs p) ≡ None → ⊥
 no_site_at c [] p below h none = omega (arith, below)
 no_site_at c (v ∷ vs) zero below h none = no_site c v h none
 no_site_at c (v ∷ vs) (suc p) below h none = no_site_at c vs p (omega (arith, below)) h none
 
 abbrev IsAt : ℕ → List Verdict → ℕ → SiteNo → Type 0
-IsAt c vs p s = (ttl : ℕ) × (p < length vs) × (slice_index_or vs p (Delivered (record { 0 = 0 }) 0 0) ≡ Delivered s ttl c)
+IsAt c vs p s = (ttl : ℕ) × (p < length vs) × (slice_index_or vs p (Delivered 0 (record { 0 = 0 }) 0) ≡ Delivered ttl s c)
 
 sited : (c : ℕ) (vs : List Verdict) (p : ℕ) (s : SiteNo) → site_as c (slice_get vs p) ≡ Some s → IsAt c vs p s
 sited c [] p s h = absurd (none h)
   where
     none : site_as c (slice_get [] p) ≡ Some s → ⊥
     none h = cc
-sited c (Delivered r ttl n ∷ vs) zero s h = elim (eqb_tells n c) [
-  | inl q ↦ (ttl, omega arith, ap (Delivered r ttl) q.1 ∙ ap (λ x. Delivered x ttl c) (same_Some r s (sym (ap (λ b. cond b (Some r) None) q.0) ∙ h)))
+sited c (Delivered ttl r n ∷ vs) zero s h = elim (eqb_tells n c) [
+  | inl q ↦ (ttl, omega arith, ap (Delivered ttl r) q.1 ∙ ap (λ x. Delivered ttl x c) (same_Some r s (sym (ap (λ b. cond b (Some r) None) q.0) ∙ h)))
   | inr q ↦ absurd (none (sym (ap (λ b. cond b (Some r) None) q.0) ∙ h))
 ]
   where

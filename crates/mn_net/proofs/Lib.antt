@@ -5,7 +5,6 @@ pub mod Landed
 pub mod Found
 pub mod Bytes
 pub mod Pieces
-pub mod Prefixes
 pub mod Making
 pub mod Settled
 pub mod Clocks

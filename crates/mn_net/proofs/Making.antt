@@ -24,13 +24,13 @@ use Rattle.mn_ledger.specs.Items.{delay_on, numbered, left_in_flight, in_time_by
 use Rattle.mn_ledger.specs.Time.{clock_after}
 use Rattle.mn_ledger.specs.InFlight.{IsInFlight}
 use Rattle.mn_ledger.proofs.Flows.{in_flight}
-use Rattle.mn_frames.specs.Given.{given}
-use Rattle.mn_transport_model.specs.Stands.{own_of}
-use Rattle.mn_laws.specs.Flight.{AreAscending, IsOfChannel}
-use Rattle.mn_laws.proofs.Channels.{channels_are}
-use Rattle.mn_laws.proofs.Ordered.{numbers_ascend}
-use Rattle.mn_course.specs.Coming.{kind_of, place_of}
-use Rattle.mn_timetable.proofs.Keys.{numbered-append}
+use Rattle.mn_frame_laws.specs.Given.{given}
+use Rattle.mn_transport_laws.specs.Stands.{own_of}
+use Rattle.mn_ledger_laws.specs.Flight.{AreAscending, IsOfChannel}
+use Rattle.mn_ledger_laws.proofs.Channels.{channels_are}
+use Rattle.mn_ledger_laws.proofs.Ordered.{numbers_ascend}
+use Rattle.mn_course_laws.specs.Coming.{kind_of, place_of}
+use Rattle.mn_timetable_laws.proofs.Keys.{numbered-append}
 use Rattle.mn_net.specs.Told.{Told, channel_of, bytes_on, item_told, told_at, bytes_made, count_made, told_made, MadeIsTold}
 use Rattle.mn_net.proofs.Found.{one_found, its_place}
 use Rattle.mn_net.proofs.Pieces.{told_as}

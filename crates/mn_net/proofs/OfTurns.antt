@@ -6,8 +6,8 @@ use Rattle.mn_topo.specs.declared.steps.Damaged.TheVariants.{Undamaged}
 use Rattle.mn_ledger.specs.Bgp.{is_routing}
 use Rattle.mn_ledger.specs.Parts.{is_moving}
 use Rattle.mn_ledger.specs.Transport.{is_transport}
-use Rattle.mn_net_look.specs.Tallies.{Tally, HasStatic, after_static}
-use Rattle.mn_transport_model.specs.Steps.{touches}
+use Rattle.mn_net_refusals.specs.Tallies.{Tally, HasStatic, after_static}
+use Rattle.mn_transport_laws.specs.Steps.{touches}
 use Rattle.mn_net.specs.Turns.{link_step, route_step}
 use Rattle.mn_net.specs.declared.turns.LinkTurn.{LinkTurn}
 use Rattle.mn_net.specs.declared.turns.LinkTurn.TheVariants as link
@@ -32,8 +32,8 @@ of_routes (route.BgpDown a b) = refl
 of_routes (route.HearBgp a b) = refl
 of_routes (route.AddRoute site prefix) = refl
 of_routes (route.DelRoute site prefix) = refl
-of_routes (route.Import vrf target on) = refl
-of_routes (route.Export vrf target on) = refl
+of_routes (route.Import vrf on target) = refl
+of_routes (route.Export vrf on target) = refl
 
 pub of_routes_alone : (turn : RouteTurn) → touches (route_step turn) ≡ false
 of_routes_alone (route.BgpUp a b) = refl
@@ -41,8 +41,8 @@ of_routes_alone (route.BgpDown a b) = refl
 of_routes_alone (route.HearBgp a b) = refl
 of_routes_alone (route.AddRoute site prefix) = refl
 of_routes_alone (route.DelRoute site prefix) = refl
-of_routes_alone (route.Import vrf target on) = refl
-of_routes_alone (route.Export vrf target on) = refl
+of_routes_alone (route.Import vrf on target) = refl
+of_routes_alone (route.Export vrf on target) = refl
 
 -- the entry is that of the step
 pub as_said : (es : List JournalEntry) (tick : ℕ) (said : Step) {s : Step} → said ≡ s →

@@ -15,9 +15,9 @@ use Rattle.mn_ledger.specs.Held.{HeldRoute, unbeaten, held}
 use Rattle.mn_ledger.specs.Held as ledger_held
 use Rattle.mn_ledger.specs.Eligible.{is_resolved}
 use Rattle.mn_ledger.proofs.Held.{one_held}
-use Rattle.mn_frames.specs.Given.{Labelling, given}
-use Rattle.mn_frames.specs.Entries.{AreWays}
-use Rattle.mn_frames.specs.Numbers.{labels_of}
+use Rattle.mn_frame_laws.specs.Given.{Labelling, given}
+use Rattle.mn_frame_laws.specs.Entries.{AreWays}
+use Rattle.mn_frame_laws.specs.Numbers.{labels_of}
 use Rattle.mn_vrf.specs.Vrf.{VrfState}
 use Rattle.mn_vrf.specs.Routes.{route_before, is_open, open_among, sources_of}
 use Rattle.mn_vrf.specs.declared.source.Source.{Source}
@@ -25,21 +25,21 @@ use Rattle.mn_pe.specs.Edge.{Edge}
 use Rattle.mn_pe.specs.Entries as entry
 use Rattle.mn_pe.specs.Held.{held_by}
 use Rattle.mn_pe.specs.Pe.{PeNow, found_in}
-use Rattle.mn_bgp_spelling.specs.Spelling.{Labels}
-use Rattle.mn_routing_model.specs.Routed.{working}
-use Rattle.mn_routing_model.specs.Sources.{as_held}
-use Rattle.mn_routing_model.specs.Standing.{vrf_in, edge_in}
-use Rattle.mn_routing_model.proofs.Choosing.{same_filter}
-use Rattle.mn_routing_model.proofs.Chosen.{open_where_resolved}
-use Rattle.mn_routing_model.proofs.Holding.{Stands, holds}
-use Rattle.mn_routing_model.proofs.Lawful.{rests, stands}
-use Rattle.mn_routing_model.proofs.Lookup.{SameRoutes}
-use Rattle.mn_net_look.specs.Refusal.{asked}
-use Rattle.mn_net_look.proofs.Vrfs.{vrf_is}
-use Rattle.mn_net_moves.specs.Now.{NetNow, IsNet}
-use Rattle.mn_net.specs.Tables.{best_for}
+use Rattle.mn_bgp_spelling_laws.specs.Spelling.{Labels}
+use Rattle.mn_routing_laws.specs.Routed.{working}
+use Rattle.mn_routing_laws.specs.Sources.{as_held}
+use Rattle.mn_routing_laws.specs.Standing.{vrf_in, edge_in}
+use Rattle.mn_routing_laws.proofs.Choosing.{same_filter}
+use Rattle.mn_routing_laws.proofs.Chosen.{open_where_resolved}
+use Rattle.mn_routing_laws.proofs.Holding.{Stands, holds}
+use Rattle.mn_routing_laws.proofs.Lawful.{rests, stands}
+use Rattle.mn_routing_laws.proofs.Lookup.{SameRoutes}
+use Rattle.mn_net_refusals.specs.Refusal.{asked}
+use Rattle.mn_net_refusals.proofs.Vrfs.{vrf_is}
+use Rattle.mn_net_laws.specs.Now.{NetNow, IsNet}
+use Rattle.mn_ledger.specs.Heads.{best_for}
 use Rattle.mn_net.proofs.Held.{edge_told, its_edge, given_as}
-use Rattle.mn_net.proofs.Prefixes.{IsHead, head_is_best, same_tells, same_is}
+use Rattle.mn_routing_laws.proofs.Prefixes.{IsHead, head_is_best, same_tells, same_is}
 use Rattle.std.proofs.lemmas.Option.{same_Some}
 
 abbrev Route : Type 0

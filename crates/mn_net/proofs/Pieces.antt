@@ -12,18 +12,18 @@ use Rattle.mn_topo.specs.Lawful.{IsLawful}
 use Rattle.mn_topo.specs.Network.{Network}
 use Rattle.mn_topo.specs.declared.steps.JournalEntry.{JournalEntry}
 use Rattle.mn_ledger.specs.Items.{Channel, Notices, Messages, Routes, Frames, Item, Load, items_on, flight_of}
-use Rattle.mn_laws.specs.Flight.{AreAscending, IsOfChannel}
-use Rattle.mn_laws.proofs.Channels.{channels_are}
-use Rattle.mn_laws.proofs.Ordered.{numbers_ascend}
-use Rattle.mn_course.specs.declared.coming.Kind.{Kind}
-use Rattle.mn_course.specs.declared.coming.Kind.TheVariants.{Notice, Message, Frame}
-use Rattle.mn_course.specs.Coming.{is_kind, kind_of, place_of}
+use Rattle.mn_ledger_laws.specs.Flight.{AreAscending, IsOfChannel}
+use Rattle.mn_ledger_laws.proofs.Channels.{channels_are}
+use Rattle.mn_ledger_laws.proofs.Ordered.{numbers_ascend}
+use Rattle.mn_course_laws.specs.declared.coming.Kind.{Kind}
+use Rattle.mn_course_laws.specs.declared.coming.Kind.TheVariants.{Notice, Message, Frame}
+use Rattle.mn_course_laws.specs.Coming.{is_kind, kind_of, place_of}
 use Rattle.mn_transit.specs.declared.flown.Flown.{Flown}
-use Rattle.mn_transport_model.specs.declared.notice.Notice.{Notice as NoticeOf}
-use Rattle.mn_timetable.specs.Keys.{Numbering, keys_in, keys_on, with_key, of_notices, of_messages, of_routes, of_frames}
-use Rattle.mn_net_look.specs.Coming.{dir_of, pending_seen}
-use Rattle.mn_net_look.specs.Parts.{OnChannels, packed_of}
-use Rattle.mn_net_moves.specs.Now.{NetNow, StandsFor}
+use Rattle.mn_transport_laws.specs.declared.notice.Notice.{Notice as NoticeOf}
+use Rattle.mn_timetable_laws.specs.Keys.{Numbering, keys_in, keys_on, with_key, of_notices, of_messages, of_routes, of_frames}
+use Rattle.mn_net_refusals.specs.Coming.{dir_of, pending_seen}
+use Rattle.mn_net_refusals.specs.Parts.{OnChannels, packed_of}
+use Rattle.mn_net_laws.specs.Now.{NetNow, StandsFor}
 use Rattle.mn_net.specs.declared.flight.Channel.{Channel as Place}
 use Rattle.mn_net.specs.Told.{Told, channel_of, bytes_on, item_told, told_at}
 use Rattle.mn_net.specs.Tables.{count_of}

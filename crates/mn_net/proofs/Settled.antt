@@ -17,15 +17,15 @@ use Rattle.mn_ledger.specs.Ledger.{world_of}
 use Rattle.mn_ledger.specs.Lawful.{IsLawfulJournal}
 use Rattle.mn_ledger.specs.Settled.{IsSettled, hops_from}
 use Rattle.mn_ledger.proofs.Members.{contained_in}
-use Rattle.mn_laws.proofs.There.{edge_there}
-use Rattle.mn_settled.specs.Ways.{links_up, way, Reaches, KnowsTheWay}
-use Rattle.mn_settled.specs.Arrival.{IsLeastWay}
-use Rattle.mn_settled.specs.Routes.{eligible_of}
-use Rattle.mn_settled.proofs.Ways.{know_the_ways}
-use Rattle.mn_settled.proofs.LeastWay.{route_is_least}
-use Rattle.mn_settled.proofs.Lookup.{chooses}
-use Rattle.mn_routing_model.proofs.Home.{among_edges}
-use Rattle.mn_net_moves.specs.Told.{hop_to}
+use Rattle.mn_ledger_laws.proofs.There.{edge_there}
+use Rattle.mn_settled_laws.specs.Ways.{links_up, way, Reaches, KnowsTheWay}
+use Rattle.mn_settled_laws.specs.Arrival.{IsLeastWay}
+use Rattle.mn_settled_laws.specs.Routes.{eligible_of}
+use Rattle.mn_settled_laws.proofs.Ways.{know_the_ways}
+use Rattle.mn_settled_laws.proofs.LeastWay.{route_is_least}
+use Rattle.mn_settled_laws.proofs.Lookup.{chooses}
+use Rattle.mn_routing_laws.proofs.Home.{among_edges}
+use Rattle.mn_net_laws.specs.Told.{hop_to}
 use Rattle.mn_net.specs.Settled.{IsByLinks}
 
 -- 1. Hops

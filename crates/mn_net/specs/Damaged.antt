@@ -2,7 +2,7 @@
 use Rattle.std.specs.Prelude.{◌≡◌, ◌≤◌, [], ◌∷◌, ◌++◌}
 use Rattle.mn_topo.specs.declared.steps.Damage.{Damage}
 use Rattle.mn_damage.specs.Damages.{entry_for}
-use Rattle.mn_net_moves.specs.Now.{NetNow}
+use Rattle.mn_net_laws.specs.Now.{NetNow}
 
 -- one entry more, that of the damage, at the present tick
 pub record IsDamaged (old new : NetNow) (damage : Damage) : Type 0 where

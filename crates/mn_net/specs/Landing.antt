@@ -10,7 +10,7 @@ abbrev pub IsLandingOf : Packets → Option (List ℕ) → Option (ℕ × SiteNo
 IsLandingOf packets None found = found ≡ None
 IsLandingOf packets (Some bytes) None = ⊥
 IsLandingOf packets (Some bytes) (Some found) =
-    (ttl : ℕ) × (found.0 < length packets.verdicts) × (verdict_on packets found.0 ≡ Delivered found.1 ttl packets.copies)
+    (ttl : ℕ) × (found.0 < length packets.verdicts) × (verdict_on packets found.0 ≡ Delivered ttl found.1 packets.copies)
 
 -- none exactly where it delivered nothing
 abbrev pub IsLanding : Packets → Option (ℕ × SiteNo) → Type 0

@@ -4,5 +4,6 @@ pub mod Landing
 pub mod Tables
 pub mod Settled
 pub mod Damaged
-pub use Rattle.mn_net_moves.specs.Done
-pub use Rattle.mn_net_moves.specs.Now
+pub use Rattle.mn_net_laws.specs.Done
+pub use Rattle.mn_net_laws.specs.Now
+pub mod Inside

@@ -4,8 +4,8 @@ use Rattle.mn_base.specs.declared.numbers.NodeNo.{NodeNo}
 use Rattle.mn_wiring.specs.Paths.{next}
 use Rattle.mn_topo.specs.Network.{Network, wiring_of}
 use Rattle.mn_ledger.specs.World.{World}
-use Rattle.mn_settled.specs.Ways.{links_up, Reaches}
-use Rattle.mn_settled.specs.Arrival.{IsLeastWay}
+use Rattle.mn_settled_laws.specs.Ways.{links_up, Reaches}
+use Rattle.mn_settled_laws.specs.Arrival.{IsLeastWay}
 
 -- the next hop from a node towards another over the links that are up
 abbrev pub hop_over_links : Network → World → ℕ → ℕ → Option NodeNo

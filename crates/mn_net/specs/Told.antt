@@ -13,13 +13,13 @@ use Rattle.mn_ledger.specs.Verdicts.{injections}
 use Rattle.mn_ledger.specs.Packets.{away_from}
 use Rattle.mn_ledger.specs.Items.{Item, Load, Says, Tells, Carries, same_channel, delay_on, flight_of}
 use Rattle.mn_ledger.specs.Items as on
-use Rattle.mn_frames.specs.Given.{given}
-use Rattle.mn_frames.specs.Numbers.{labels_of}
-use Rattle.mn_frames.specs.Frames.{stack_of}
-use Rattle.mn_transport_model.specs.Stands.{own_of}
-use Rattle.mn_bgp_spelling.specs.Spelling.{bytes_in}
-use Rattle.mn_course.specs.declared.coming.Kind.{Kind}
-use Rattle.mn_course.specs.Coming.{kind_of, place_of}
+use Rattle.mn_frame_laws.specs.Given.{given}
+use Rattle.mn_frame_laws.specs.Numbers.{labels_of}
+use Rattle.mn_frame_laws.specs.Frames.{stack_of}
+use Rattle.mn_transport_laws.specs.Stands.{own_of}
+use Rattle.mn_bgp_spelling_laws.specs.Spelling.{bytes_in}
+use Rattle.mn_course_laws.specs.declared.coming.Kind.{Kind}
+use Rattle.mn_course_laws.specs.Coming.{kind_of, place_of}
 use Rattle.mn_net.specs.declared.flight.Channel.{Channel}
 use Rattle.mn_net.specs.declared.flight.Channel.TheVariants.{Notice, Ldp, Bgp, Frame}
 

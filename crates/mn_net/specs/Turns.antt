@@ -18,5 +18,5 @@ route_step (route.BgpDown a b) = step.BgpDown a b
 route_step (route.HearBgp a b) = step.HearBgp a b
 route_step (route.AddRoute site prefix) = step.AddRoute site prefix
 route_step (route.DelRoute site prefix) = step.DelRoute site prefix
-route_step (route.Import vrf target on) = step.Import vrf target on
-route_step (route.Export vrf target on) = step.Export vrf target on
+route_step (route.Import vrf on target) = step.Import vrf on target
+route_step (route.Export vrf on target) = step.Export vrf on target

@@ -4,10 +4,10 @@ ghost use Rattle.mn_damage.specs.Damages.{damage_fits, hearing};
 ghost use Rattle.mn_ledger.specs.Refusal.{refusal};
 ghost use Rattle.mn_damage.specs.Refusals.{damage_refusal};
 ghost use Rattle.mn_ledger.specs.declared.refused.Refused.TheVariants as why;
-ghost use Rattle.mn_marks.specs.Marks.{marked_last};
-ghost use Rattle.mn_net_moves.specs.Now.{StandsFor};
-ghost use Rattle.mn_net_moves.specs.Labels.{LabelsMean};
-ghost use Rattle.mn_net_moves.specs.Done.{Answers, Leaves};
+ghost use Rattle.mn_mark_laws.specs.Marks.{marked_last};
+ghost use Rattle.mn_net_laws.specs.Now.{StandsFor};
+ghost use Rattle.mn_net_laws.specs.Labels.{LabelsMean};
+ghost use Rattle.mn_net_laws.specs.Done.{Answers, Leaves};
 ghost use Rattle.mn_net.specs.Damaged.{IsDamaged};
 
 use crate::net::{Done, Net};

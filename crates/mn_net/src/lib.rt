@@ -2,7 +2,7 @@
 //!
 //! It goes on by steps, each one act of one actor (a link comes up, a node learns of it, a message is received, a packet enters, a frame
 //! arrives), in whatever order the caller names them. After each step it stands for the ledger of its journal (`StandsFor` of
-//! mn_net_now): what its readers answer, what it refuses and what is in flight are functions of the topology, the journal and the packets.
+//! mn_net_laws): what its readers answer, what it refuses and what is in flight are functions of the topology, the journal and the packets.
 //!
 //! ```text
 //!  step --refusal--> the transport: link up/down, learn, ldp, hear      \
@@ -10,7 +10,7 @@
 //!                    the packets: inject, carry, lose, a link's frames  /
 //! ```
 //!
-//! A step is refused by the first of the ledger's causes (mn_net_look), and then nothing changes. Otherwise the part that it concerns does
+//! A step is refused by the first of the ledger's causes (mn_net_refusals), and then nothing changes. Otherwise the part that it concerns does
 //! it, by a call whose contract says the ledger's step in that part's words: `mn_transport` (links, nodes, LDP), `mn_routing` (edges, VRFs,
 //! BGP) or `mn_transit` (packets and frames); the other two stay as they are, but that an attachment is a label of its node and a site of its
 //! edge, and a link that goes down cuts its frames. The items that a step makes are numbered in one row over the parts' four flights, so that
@@ -31,6 +31,7 @@
 //! - `edges`: what is told of sessions and routes
 //! - `flight`: what is told of items in flight
 //! - `made`: a law: the items of a step are told by their numbers
+//! - `room`: room for the journal's entries
 //! - `tell`: what became of packets
 //!
 //! RFC 3031, section 3; RFC 3032, section 2; RFC 4271, section 8.2.2; RFC 4364, sections 4 and 5; RFC 5036, section 2.
@@ -46,6 +47,7 @@ mod moving;
 mod net;
 mod next;
 mod nodes;
+mod room;
 mod sessions;
 mod sites;
 mod tell;

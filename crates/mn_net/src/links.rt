@@ -1,17 +1,18 @@
 //! The steps of links and of LDP.
-ghost use Rattle.std.specs.Prelude.{◌≡◌, ◌<◌, ◌≤◌, ◌-◌, ◌^◌, ℕ, [], true, false, slice_index, IfOk, OnOk, OnErr};
+ghost use Rattle.std.specs.Prelude.{◌≡◌, ◌<◌, ◌≤◌, ◌-◌, ◌^◌, ℕ, [], true, slice_index, IfOk, OnOk, OnErr};
 ghost use Rattle.std.specs.List.{All};
 ghost use Rattle.mn_topo.specs.declared.steps.Step.TheVariants as step;
-ghost use Rattle.mn_transport_model.specs.Steps.{MayDo, Did};
-ghost use Rattle.mn_net_moves.specs.Done.{MayBeDone, IsDone, HasFailed};
+ghost use Rattle.mn_transport_laws.specs.Steps.{MayDo, Did};
+ghost use Rattle.mn_net_laws.specs.Done.{MayBeDone, IsDone, HasFailed};
 ghost use Rattle.mn_net.specs.Turns.{link_step};
 
 use crate::net::Net;
+use crate::room::reserve_entry;
 use crate::turns::LinkTurn;
 use mn_base::LinkNo;
 use mn_flight::Clock;
-use mn_net_look::Transport;
-use mn_routing_model::routes_stay_as_they_were;
+use mn_net_refusals::Transport;
+use mn_routing_laws::routes_stay_as_they_were;
 use mn_topo::{Damaged, JournalEntry, Step, Topology};
 use std::alloc::AllocError;
 
@@ -24,10 +25,10 @@ fn act(
 ) -> Result<u64, AllocError>
     requires tick { clock.tick ≤ 2 ^ 63 }
     requires numbers { clock.number ≤ 2 ^ 62 }
-    requires changes { transport.old.failed ≡ false → (l : ℕ) → slice_index transport.old.changes l < 2 ^ 32 - 1 }
+    requires changes { (l : ℕ) → slice_index transport.old.changes l < 2 ^ 32 - 1 }
     requires notices { All (λ item. item.number < clock.number) transport.old.notices }
     requires messages { All (λ item. item.number < clock.number) transport.old.messages }
-    requires may { transport.old.failed ≡ false → MayDo topology.now (link_step turn.now) transport.old }
+    requires may { MayDo topology.now (link_step turn.now) transport.old }
     ensures did { IfOk result (λ made. Did topology.now clock.tick clock.number (link_step turn.now) transport.old transport.new made) }
 {
     match *turn {
@@ -52,7 +53,7 @@ impl Net {
             number: self.made,
         };
         self.failed = true;
-        self.journal.reserve(1)?;
+        reserve_entry(&mut self.journal)?;
         let more = act(&mut self.transport, &self.topology, &turn, clock)?;
         self.transit.begin();
         self.made += more;
@@ -78,7 +79,7 @@ impl Net {
             number: self.made,
         };
         self.failed = true;
-        self.journal.reserve(1)?;
+        reserve_entry(&mut self.journal)?;
         let more = self.transport.link_down(&self.topology, link, clock)?;
         self.transit.link_down(&self.topology, link);
         self.made += more;

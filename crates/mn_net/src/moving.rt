@@ -1,16 +1,17 @@
 //! The steps that move packets, and the one that lets time go by.
 ghost use Rattle.std.specs.Prelude.{[], OnOk, OnErr};
 ghost use Rattle.mn_topo.specs.declared.steps.Step.TheVariants as step;
-ghost use Rattle.mn_net_moves.specs.Done.{MayBeDone, IsDone, HasFailed, TakesRoom};
+ghost use Rattle.mn_net_laws.specs.Done.{MayBeDone, IsDone, HasFailed, TakesRoom};
 
 use crate::entry::enter;
 use crate::net::Net;
+use crate::room::reserve_entry;
 use mn_base::{LinkNo, SiteNo};
 use mn_flight::Clock;
-use mn_net_look::count_frame;
-use mn_routing_model::routes_stay_as_they_were;
+use mn_net_refusals::count_frame;
+use mn_routing_laws::routes_stay_as_they_were;
 use mn_topo::{Damaged, JournalEntry, Step};
-use mn_transport_model::a_transport_goes_on_as_it_was;
+use mn_transport_laws::a_transport_goes_on_as_it_was;
 use mn_wiring::Dir;
 use std::alloc::AllocError;
 
@@ -26,7 +27,7 @@ impl Net {
         routes_stay_as_they_were();
         self.topology.laws();
         self.failed = true;
-        self.journal.reserve(1)?;
+        reserve_entry(&mut self.journal)?;
         self.tally.reserve(1)?;
         let clock = Clock {
             tick: self.tick,
@@ -60,7 +61,7 @@ impl Net {
         routes_stay_as_they_were();
         self.topology.laws();
         self.failed = true;
-        self.journal.reserve(1)?;
+        reserve_entry(&mut self.journal)?;
         self.transit.lose(&self.topology, link, dir, place);
         self.journal.push_reserved(JournalEntry {
             tick: self.tick,
@@ -81,7 +82,7 @@ impl Net {
         routes_stay_as_they_were();
         self.topology.laws();
         self.failed = true;
-        self.journal.reserve(1)?;
+        reserve_entry(&mut self.journal)?;
         let later = self.tick + u64::from(ticks);
         self.transit.begin();
         self.transit.expire(&self.topology, later);
@@ -111,7 +112,7 @@ impl Net {
         self.topology.laws();
         let _flying = self.transit.flying_bytes();
         self.failed = true;
-        self.journal.reserve(1)?;
+        reserve_entry(&mut self.journal)?;
         self.tally.reserve(1)?;
         let entry = enter(&self.routes, &self.transport, &self.topology, site, packet)?;
         let clock = Clock {

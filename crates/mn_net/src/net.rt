@@ -1,18 +1,18 @@
 //! What is kept, and the clock.
-ghost use Rattle.std.specs.Prelude.{◌≡◌, ◌≤◌, ◌<◌, ◌^◌, ℕ, List, [], true, false, IfOk, OnOk, OnErr, IsErr, IsErrOf};
+ghost use Rattle.std.specs.Prelude.{◌≡◌, ◌≤◌, ◌<◌, ◌^◌, ℕ, List, [], true, false, Err, IfOk, IfSome, OnOk, OnErr, IsErr, IsErrOf};
 ghost use Rattle.std.specs.List.{All};
 ghost use Rattle.mn_topo.specs.Steps.{fits};
 ghost use Rattle.mn_topo.specs.declared.steps.Step.TheVariants as step;
 ghost use Rattle.mn_ledger.specs.Refusal.{refusal};
 ghost use Rattle.mn_ledger.specs.OneMore.{with_packet};
 ghost use Rattle.mn_ledger.specs.declared.refused.Refused.TheVariants as why;
-ghost use Rattle.mn_net_moves.specs.Now.{StandsFor, HasRoom, but_spare};
-ghost use Rattle.mn_net_moves.specs.Labels.{LabelsMean};
-ghost use Rattle.mn_net_moves.specs.Done.{Answers, Refuses, IsLonger, HasFailed, Leaves, MayBeDone, IsDone, is_of_frames, TakesOne, TakesRoom};
+ghost use Rattle.mn_net_laws.specs.Now.{StandsFor, HasRoom, but_spare};
+ghost use Rattle.mn_net_laws.specs.Labels.{LabelsMean};
+ghost use Rattle.mn_net_laws.specs.Done.{Answers, Refuses, IsLonger, HasFailed, Leaves, MayBeDone, IsDone, is_of_frames, TakesOne, TakesRoom};
 
 use crate::turns::{LinkTurn, RouteTurn};
 use mn_ledger::Refused;
-use mn_net_look::{Routes, Tally, Transport, refusal};
+use mn_net_refusals::{Parts, Routes, Tally, Transport, refusal};
 use mn_topo::{JournalEntry, Step, Topology};
 use mn_transit::Transit;
 use std::alloc::{AllocError, Global};
@@ -41,36 +41,15 @@ pub struct Net {
 }
 
 impl Model for Net {
-    ghost use Rattle.std.specs.Prelude.{◌-◌, vec_len, vec_capacity};
-    ghost use Rattle.mn_net_moves.specs.Now.{NetNow, WorksAsNet};
+    ghost use Rattle.mn_net_laws.specs.Now.{NetNow, WorksAsNet};
 
     ghost Value = { NetNow };
 
-    ghost view = { λ a. record {
-      topology = a.topology;
-      journal = a.journal.items;
-      tick = a.tick;
-      made = a.made;
-      failed = a.failed;
-      transport = a.transport;
-      routes = a.routes;
-      moving = a.transit;
-      tally = a.tally;
-      spare = vec_capacity a.journal - vec_len a.journal;
-    } };
+    ghost use Rattle.mn_net.specs.Inside.{net_in};
 
-    ghost invariant = { λ a. WorksAsNet (record {
-      topology = a.topology;
-      journal = a.journal.items;
-      tick = a.tick;
-      made = a.made;
-      failed = a.failed;
-      transport = a.transport;
-      routes = a.routes;
-      moving = a.transit;
-      tally = a.tally;
-      spare = vec_capacity a.journal - vec_len a.journal;
-    }) };
+    ghost view = { net_in };
+
+    ghost invariant = { λ a. WorksAsNet (net_in a) };
 }
 
 impl Drop for Net {
@@ -173,6 +152,9 @@ impl Net {
     pub fn step(&mut self, step: Step, packet: &[u8]) -> Result<Done, Refused>
         requires fits { fits self.old.topology step ≡ true }
         ensures answer { (inputs : List (List ℕ)) → StandsFor self.old inputs → Answers (refusal self.old.topology self.old.journal inputs step packet.now) result }
+        // What refuses the step is answered without memory.
+        ensures refused { self.old.failed ≡ false → (inputs : List (List ℕ)) → StandsFor self.old inputs →
+            IfSome (refusal self.old.topology self.old.journal inputs step packet.now) (λ cause. result ≡ Err cause) }
         ensures longer { OnOk result (IsLonger self.old self.new step) }
         ensures stands { OnOk result ((inputs : List (List ℕ)) → StandsFor self.old inputs → StandsFor self.new (with_packet step packet.now inputs)) }
         ensures labels { OnOk result ((inputs : List (List ℕ)) → StandsFor self.new inputs → LabelsMean self.new inputs) }
@@ -213,8 +195,8 @@ impl Net {
             Step::HearBgp(a, b) => self.turn_route(RouteTurn::HearBgp(a, b)),
             Step::AddRoute(site, prefix) => self.turn_route(RouteTurn::AddRoute(site, prefix)),
             Step::DelRoute(site, prefix) => self.turn_route(RouteTurn::DelRoute(site, prefix)),
-            Step::Import(vrf, target, on) => self.turn_route(RouteTurn::Import(vrf, target, on)),
-            Step::Export(vrf, target, on) => self.turn_route(RouteTurn::Export(vrf, target, on)),
+            Step::Import(vrf, on, target) => self.turn_route(RouteTurn::Import(vrf, on, target)),
+            Step::Export(vrf, on, target) => self.turn_route(RouteTurn::Export(vrf, on, target)),
             Step::Attach(site) => self.attach(site),
             Step::Detach(site) => self.detach(site),
             Step::Inject(site, number) => self.inject(site, number, packet),
@@ -230,16 +212,14 @@ impl Net {
         requires fits { fits self.now.topology step.now ≡ true }
         ensures exact { (inputs : List (List ℕ)) → StandsFor self.now inputs → Refuses (refusal self.now.topology self.now.journal inputs step.now packet.now) result }
     {
-        let cause = refusal(
-            &self.topology,
-            &self.transport,
-            &self.routes,
-            &self.transit,
-            &self.tally,
-            self.journal.len(),
-            step,
-            packet,
-        );
+        let parts = Parts {
+            topology: &self.topology,
+            transport: &self.transport,
+            routes: &self.routes,
+            transit: &self.transit,
+            tally: &self.tally,
+        };
+        let cause = refusal(parts, self.journal.len(), step, packet);
         match cause {
             Some(why) => Err(why),
             None => Ok(()),

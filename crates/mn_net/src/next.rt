@@ -4,15 +4,15 @@ ghost use Rattle.std.specs.List.{All};
 ghost use Rattle.mn_topo.specs.Steps.{fits};
 ghost use Rattle.mn_ledger.specs.Ledger.{injects};
 ghost use Rattle.mn_ledger.specs.Time.{ticks_in};
-ghost use Rattle.mn_laws.specs.Flight.{IsOpen};
-ghost use Rattle.mn_course.specs.Coming.{coming as ledgers, delivery};
-ghost use Rattle.mn_course.specs.Next.{first_due};
-ghost use Rattle.mn_course.specs.declared.coming.Kind;
-ghost use Rattle.mn_net_moves.specs.Now.{StandsFor};
+ghost use Rattle.mn_ledger_laws.specs.Flight.{IsOpen};
+ghost use Rattle.mn_course_laws.specs.Coming.{coming as ledgers, delivery};
+ghost use Rattle.mn_course_laws.specs.Next.{first_due};
+ghost use Rattle.mn_course_laws.specs.declared.coming.Kind;
+ghost use Rattle.mn_net_laws.specs.Now.{StandsFor};
 
 use crate::net::Net;
-use mn_course::{Coming, Kind};
-use mn_net_look::coming;
+use mn_course_laws::{Coming, Kind};
+use mn_net_refusals::{Parts, coming};
 
 impl Net {
     /// What comes next of a kind, if it is due by the limit: the item of the least due tick and, of these, of the least number,
@@ -30,14 +30,13 @@ impl Net {
         if self.failed {
             return None;
         }
-        coming(
-            &self.topology,
-            &self.transport,
-            &self.routes,
-            &self.transit,
-            &self.tally,
-            kind,
-            limit,
-        )
+        let parts = Parts {
+            topology: &self.topology,
+            transport: &self.transport,
+            routes: &self.routes,
+            transit: &self.transit,
+            tally: &self.tally,
+        };
+        coming(parts, kind, limit)
     }
 }

@@ -1,16 +1,17 @@
 //! The steps of BGP, and of routes and targets.
 ghost use Rattle.std.specs.Prelude.{◌≡◌, ◌<◌, ◌≤◌, ◌^◌, [], true, false, IfOk, OnOk, OnErr};
 ghost use Rattle.std.specs.List.{All};
-ghost use Rattle.mn_routing_model.specs.Steps.{MayDo, Did};
-ghost use Rattle.mn_net_moves.specs.Done.{MayBeDone, IsDone, HasFailed};
+ghost use Rattle.mn_routing_laws.specs.Steps.{MayDo, Did};
+ghost use Rattle.mn_net_laws.specs.Done.{MayBeDone, IsDone, HasFailed};
 ghost use Rattle.mn_net.specs.Turns.{route_step};
 
 use crate::net::Net;
+use crate::room::reserve_entry;
 use crate::turns::RouteTurn;
 use mn_flight::Clock;
-use mn_net_look::{Routes, count_static};
+use mn_net_refusals::{Routes, count_static};
 use mn_topo::{Damaged, JournalEntry, Topology};
-use mn_transport_model::a_transport_goes_on_as_it_was;
+use mn_transport_laws::a_transport_goes_on_as_it_was;
 use std::alloc::AllocError;
 
 /// The routes do their part of a step that the transport has none in. It answers how many messages that made.
@@ -23,7 +24,7 @@ fn act(
     requires tick { clock.tick ≤ 2 ^ 63 }
     requires numbers { clock.number ≤ 2 ^ 62 }
     requires messages { All (λ item. item.number < clock.number) routes.old.messages }
-    requires may { routes.old.failed ≡ false → MayDo topology.now (route_step turn.now) routes.old }
+    requires may { MayDo topology.now (route_step turn.now) routes.old }
     ensures did { IfOk result (λ made. Did topology.now clock.tick clock.number (route_step turn.now) routes.old routes.new made) }
 {
     match *turn {
@@ -32,8 +33,8 @@ fn act(
         RouteTurn::HearBgp(a, b) => routes.hear_bgp(topology, a, b, clock),
         RouteTurn::AddRoute(site, prefix) => routes.add_route(topology, site, prefix, clock),
         RouteTurn::DelRoute(site, prefix) => routes.del_route(topology, site, prefix, clock),
-        RouteTurn::Import(vrf, target, on) => routes.import(topology, vrf, target, on, clock),
-        RouteTurn::Export(vrf, target, on) => routes.export(topology, vrf, target, on, clock),
+        RouteTurn::Import(vrf, on, target) => routes.import(topology, vrf, target, on, clock),
+        RouteTurn::Export(vrf, on, target) => routes.export(topology, vrf, target, on, clock),
     }
 }
 
@@ -51,7 +52,7 @@ impl Net {
             number: self.made,
         };
         self.failed = true;
-        self.journal.reserve(1)?;
+        reserve_entry(&mut self.journal)?;
         let more = act(&mut self.routes, &self.topology, &turn, clock)?;
         self.transit.begin();
         let step = turn.step();

@@ -1,9 +1,10 @@
 //! The steps that attach and detach sites.
 ghost use Rattle.std.specs.Prelude.{[], OnOk, OnErr};
 ghost use Rattle.mn_topo.specs.declared.steps.Step.TheVariants as step;
-ghost use Rattle.mn_net_moves.specs.Done.{MayBeDone, IsDone, HasFailed};
+ghost use Rattle.mn_net_laws.specs.Done.{MayBeDone, IsDone, HasFailed};
 
 use crate::net::Net;
+use crate::room::reserve_entry;
 use mn_base::SiteNo;
 use mn_flight::Clock;
 use mn_topo::{Damaged, JournalEntry, Step};
@@ -22,7 +23,7 @@ impl Net {
             number: self.made,
         };
         self.failed = true;
-        self.journal.reserve(1)?;
+        reserve_entry(&mut self.journal)?;
         let Ok(label) = self.transport.attach(&self.topology, site) else {
             return Err(AllocError);
         };
@@ -50,7 +51,7 @@ impl Net {
             number: self.made,
         };
         self.failed = true;
-        self.journal.reserve(1)?;
+        reserve_entry(&mut self.journal)?;
         let more = self.routes.detach(&self.topology, site, clock)?;
         self.transport.detach(&self.topology, site);
         self.transit.begin();

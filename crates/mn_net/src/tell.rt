@@ -5,7 +5,7 @@ ghost use Rattle.mn_ledger.specs.Packets.{flying_on};
 ghost use Rattle.mn_ledger.specs.Items.{Frames, items_on, flight_of};
 ghost use Rattle.mn_ledger.specs.Verdicts.{verdict_on};
 ghost use Rattle.mn_transit.specs.Visits.{path_of};
-ghost use Rattle.mn_net_moves.specs.Now.{StandsFor};
+ghost use Rattle.mn_net_laws.specs.Now.{StandsFor};
 ghost use Rattle.mn_net.specs.Landing.{IsLanding};
 
 use crate::net::Net;

@@ -37,8 +37,8 @@ pub(crate) enum RouteTurn {
     HearBgp(NodeNo, NodeNo),
     AddRoute(SiteNo, Prefix),
     DelRoute(SiteNo, Prefix),
-    Import(VrfNo, Rt, bool),
-    Export(VrfNo, Rt, bool),
+    Import(VrfNo, bool, Rt),
+    Export(VrfNo, bool, Rt),
 }
 
 impl RouteTurn {
@@ -51,8 +51,8 @@ impl RouteTurn {
             RouteTurn::HearBgp(a, b) => Step::HearBgp(a, b),
             RouteTurn::AddRoute(site, prefix) => Step::AddRoute(site, prefix),
             RouteTurn::DelRoute(site, prefix) => Step::DelRoute(site, prefix),
-            RouteTurn::Import(vrf, target, on) => Step::Import(vrf, target, on),
-            RouteTurn::Export(vrf, target, on) => Step::Export(vrf, target, on),
+            RouteTurn::Import(vrf, on, target) => Step::Import(vrf, on, target),
+            RouteTurn::Export(vrf, on, target) => Step::Export(vrf, on, target),
         }
     }
 }

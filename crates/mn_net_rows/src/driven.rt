@@ -1,6 +1,6 @@
 //! A network alone, driven by steps. Frames arrive by steps of their own and news by what comes next, so the clock stands.
 use mn_base::SiteNo;
-use mn_course::{Coming, Kind};
+use mn_course_laws::{Coming, Kind};
 use mn_ledger::Refused;
 use mn_net::Net;
 use mn_prefix::Prefix;

@@ -1,5 +1,5 @@
 //! A watch in memory.
-ghost use Rattle.std.specs.Prelude.{◌≡◌, None, ⊤, is_some};
+ghost use Rattle.std.specs.Prelude.{◌≡◌, None, Some, ⊤, is_some};
 ghost use Rattle.std.proofs.lemmas.Option.{none-some};
 ghost use Rattle.mn_sched.specs.Watching.{is_record};
 
@@ -62,9 +62,9 @@ impl Watch for Recorder {
 
     ghost packets = { λ w. None };
 
-    ghost reads = { λ w. w.reads };
+    ghost reads = { λ w. Some w.reads };
 
-    ghost writes = { λ w. w.writes };
+    ghost writes = { λ w. Some w.writes };
 
     ghost stands = { λ w topology journal inputs. ⊤ };
 

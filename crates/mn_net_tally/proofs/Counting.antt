@@ -30,20 +30,20 @@ use Rattle.mn_ledger.proofs.Choice.{keeps}
 use Rattle.mn_ledger.proofs.Flows.{in_flight}
 use Rattle.mn_ledger.proofs.More.{goes_on}
 use Rattle.mn_ledger.proofs.Refusals.{free}
-use Rattle.mn_laws.specs.Flight.{AreAscending, IsOfChannel}
-use Rattle.mn_laws.specs.Ids.{frames_sent}
-use Rattle.mn_laws.proofs.Channels.{channels_are}
-use Rattle.mn_laws.proofs.Ordered.{numbers_ascend}
-use Rattle.mn_course.specs.Coming.{is_each, is_lost}
-use Rattle.mn_timetable.specs.Keys.{Key, key_of, keys_in, keys_on, of_frames, with_key, key_without, frames_leave}
-use Rattle.mn_timetable.specs.Steps.{pushed}
+use Rattle.mn_ledger_laws.specs.Flight.{AreAscending, IsOfChannel}
+use Rattle.mn_ledger_laws.specs.Ids.{frames_sent}
+use Rattle.mn_ledger_laws.proofs.Channels.{channels_are}
+use Rattle.mn_ledger_laws.proofs.Ordered.{numbers_ascend}
+use Rattle.mn_course_laws.specs.Coming.{is_each, is_lost}
+use Rattle.mn_timetable_laws.specs.Keys.{Key, key_of, keys_in, keys_on, of_frames, with_key, key_without, frames_leave}
+use Rattle.mn_timetable_laws.specs.Steps.{pushed}
 use Rattle.mn_ledger.proofs.Directions.{one_channel}
-use Rattle.mn_timetable.proofs.FrameKeys.{frames_left}
-use Rattle.mn_timetable.proofs.Keys.{keys_more}
-use Rattle.mn_timetable.proofs.Made.{one_frame, frames_made}
-use Rattle.mn_net_model.specs.Stands.{Packed, StandsFor}
-use Rattle.mn_net_model.specs.Stepped.{entry_of, takes_time, packets_now, later_packets, made_now}
-use Rattle.mn_net_model.proofs.Going.{flight_still}
+use Rattle.mn_timetable_laws.proofs.FrameKeys.{frames_left}
+use Rattle.mn_timetable_laws.proofs.Keys.{keys_more}
+use Rattle.mn_timetable_laws.proofs.Made.{one_frame, frames_made}
+use Rattle.mn_net_parts_laws.specs.Stands.{Packed, StandsFor}
+use Rattle.mn_net_parts_laws.specs.Stepped.{entry_of, takes_time, packets_now, later_packets, made_now}
+use Rattle.mn_net_parts_laws.proofs.Going.{flight_still}
 use Rattle.mn_net_tally.specs.Tallies.{Tally, Tallies, lost_numbers, is_one, frame_of, after_frame}
 use Rattle.mn_net_tally.specs.Laws.{may_send, changes_statics, CountsAsItDid, CountsStatics, CountsFrames, TellsWhatIsLost}
 use Rattle.mn_net_tally.proofs.Sent.{get_of, new, OneSent, one_sent, sent_quiet, lost_quiet, sent_one, lost_one}

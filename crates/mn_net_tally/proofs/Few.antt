@@ -15,10 +15,10 @@ use Rattle.mn_ledger.specs.Ledger.{after, start, no_packets, next_of, left_by, p
 use Rattle.mn_ledger.specs.Time.{timed}
 use Rattle.mn_ledger.specs.Items.{Channel, Frames, Load, same_channel, items_on, delay_on, notices_in, messages_in, routes_in, frames_in, made_in, numbered}
 use Rattle.mn_ledger.specs.Items.{made_from}
-use Rattle.mn_laws.specs.Ids.{frames_sent}
-use Rattle.mn_timetable.specs.Keys.{Key, keys_on, of_frames}
-use Rattle.mn_timetable.proofs.Made.{IsOneFrame, one_frame, frames_made}
-use Rattle.mn_net_model.proofs.Counted.{count_on, counted_on}
+use Rattle.mn_ledger_laws.specs.Ids.{frames_sent}
+use Rattle.mn_timetable_laws.specs.Keys.{Key, keys_on, of_frames}
+use Rattle.mn_timetable_laws.proofs.Made.{IsOneFrame, one_frame, frames_made}
+use Rattle.mn_net_parts_laws.proofs.Counted.{count_on, counted_on}
 use Rattle.mn_net_tally.specs.Tallies.{Tally, Tallies}
 
 one_key : (c : ℕ) (key : Key) → count_on c (key ∷ []) ≤ 1

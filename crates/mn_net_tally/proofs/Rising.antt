@@ -14,7 +14,7 @@ use Rattle.mn_ledger.specs.Lawful.{IsLawfulJournal}
 use Rattle.mn_ledger.specs.InFlight.{AreNumbered}
 use Rattle.mn_ledger.specs.Items.{Item, made_by}
 use Rattle.mn_ledger.proofs.Flows.{in_flight}
-use Rattle.mn_course.specs.Coming.{is_lost}
+use Rattle.mn_course_laws.specs.Coming.{is_lost}
 use Rattle.mn_net_tally.specs.Rising.{AreRising, IsSplit}
 use Rattle.mn_net_tally.specs.Tallies.{is_one, lost_numbers}
 

@@ -20,13 +20,13 @@ use Rattle.mn_ledger.specs.Items.{Channel, Notices, Messages, Routes, Frames, Lo
 use Rattle.mn_ledger.specs.OneMore.{with_packet}
 use Rattle.mn_ledger.proofs.Flows.{in_flight}
 use Rattle.mn_ledger.proofs.More.{goes_on}
-use Rattle.mn_laws.specs.Flight.{is_frame}
-use Rattle.mn_laws.specs.Ids.{frames_sent, frame_number}
-use Rattle.mn_course.specs.Coming.{is_each, is_lost}
-use Rattle.mn_timetable.specs.Keys.{Key, keys_on, of_frames, with_key}
-use Rattle.mn_timetable.specs.Steps.{pushed}
+use Rattle.mn_ledger_laws.specs.Flight.{is_frame}
+use Rattle.mn_ledger_laws.specs.Ids.{frames_sent, frame_number}
+use Rattle.mn_course_laws.specs.Coming.{is_each, is_lost}
+use Rattle.mn_timetable_laws.specs.Keys.{Key, keys_on, of_frames, with_key}
+use Rattle.mn_timetable_laws.specs.Steps.{pushed}
 use Rattle.mn_ledger.proofs.Directions.{one_channel}
-use Rattle.mn_net_model.specs.Stepped.{entry_of, made_now}
+use Rattle.mn_net_parts_laws.specs.Stepped.{entry_of, made_now}
 use Rattle.mn_net_tally.specs.Tallies.{lost_numbers}
 use Rattle.mn_ledger.proofs.OneKind.{none_left as filter_no}
 

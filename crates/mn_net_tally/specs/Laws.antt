@@ -15,10 +15,10 @@ use Rattle.mn_ledger.specs.Verdicts.{injections}
 use Rattle.mn_ledger.specs.Items.{Item, flight_of}
 use Rattle.mn_ledger.specs.OneMore.{with_packet}
 use Rattle.mn_ledger.specs.Packets.{channel}
-use Rattle.mn_course.specs.Coming.{is_lost}
-use Rattle.mn_timetable.specs.Steps.{pushed}
-use Rattle.mn_net_model.specs.Stands.{Packed, StandsFor}
-use Rattle.mn_net_model.specs.Stepped.{MayStep}
+use Rattle.mn_course_laws.specs.Coming.{is_lost}
+use Rattle.mn_timetable_laws.specs.Steps.{pushed}
+use Rattle.mn_net_parts_laws.specs.Stands.{Packed, StandsFor}
+use Rattle.mn_net_parts_laws.specs.Stepped.{MayStep}
 use Rattle.mn_net_tally.specs.Rising.{AreRising}
 use Rattle.mn_net_tally.specs.Tallies.{Tally, Tallies, is_one, frame_of, after_frame}
 

@@ -13,8 +13,8 @@ use Rattle.mn_topo.specs.declared.steps.JournalEntry.{JournalEntry}
 use Rattle.mn_ledger.specs.Packets.{channel}
 use Rattle.mn_ledger.specs.Ledger.{world_of}
 use Rattle.mn_ledger.specs.Items.{made_by}
-use Rattle.mn_laws.specs.Ids.{frames_sent}
-use Rattle.mn_course.specs.Coming.{is_each, is_lost}
+use Rattle.mn_ledger_laws.specs.Ids.{frames_sent}
+use Rattle.mn_course_laws.specs.Coming.{is_each, is_lost}
 
 pub record Tally : Type 0 where
   pub statics : ℕ  -- how many static routes VRFs have, those over detached sites too

@@ -5,7 +5,7 @@ ghost use Rattle.mn_flight.specs.Flying.{IsFlight};
 ghost use Rattle.mn_net_tally.specs.Tallies.{frame_of, after_frame, after_static, HasStatic};
 
 use crate::tally::Tally;
-use mn_net_model::Transit;
+use mn_net_parts_laws::Transit;
 use mn_topo::{Step, Topology};
 
 /// Counts the frame of a number, if it flies: the frame that a step sent.

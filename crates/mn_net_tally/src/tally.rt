@@ -3,7 +3,7 @@ ghost use Rattle.std.specs.Prelude.{◌≡◌, ◌<◌, ◌≤◌, ◌+◌, ◌-
 ghost use Rattle.mn_base.specs.Limits.{most_static_routes, most_steps};
 ghost use Rattle.mn_net_tally.specs.Rising.{AreRising, IsSplit};
 ghost use Rattle.mn_net_tally.specs.Tallies.{Tallies, is_one, with_frame};
-ghost use Rattle.mn_course.specs.Coming.{is_each};
+ghost use Rattle.mn_course_laws.specs.Coming.{is_each};
 ghost use Rattle.mn_ledger.specs.Ledger.{statics_from};
 
 use mn_topo::Topology;

@@ -7,7 +7,7 @@ use Rattle.std.specs.Ordering.{nat_cmp, ordering_then}
 use Rattle.std.proofs.lemmas.Bool.Decides.{nat_tests}
 use Rattle.mn_base.specs.Ordered.{first_by, IsOrder}
 use Rattle.mn_base.proofs.Orders.{by_number, by_number_then}
-use Rattle.mn_by_key.specs.ByKey.{Goes}
+use Rattle.mn_by_key_laws.specs.ByKey.{Goes}
 use Rattle.mn_prefix.specs.Prefix.{AddressBlock, by_address_then_length}
 use Rattle.mn_offers.specs.Heard.{Heard, heard_before}
 use Rattle.mn_offers.specs.Kept.{name_of}

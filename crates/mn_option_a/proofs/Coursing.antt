@@ -7,17 +7,17 @@ use Rattle.mn_topo.specs.declared.steps.Step.TheVariants.{Inject}
 use Rattle.mn_ledger.specs.Ledger.{injects}
 use Rattle.mn_ledger.specs.declared.refused.Refused.{Refused as why}
 use Rattle.mn_ledger.specs.declared.refused.Refused.TheVariants as cause
-use Rattle.mn_course.specs.declared.coming.Arrivals.{Arrivals}
-use Rattle.mn_course.specs.declared.coming.Coming.{Coming}
-use Rattle.mn_course.specs.declared.coming.Ending.{Ending}
-use Rattle.mn_course.specs.declared.coming.Ending.TheVariants as ending
-use Rattle.mn_course.specs.Course.{Past, is_journal_full}
+use Rattle.mn_course_laws.specs.declared.coming.Arrivals.{Arrivals}
+use Rattle.mn_course_laws.specs.declared.coming.Coming.{Coming}
+use Rattle.mn_course_laws.specs.declared.coming.Ending.{Ending}
+use Rattle.mn_course_laws.specs.declared.coming.Ending.TheVariants as ending
+use Rattle.mn_course_laws.specs.Course.{Past, is_journal_full}
 use Rattle.mn_sched.specs.Playing.{IsFirstPart}
 use Rattle.mn_sched.proofs.Delivering.{first_part_refl, first_part_trans}
-use Rattle.mn_legs.specs.declared.leg.Which.{Which}
-use Rattle.mn_legs.specs.declared.leg.Which.TheVariants.{First, Second}
-use Rattle.mn_legs.specs.Pairing.{opposite, Pairing, Both, side, with_plain_step}
-use Rattle.mn_legs.specs.Course.{PairCourse, Exit, ends, after_exits, crossed, handed_on, refusal_on, tried, stepped, unless_stopped, arrived, one_by_one, deliver}
+use Rattle.mn_leg_laws.specs.declared.leg.Which.{Which}
+use Rattle.mn_leg_laws.specs.declared.leg.Which.TheVariants.{First, Second}
+use Rattle.mn_leg_laws.specs.Pairing.{opposite, Pairing, Both, side, with_plain_step}
+use Rattle.mn_leg_laws.specs.Course.{PairCourse, Exit, ends, after_exits, crossed, handed_on, refusal_on, tried, stepped, unless_stopped, arrived, one_by_one, deliver}
 use Rattle.mn_option_a.specs.declared.played.Played.TheVariants.{All}
 use Rattle.mn_option_a.specs.declared.played.PairBad.{PairBad}
 use Rattle.mn_option_a.specs.declared.played.PairBad.TheVariants.{TooManySteps, NoMemory}

@@ -8,20 +8,20 @@ use Rattle.mn_topo.specs.declared.steps.Damaged.TheVariants.{Undamaged}
 use Rattle.mn_entry.specs.Damages.{ending as end_of, mark_of}
 use Rattle.mn_ledger.specs.declared.refused.Refused.{Refused}
 use Rattle.mn_ledger.specs.declared.refused.Refused.TheVariants as cause
-use Rattle.mn_course.specs.declared.coming.Coming.{Coming}
-use Rattle.mn_course.specs.declared.coming.Arrivals.{Arrivals}
-use Rattle.mn_course.specs.declared.coming.Arrivals.TheVariants.{DueBy, News, AllFrames}
-use Rattle.mn_course.specs.declared.coming.Ending.{Ending}
-use Rattle.mn_course.specs.declared.coming.Ending.TheVariants as ending
-use Rattle.mn_course.specs.Coming.{next_arrival, delivery}
-use Rattle.mn_course.specs.Course.{as_due, is_journal_full}
+use Rattle.mn_course_laws.specs.declared.coming.Coming.{Coming}
+use Rattle.mn_course_laws.specs.declared.coming.Arrivals.{Arrivals}
+use Rattle.mn_course_laws.specs.declared.coming.Arrivals.TheVariants.{DueBy, News, AllFrames}
+use Rattle.mn_course_laws.specs.declared.coming.Ending.{Ending}
+use Rattle.mn_course_laws.specs.declared.coming.Ending.TheVariants as ending
+use Rattle.mn_course_laws.specs.Coming.{next_arrival, delivery}
+use Rattle.mn_course_laws.specs.Course.{as_due, is_journal_full}
 use Rattle.mn_sched.specs.Playing.{IsFirstPart}
 use Rattle.mn_sched.proofs.Delivering.{first_part_refl, first_part_trans}
-use Rattle.mn_legs.specs.declared.leg.Which.{Which}
-use Rattle.mn_legs.specs.declared.leg.Which.TheVariants.{First, Second}
-use Rattle.mn_legs.specs.Pairing.{opposite, Pairing, network, partner, Both, side, with_side, packets_in, travel, with_travel, with_marked, with_plain_step, with_damage, with_injection}
-use Rattle.mn_legs.specs.Pairing.{with_refusal, Landing, landed}
-use Rattle.mn_legs.specs.Course.{PairCourse, refusal_on, taken_in, enters, lands, crossed, handed_on, tried, stepped, unless_stopped, arrived, one_by_one, deliver}
+use Rattle.mn_leg_laws.specs.declared.leg.Which.{Which}
+use Rattle.mn_leg_laws.specs.declared.leg.Which.TheVariants.{First, Second}
+use Rattle.mn_leg_laws.specs.Pairing.{opposite, Pairing, network, partner, Both, side, with_side, packets_in, travel, with_travel, with_marked, with_plain_step, with_damage, with_injection}
+use Rattle.mn_leg_laws.specs.Pairing.{with_refusal, Landing, landed}
+use Rattle.mn_leg_laws.specs.Course.{PairCourse, refusal_on, taken_in, enters, lands, crossed, handed_on, tried, stepped, unless_stopped, arrived, one_by_one, deliver}
 
 abbrev pub ComeBefore : Both → Both → Type 0
 ComeBefore a b = (which : Which) → IsFirstPart (side a which).past.entries (side b which).past.entries

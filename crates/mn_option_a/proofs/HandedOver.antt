@@ -9,13 +9,13 @@ use Rattle.mn_base.specs.declared.numbers.SiteNo.{SiteNo}
 use Rattle.mn_topo.specs.declared.steps.Step.TheVariants.{Inject}
 use Rattle.mn_ledger.specs.declared.refused.Refused.{Refused}
 use Rattle.mn_ledger.specs.declared.refused.Refused.TheVariants as cause
-use Rattle.mn_laws.proofs.Elsewhere.{push_other, push_here}
-use Rattle.mn_course.specs.Course.{Past}
-use Rattle.mn_course.specs.declared.coming.Ending.TheVariants as ending
-use Rattle.mn_legs.specs.declared.leg.Which.{Which}
-use Rattle.mn_legs.specs.declared.leg.Which.TheVariants.{First, Second}
-use Rattle.mn_legs.specs.Pairing.{opposite, Pairing, Both, side, packets_in, Travel, travel, no_travel, with_injection, with_refusal, landed}
-use Rattle.mn_legs.specs.Course.{PairCourse, Exit, ends, comes_out, taken_in, enters, lands, refusal_on}
+use Rattle.mn_ledger_laws.proofs.Elsewhere.{push_other, push_here}
+use Rattle.mn_course_laws.specs.Course.{Past}
+use Rattle.mn_course_laws.specs.declared.coming.Ending.TheVariants as ending
+use Rattle.mn_leg_laws.specs.declared.leg.Which.{Which}
+use Rattle.mn_leg_laws.specs.declared.leg.Which.TheVariants.{First, Second}
+use Rattle.mn_leg_laws.specs.Pairing.{opposite, Pairing, Both, side, packets_in, Travel, travel, no_travel, with_injection, with_refusal, landed}
+use Rattle.mn_leg_laws.specs.Course.{PairCourse, Exit, ends, comes_out, taken_in, enters, lands, refusal_on}
 use Rattle.mn_option_a.specs.declared.side.Found.{Found}
 use Rattle.mn_option_a.specs.declared.played.PairBad.{PairBad}
 use Rattle.mn_option_a.specs.declared.played.PairBad.TheVariants.{TooManySteps, NoMemory}

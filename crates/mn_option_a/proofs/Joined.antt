@@ -9,9 +9,9 @@ use Rattle.std.proofs.lemmas.List.Elements.{All-get_or, All-set}
 use Rattle.std.proofs.lemmas.Option.{slice_get_read}
 use Rattle.std.proofs.lemmas.Bool.Decides.{eqb_tells}
 use Rattle.mn_base.specs.declared.numbers.SiteNo.{SiteNo}
-use Rattle.mn_legs.specs.declared.leg.Which.{Which}
-use Rattle.mn_legs.specs.declared.leg.Which.TheVariants.{First, Second}
-use Rattle.mn_legs.specs.Pairing.{opposite, site_of, partner_in}
+use Rattle.mn_leg_laws.specs.declared.leg.Which.{Which}
+use Rattle.mn_leg_laws.specs.declared.leg.Which.TheVariants.{First, Second}
+use Rattle.mn_leg_laws.specs.Pairing.{opposite, site_of, partner_in}
 use Rattle.mn_option_a.specs.Ends.{here_of, there_of, LeadBelow}
 use Rattle.mn_option_a.specs.Pairs.{joint_of, joined_to}
 

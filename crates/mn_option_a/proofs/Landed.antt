@@ -6,25 +6,25 @@ use Rattle.mn_base.specs.declared.numbers.SiteNo.{SiteNo}
 use Rattle.mn_ledger.specs.declared.verdict.Verdict.{Verdict}
 use Rattle.mn_ledger.specs.declared.verdict.Verdict.TheVariants.{Delivered, Dropped, Flying}
 use Rattle.mn_ledger.specs.Packets.{Packets}
-use Rattle.mn_laws.specs.Accounts.{is_copy}
-use Rattle.mn_laws.proofs.Copies.{AreNumbered}
+use Rattle.mn_ledger_laws.specs.Accounts.{is_copy}
+use Rattle.mn_ledger_laws.proofs.Copies.{AreNumbered}
 use Rattle.mn_sched.specs.Landing.{IsLandingOf, IsLanding}
-use Rattle.mn_legs.specs.Pairing.{Landing, landed, landed_by, landed_as}
+use Rattle.mn_leg_laws.specs.Pairing.{Landing, landed, landed_by, landed_as}
 
 abbrev at_place : List Verdict → ℕ → Verdict
-at_place vs p = slice_index_or vs p (Delivered (record { 0 = 0 }) 0 0)
+at_place vs p = slice_index_or vs p (Delivered 0 (record { 0 = 0 }) 0)
 
 landing_of : ℕ → ℕ → List ℕ → Landing
 landing_of packet site bytes = record { packet = packet; site = site; bytes = bytes }
 
 -- a verdict that is no such copy is passed over
 skips : (c : ℕ) (b : List ℕ) (n : ℕ) (v : Verdict) (vs : List Verdict) → is_copy c v ≡ false → landed_as c b n (v ∷ vs) ≡ landed_as c b (n + 1) vs
-skips c b n (Delivered s ttl k) vs h = ap (λ t. cond t (Some (record { packet = n; site = s.0; bytes = b })) (landed_as c b (n + 1) vs)) h
+skips c b n (Delivered ttl s k) vs h = ap (λ t. cond t (Some (record { packet = n; site = s.0; bytes = b })) (landed_as c b (n + 1) vs)) h
 skips c b n (Dropped cause node) vs h = refl
 skips c b n (Flying link dir) vs h = refl
 
 -- the one copy of its number is found
-landed_at : (c : ℕ) (b : List ℕ) (n : ℕ) (vs : List Verdict) (p : ℕ) (s : SiteNo) (ttl : ℕ) → p < length vs → at_place vs p ≡ Delivered s ttl c
+landed_at : (c : ℕ) (b : List ℕ) (n : ℕ) (vs : List Verdict) (p : ℕ) (s : SiteNo) (ttl : ℕ) → p < length vs → at_place vs p ≡ Delivered ttl s c
     → ((j : ℕ) → j < length vs → is_copy c (at_place vs j) ≡ true → j ≡ p)
     → landed_as c b n vs ≡ Some (record { packet = n + p; site = s.0; bytes = b })
 landed_at c b n [] p s ttl below is once = absurd (none_below p below)

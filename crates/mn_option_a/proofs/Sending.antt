@@ -9,12 +9,12 @@ use Rattle.mn_topo.specs.declared.steps.Step.TheVariants.{Inject}
 use Rattle.mn_topo.specs.declared.steps.Damaged.{Damaged}
 use Rattle.mn_ledger.specs.declared.refused.Refused.{Refused}
 use Rattle.mn_ledger.specs.declared.refused.Refused.TheVariants as cause
-use Rattle.mn_laws.proofs.Elsewhere.{push_here}
-use Rattle.mn_course.specs.declared.coming.Arrivals.{Arrivals}
-use Rattle.mn_legs.specs.declared.leg.Which.{Which}
-use Rattle.mn_legs.specs.declared.leg.Which.TheVariants.{First, Second}
-use Rattle.mn_legs.specs.Pairing.{opposite, Pairing, Side, Both, side, Travel, travel, no_travel, with_travel, with_marked}
-use Rattle.mn_legs.specs.Course.{refusal_on, arrived}
+use Rattle.mn_ledger_laws.proofs.Elsewhere.{push_here}
+use Rattle.mn_course_laws.specs.declared.coming.Arrivals.{Arrivals}
+use Rattle.mn_leg_laws.specs.declared.leg.Which.{Which}
+use Rattle.mn_leg_laws.specs.declared.leg.Which.TheVariants.{First, Second}
+use Rattle.mn_leg_laws.specs.Pairing.{opposite, Pairing, Side, Both, side, Travel, travel, no_travel, with_travel, with_marked}
+use Rattle.mn_leg_laws.specs.Course.{refusal_on, arrived}
 use Rattle.mn_option_a.specs.declared.played.PairBad.{PairBad}
 use Rattle.mn_option_a.specs.declared.played.PairBad.TheVariants.{TooManySteps, NoMemory}
 use Rattle.mn_option_a.specs.Pairs.{SideNow, PairNow, side_of, IsSide, IsStoppedSide, PairStands, HasStopped, Belong}

@@ -23,23 +23,23 @@ use Rattle.mn_ledger.specs.Packets.{Packets}
 use Rattle.mn_ledger.specs.Refusal.{refusal}
 use Rattle.mn_ledger.specs.Time.{ticks_in}
 use Rattle.mn_ledger.proofs.OnePlace.{in_one_place}
-use Rattle.mn_laws.proofs.Copies.{numbered}
-use Rattle.mn_laws.specs.Named.{AreBytes}
-use Rattle.mn_course.specs.declared.coming.Arrivals.{Arrivals}
-use Rattle.mn_course.specs.Coming.{next_arrival}
-use Rattle.mn_course.specs.Course.{Past, with_step, arrived, is_journal_full}
+use Rattle.mn_ledger_laws.proofs.Copies.{numbered}
+use Rattle.mn_ledger_laws.specs.Named.{AreBytes}
+use Rattle.mn_course_laws.specs.declared.coming.Arrivals.{Arrivals}
+use Rattle.mn_course_laws.specs.Coming.{next_arrival}
+use Rattle.mn_course_laws.specs.Course.{Past, with_step, arrived, is_journal_full}
 use Rattle.mn_sched.specs.Done.{Done}
 use Rattle.mn_sched.specs.Damaged.{IsDamaged}
 use Rattle.mn_sched.specs.Landing.{IsLanding}
-use Rattle.mn_net_now.specs.Now.{NetNow, StandsFor}
-use Rattle.mn_net_now.specs.Done.{IsLonger, Leaves, Answers}
+use Rattle.mn_net_laws.specs.Now.{NetNow, StandsFor}
+use Rattle.mn_net_laws.specs.Done.{IsLonger, Leaves, Answers}
 use Rattle.mn_sched.specs.Playing.{past_of, IsFirstPart, IsPaced}
 use Rattle.mn_sched.specs.Arriving.{ArrivesNext}
 use Rattle.mn_sched.proofs.Delivering.{first_part_refl}
 use Rattle.mn_sched.proofs.Growing.{IsMore, plain, by_step, by_damage, ok_then, more_past, one_entry}
 use Rattle.mn_sched.proofs.Telling.{few_ticks}
-use Rattle.mn_legs.specs.declared.leg.Which.{Which}
-use Rattle.mn_legs.specs.Pairing.{Pairing, network, partner, Side, marked_step, landed}
+use Rattle.mn_leg_laws.specs.declared.leg.Which.{Which}
+use Rattle.mn_leg_laws.specs.Pairing.{Pairing, network, partner, Side, marked_step, landed}
 use Rattle.mn_option_a.specs.declared.side.Found.{Found}
 use Rattle.mn_option_a.specs.declared.played.PairBad.TheVariants.{TooManySteps}
 use Rattle.mn_option_a.specs.Pairs.{SideNow, IsSide, IsPacedFromStart, joined_to}

@@ -3,12 +3,12 @@ use Rattle.std.proofs.Common.{ℕ, ◌≡◌, ◌<◌, List, [], ◌++◌, lengt
 use Rattle.std.specs.Prelude.{slice_get}
 use Rattle.std.specs.List.{All}
 use Rattle.mn_base.proofs.Bools.{none_below}
-use Rattle.mn_net_now.specs.Now.{NetNow, StandsFor}
+use Rattle.mn_net_laws.specs.Now.{NetNow, StandsFor}
 use Rattle.mn_sched.specs.Playing.{IsFirstPart}
-use Rattle.mn_legs.specs.declared.leg.Which.{Which}
-use Rattle.mn_legs.specs.declared.leg.Which.TheVariants.{First, Second}
-use Rattle.mn_legs.specs.Pairing.{Pairing, network, partner, Both, side, Travel, no_side, at_first}
-use Rattle.mn_legs.specs.Course.{PairCourse}
+use Rattle.mn_leg_laws.specs.declared.leg.Which.{Which}
+use Rattle.mn_leg_laws.specs.declared.leg.Which.TheVariants.{First, Second}
+use Rattle.mn_leg_laws.specs.Pairing.{Pairing, network, partner, Both, side, Travel, no_side, at_first}
+use Rattle.mn_leg_laws.specs.Course.{PairCourse}
 use Rattle.mn_option_a.specs.declared.played.PairBad.{PairBad}
 use Rattle.mn_option_a.specs.declared.played.PairBad.TheVariants.{TooManySteps, NoMemory}
 use Rattle.mn_option_a.specs.Pairs.{SideNow, PairNow, side_of, net_of, joined_to, IsSide, PairStands, IsStoppedSide, IsPacedFromStart}

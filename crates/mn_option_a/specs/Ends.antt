@@ -2,8 +2,8 @@
 use Rattle.std.specs.Prelude.{◌<◌, ℕ, List, IfSome, Option}
 use Rattle.std.specs.List.{All}
 use Rattle.mn_base.specs.declared.numbers.SiteNo.{SiteNo}
-use Rattle.mn_legs.specs.declared.leg.Which.{Which}
-use Rattle.mn_legs.specs.declared.leg.Which.TheVariants.{First, Second}
+use Rattle.mn_leg_laws.specs.declared.leg.Which.{Which}
+use Rattle.mn_leg_laws.specs.declared.leg.Which.TheVariants.{First, Second}
 
 abbrev pub here_of : Which → SiteNo × SiteNo → SiteNo
 here_of First joint = joint.0

@@ -12,16 +12,16 @@ use Rattle.mn_ledger.specs.declared.refused.Refused as why
 use Rattle.mn_ledger.specs.declared.refused.Refused.TheVariants as cause
 use Rattle.mn_ledger.specs.Packets.{Packets}
 use Rattle.mn_ledger.specs.Refusal.{refusal}
-use Rattle.mn_course.specs.declared.coming.Arrivals.{Arrivals}
-use Rattle.mn_course.specs.declared.coming.Coming.{Coming}
-use Rattle.mn_course.specs.declared.coming.Ending.TheVariants as ending
-use Rattle.mn_course.specs.Coming.{next_arrival, delivery}
-use Rattle.mn_course.specs.Course.{with_step, as_due, is_journal_full}
+use Rattle.mn_course_laws.specs.declared.coming.Arrivals.{Arrivals}
+use Rattle.mn_course_laws.specs.declared.coming.Coming.{Coming}
+use Rattle.mn_course_laws.specs.declared.coming.Ending.TheVariants as ending
+use Rattle.mn_course_laws.specs.Coming.{next_arrival, delivery}
+use Rattle.mn_course_laws.specs.Course.{with_step, as_due, is_journal_full}
 use Rattle.mn_sched.specs.Done.{Done}
 use Rattle.mn_sched.specs.Playing.{IsFirstPart}
-use Rattle.mn_legs.specs.declared.leg.Which.{Which}
-use Rattle.mn_legs.specs.Pairing.{opposite, Pairing, network, partner, Side, Both, side, packets_in, Travel, marked_step, with_travel, with_injection, Landing, landed}
-use Rattle.mn_legs.specs.Course.{PairCourse, Exit, ends, lands, arrived}
+use Rattle.mn_leg_laws.specs.declared.leg.Which.{Which}
+use Rattle.mn_leg_laws.specs.Pairing.{opposite, Pairing, network, partner, Side, Both, side, packets_in, Travel, marked_step, with_travel, with_injection, Landing, landed}
+use Rattle.mn_leg_laws.specs.Course.{PairCourse, Exit, ends, lands, arrived}
 use Rattle.mn_option_a.specs.declared.side.Found.{Found}
 use Rattle.mn_option_a.specs.declared.played.Played.{Played}
 use Rattle.mn_option_a.specs.declared.played.Played.TheVariants.{All, Refused}

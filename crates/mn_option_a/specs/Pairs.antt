@@ -3,13 +3,13 @@ use Rattle.std.specs.Prelude.{◌≡◌, ◌≢◌, ◌<◌, ◌≤◌, ◌*◌,
 use Rattle.std.specs.List.{All, AllPairs}
 use Rattle.mn_base.specs.declared.numbers.SiteNo.{SiteNo}
 use Rattle.mn_topo.specs.Network.{Network}
-use Rattle.mn_laws.specs.Named.{AreBytes}
-use Rattle.mn_net_now.specs.Now.{NetNow, StandsFor}
+use Rattle.mn_ledger_laws.specs.Named.{AreBytes}
+use Rattle.mn_net_laws.specs.Now.{NetNow, StandsFor}
 use Rattle.mn_sched.specs.Playing.{past_of}
-use Rattle.mn_legs.specs.declared.leg.Which.{Which}
-use Rattle.mn_legs.specs.declared.leg.Which.TheVariants.{First, Second}
-use Rattle.mn_legs.specs.Pairing.{Joint, Pairing, network, partner, Side, Both, side, Travel}
-use Rattle.mn_legs.specs.Course.{Exit}
+use Rattle.mn_leg_laws.specs.declared.leg.Which.{Which}
+use Rattle.mn_leg_laws.specs.declared.leg.Which.TheVariants.{First, Second}
+use Rattle.mn_leg_laws.specs.Pairing.{Joint, Pairing, network, partner, Side, Both, side, Travel}
+use Rattle.mn_leg_laws.specs.Course.{Exit}
 use Rattle.mn_option_a.specs.declared.played.PairBad.{PairBad}
 use Rattle.mn_option_a.specs.Ends.{LeadBelow}
 

@@ -3,11 +3,11 @@ use Rattle.std.specs.Prelude.{◌≡◌, Bool, true, false, List, ◌++◌, Opti
 use Rattle.mn_script.specs.declared.command.Command.{Command}
 use Rattle.mn_script.specs.declared.command.Command.TheVariants.{Run, Show}
 use Rattle.mn_ledger.specs.declared.refused.Refused.TheVariants as cause
-use Rattle.mn_course.specs.declared.coming.Ending.TheVariants as ending
+use Rattle.mn_course_laws.specs.declared.coming.Ending.TheVariants as ending
 use Rattle.mn_sched.specs.Playing.{IsFirstPart}
-use Rattle.mn_legs.specs.declared.leg.Which.{Which}
-use Rattle.mn_legs.specs.Pairing.{Pairing, Both, side}
-use Rattle.mn_legs.specs.Course.{PairCourse, Exit}
+use Rattle.mn_leg_laws.specs.declared.leg.Which.{Which}
+use Rattle.mn_leg_laws.specs.Pairing.{Pairing, Both, side}
+use Rattle.mn_leg_laws.specs.Course.{PairCourse, Exit}
 use Rattle.mn_option_a.specs.declared.played.Played.{Played}
 use Rattle.mn_option_a.specs.declared.played.Played.TheVariants.{All, Refused}
 use Rattle.mn_option_a.specs.declared.played.PairBad.{PairBad}

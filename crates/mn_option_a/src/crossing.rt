@@ -3,7 +3,7 @@ ghost use Rattle.std.specs.Prelude.{◌≡◌, ◌≢◌, ◌≤◌, ◌<◌, �
 ghost use Rattle.std.specs.List.{All};
 ghost use Rattle.mn_topo.specs.Steps.{fits};
 ghost use Rattle.mn_topo.specs.declared.steps.Step.TheVariants as step;
-ghost use Rattle.mn_legs.specs.Pairing.{opposite, Pairing, Both, side, Side as SideOf};
+ghost use Rattle.mn_leg_laws.specs.Pairing.{opposite, Pairing, Both, side, Side as SideOf};
 ghost use Rattle.mn_option_a.specs.Pairs.{IsSide, IsPacedFromStart, LeadTo, Belong};
 ghost use Rattle.mn_option_a.specs.Moves.{TakesIn, HandsOver, Standing, GoesOn};
 
@@ -11,7 +11,7 @@ use crate::played::PairBad;
 use crate::side::Side;
 use mn_base::SiteNo;
 use mn_ledger::Refused;
-use mn_legs::{Leg, Which};
+use mn_leg_laws::{Leg, Which};
 use std::alloc::{AllocError, Global};
 use std::marker::Model;
 
@@ -24,7 +24,7 @@ pub(crate) struct Crossing {
 }
 
 impl Model for Crossing {
-    ghost use Rattle.mn_legs.specs.Pairing.{Travel};
+    ghost use Rattle.mn_leg_laws.specs.Pairing.{Travel};
 
     ghost Value = { Travel };
 
@@ -41,7 +41,7 @@ pub(crate) struct Kept {
 }
 
 impl Model for Kept {
-    ghost use Rattle.mn_legs.specs.Course.{Exit};
+    ghost use Rattle.mn_leg_laws.specs.Course.{Exit};
 
     ghost Value = { Exit };
 

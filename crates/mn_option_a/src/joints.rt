@@ -1,12 +1,12 @@
 //! The joints, by site.
 ghost use Rattle.std.specs.Prelude.{◌≡◌, ◌<◌, ℕ, None, map, replicate, slice_get, IfOk};
 ghost use Rattle.std.specs.List.{All};
-ghost use Rattle.mn_legs.specs.Pairing.{partner_in};
+ghost use Rattle.mn_leg_laws.specs.Pairing.{partner_in};
 ghost use Rattle.mn_option_a.specs.Pairs.{joint_of, joined_to};
 ghost use Rattle.mn_option_a.specs.Ends.{here_of, there_of, LeadBelow};
 
 use mn_base::SiteNo;
-use mn_legs::Which;
+use mn_leg_laws::Which;
 use std::alloc::{AllocError, Global};
 
 /// The ends of a joint: the one in this network, and the other.

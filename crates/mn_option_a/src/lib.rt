@@ -23,7 +23,7 @@ mod pair;
 mod played;
 mod side;
 
-pub use mn_legs::{Leg, Which};
+pub use mn_leg_laws::{Leg, Which};
 pub use mn_sched::Net;
 pub use pair::{Delivery, Pair};
 pub use played::{PairBad, Played};

@@ -1,8 +1,8 @@
 //! Two networks that are joined.
 ghost use Rattle.std.specs.Prelude.{◌≡◌, ◌≢◌, ◌<◌, ◌+◌, ◌^◌, ℕ, List, [], true, Some, None, Err, length, slice_get, slice_index_or, option_map, IfOk, IfSome};
 ghost use Rattle.mn_script.specs.Lines.{command_fits};
-ghost use Rattle.mn_legs.specs.Pairing.{Pairing, Both, at_first, travel, no_travel};
-ghost use Rattle.mn_legs.specs.Course.{played};
+ghost use Rattle.mn_leg_laws.specs.Pairing.{Pairing, Both, at_first, travel, no_travel};
+ghost use Rattle.mn_leg_laws.specs.Course.{played};
 ghost use Rattle.mn_option_a.specs.Pairs.{pairing_of, AreSites, AreApart, PairStands, net_of};
 ghost use Rattle.mn_option_a.specs.Plays.{is_played, Plays, IsOwnCause, bad_of};
 ghost use Rattle.mn_option_a.specs.Moves.{PairGoesOn};
@@ -14,7 +14,7 @@ use crate::played::{PairBad, Played};
 use crate::side::Side;
 use mn_base::SiteNo;
 use mn_ledger::Refused;
-use mn_legs::{Leg, Which};
+use mn_leg_laws::{Leg, Which};
 use mn_sched::Net;
 use mn_script::Command;
 use mn_topo::Topology;

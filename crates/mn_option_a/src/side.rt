@@ -4,8 +4,8 @@ ghost use Rattle.mn_topo.specs.Steps.{fits};
 ghost use Rattle.mn_entry.specs.Damages.{damage_fits};
 ghost use Rattle.mn_topo.specs.declared.steps.Step.TheVariants as step;
 ghost use Rattle.mn_ledger.specs.Ledger.{injects, packets_of};
-ghost use Rattle.mn_legs.specs.declared.leg.Which.{Which};
-ghost use Rattle.mn_legs.specs.Pairing.{Pairing, network, Side as SideOf};
+ghost use Rattle.mn_leg_laws.specs.declared.leg.Which.{Which};
+ghost use Rattle.mn_leg_laws.specs.Pairing.{Pairing, network, Side as SideOf};
 ghost use Rattle.mn_sched.specs.Playing.{limit_of};
 ghost use Rattle.mn_option_a.specs.Ends.{LeadBelow};
 ghost use Rattle.mn_option_a.specs.Pairs.{IsSide, IsPacedFromStart, joined_to};
@@ -13,7 +13,7 @@ ghost use Rattle.mn_option_a.specs.Moves.{Steps, Damages, Enters, Arrives, Finds
 
 use crate::played::PairBad;
 use mn_base::SiteNo;
-use mn_course::Arrivals;
+use mn_course_laws::Arrivals;
 use mn_ledger::Refused;
 use mn_sched::{Done, Net, arrive};
 use mn_topo::{Damage, Step};

@@ -1,5 +1,6 @@
 //! Where the nodes of each path are kept.
-ghost use Rattle.std.specs.Prelude.{◌≡◌, ◌<◌, ◌-◌, ◌+◌, [], ◌∷◌, ◌++◌, length, take, slice_index_or, slice_set, IfOk, OnOk, OnErr};
+ghost use Rattle.std.specs.Prelude.{◌≡◌, ◌<◌, ◌≤◌, ◌-◌, ◌+◌, [], ◌∷◌, ◌++◌, length, take, slice_index_or, slice_set, vec_len, IfOk, OnOk, OnErr};
+ghost use Rattle.std.specs.Vec.{vec_capacity};
 ghost use Rattle.mn_paths.specs.Visits.{path_of, further};
 ghost use Rattle.mn_paths.specs.Whole.{IsWhole, visits_in};
 
@@ -8,6 +9,28 @@ use std::alloc::{AllocError, Global};
 
 // So many nodes of a path are kept beside it.
 const NEAR: usize = 6;
+
+/// Room for so many more. Where little of the room that is there was written to, that alone is copied.
+fn make_room(list: &mut Vec<NodeNo>, more: usize) -> Result<(), AllocError>
+    ensures items { list.new.items ≡ list.old.items }
+    ensures len { vec_len list.new ≡ vec_len list.old }
+    ensures room { OnOk result (vec_len list.new + more ≤ vec_capacity list.new) }
+    ensures capacity { vec_capacity list.old ≤ vec_capacity list.new }
+{
+    let Some(needed) = list.len().checked_add(more) else {
+        return Err(AllocError);
+    };
+    if needed <= list.capacity() {
+        return Ok(());
+    }
+    if list.len() > list.capacity() / 8 {
+        return list.reserve(more);
+    }
+    let mut roomy = Vec::with_capacity(*list.allocator(), needed.saturating_mul(2))?;
+    roomy.extend_from_slice(list)?;
+    *list = roomy;
+    Ok(())
+}
 
 /// Where the nodes of one path are: beside it, as long as there are few, and else from `start` on among the far ones.
 #[derive(Clone, Copy)]
@@ -72,7 +95,7 @@ impl Table {
             return Err(AllocError);
         }
         self.paths.reserve(1)?;
-        self.far.reserve(owed)?;
+        make_room(&mut self.far, owed)?;
         self.owed = owed;
         self.paths.push_reserved(path);
         Ok(())

@@ -17,10 +17,10 @@ use Rattle.mn_ledger.proofs.Eligible.{in_those}
 use Rattle.mn_ledger.specs.Held.{HeldRoute, held, best, own_routes, near_routes, far_routes, held_by, imported, believed}
 use Rattle.mn_ledger.specs.Held as ledger_held
 use Rattle.mn_ledger.specs.Packets.{entry_rules}
-use Rattle.mn_frames.proofs.LawsEntering.{best_is}
-use Rattle.mn_frames.specs.Given.{Labelling}
-use Rattle.mn_frames.specs.Entries.{Stays, Leaves, fate, fate_by, fate_of, IsAged, IsFit, IsFall}
-use Rattle.mn_frames.proofs.Fit.{fits_or_falls}
+use Rattle.mn_frame_laws.proofs.LawsEntering.{best_is}
+use Rattle.mn_frame_laws.specs.Given.{Labelling}
+use Rattle.mn_frame_laws.specs.Entries.{Stays, Leaves, fate, fate_by, fate_of, IsAged, IsFit, IsFall}
+use Rattle.mn_frame_laws.proofs.Fit.{fits_or_falls}
 use Rattle.mn_pe.specs.Edge.{Edge}
 use Rattle.mn_pe.specs.Held.{site_label}
 use Rattle.mn_vrf.specs.declared.source.Source.{Source}

@@ -17,9 +17,9 @@ use Rattle.mn_ledger.specs.Held.{HeldRoute, best}
 use Rattle.mn_ledger.specs.Eligible.{eligible}
 use Rattle.mn_ledger.specs.Held as ledger_held
 use Rattle.mn_ledger.specs.Packets.{entry_rules, bound}
-use Rattle.mn_frames.specs.Given.{Labelling, label_at}
-use Rattle.mn_frames.specs.Frames.{entry, IsSound}
-use Rattle.mn_frames.specs.Entries.{fate, Falls, Stays, Leaves, IsPushed, IsAged}
+use Rattle.mn_frame_laws.specs.Given.{Labelling, label_at}
+use Rattle.mn_frame_laws.specs.Frames.{entry, IsSound}
+use Rattle.mn_frame_laws.specs.Entries.{fate, Falls, Stays, Leaves, IsPushed, IsAged}
 use Rattle.mn_vrf.specs.declared.source.Source.{Source}
 use Rattle.mn_vrf.specs.declared.source.Source.TheVariants.{Own, Near, Far}
 use Rattle.mn_vrf.specs.Routes.{found_among}

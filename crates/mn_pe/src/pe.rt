@@ -13,7 +13,7 @@ ghost use Rattle.mn_ipv4.specs.Header.{destination_of};
 ghost use Rattle.mn_pe.specs.Pe.{PeNow, AreLabelled, found_in, is_want};
 ghost use Rattle.mn_topo.specs.Network.{Network};
 ghost use Rattle.mn_ledger.specs.World.{World};
-ghost use Rattle.mn_frames.specs.Given.{Labelling};
+ghost use Rattle.mn_frame_laws.specs.Given.{Labelling};
 
 use crate::changes::{add_in, del_in, export_in, import_in, is_want, set_label};
 use crate::entering::{entered_by, head_at_entry};

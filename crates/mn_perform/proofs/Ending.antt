@@ -13,16 +13,16 @@ use Rattle.mn_script.specs.declared.command.Line.{Line}
 use Rattle.mn_ledger.specs.declared.verdict.Verdict.{Verdict}
 use Rattle.mn_ledger.specs.Packets.{Packets}
 use Rattle.mn_ledger.specs.Ledger.{packets_of}
-use Rattle.mn_course.specs.Course.{inputs_of}
-use Rattle.mn_course.specs.Expansion.{Expansion, expanded}
+use Rattle.mn_course_laws.specs.Course.{inputs_of}
+use Rattle.mn_course_laws.specs.Expansion.{Expansion, expanded}
 use Rattle.mn_lines.specs.declared.lines.Totals.{Totals}
 use Rattle.mn_lines.specs.Lines.{total_line}
 use Rattle.mn_lines.specs.Putting.{PutOn, PartPut}
-use Rattle.mn_output.specs.Contents.{tail_of}
-use Rattle.mn_output.specs.Report.{packet_lines, count, is_refusal, is_delivered, is_dropped, is_flying, totals_of, ended_text, report}
+use Rattle.mn_output_laws.specs.Contents.{tail_of}
+use Rattle.mn_output_laws.specs.Report.{packet_lines, count, is_refusal, is_delivered, is_dropped, is_flying, totals_of, ended_text, report}
 use Rattle.mn_files.specs.Numbers.{file_at, edge_places}
-use Rattle.mn_net_now.specs.Now.{NetNow}
-use Rattle.mn_output.specs.Files.{files_of}
+use Rattle.mn_net_laws.specs.Now.{NetNow}
+use Rattle.mn_output_laws.specs.Files.{files_of}
 use Rattle.mn_record.specs.Recorded.{BooksNow, IsFor, contents_at, whole_at}
 use Rattle.mn_report.specs.Shown.{sending_of, totals_by}
 use Rattle.mn_perform.specs.declared.desk.Desk.{Desk}
@@ -252,7 +252,7 @@ same_fault : (a b : Fault) → ◌≡◌ {A = Result Ended Fault} (Err a) (Err b
 same_fault a b e = cc
 
 -- what failed was a call on the sink, or a write
-pub sink_reads_none : (old new : ℕ) (why : Fault) → SinkBlamed {T = Unit {0}} old new (Err why) → ◌≡◌ {A = Result Ended Fault} (Err why) (Err fault.Read) → ⊥
+pub sink_reads_none : (old new : Option ℕ) (why : Fault) → SinkBlamed {T = Unit {0}} old new (Err why) → ◌≡◌ {A = Result Ended Fault} (Err why) (Err fault.Read) → ⊥
 sink_reads_none old new fault.Read h e = h
 sink_reads_none old new fault.Write h e = let same : fault.Write ≡ fault.Read = same_fault fault.Write fault.Read e in cc
 sink_reads_none old new fault.NoMemory h e = let same : fault.NoMemory ≡ fault.Read = same_fault fault.NoMemory fault.Read e in cc

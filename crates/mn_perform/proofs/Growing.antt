@@ -1,5 +1,5 @@
 -- What has happened stays: journal, notes and contents of files only grow over a script.
-use Rattle.std.proofs.Common.{◌≡◌, ℕ, ◌+◌, Bool, true, false, List, [], ◌∷◌, ◌++◌, append_assoc, Option, Some, None, refl, sym, ◌∙◌, ap, subst}
+use Rattle.std.proofs.Common.{◌≡◌, ℕ, ◌+◌, Bool, true, false, List, [], ◌∷◌, ◌++◌, append_assoc, refl, sym, ◌∙◌, ap, subst}
 use Rattle.std.specs.List.{flat_map}
 use Rattle.std.proofs.lemmas.List.{append-nil}
 use Rattle.std.proofs.lemmas.List.Concat.{flat_map-append}
@@ -10,18 +10,17 @@ use Rattle.mn_script.specs.declared.command.Command.{Command}
 use Rattle.mn_entry.specs.Damages.{number_of}
 use Rattle.mn_script.specs.declared.command.Command.TheVariants.{Do, Damage, Run, Drain, Flush, Show}
 use Rattle.mn_script.specs.declared.command.Line.{Line}
-use Rattle.mn_ledger.specs.declared.refused.Refused.{Refused}
-use Rattle.mn_course.specs.declared.coming.Arrivals.TheVariants.{DueBy, News, AllFrames}
-use Rattle.mn_course.specs.declared.coming.Ending.{Ending}
-use Rattle.mn_course.specs.declared.coming.Ending.TheVariants as ending
-use Rattle.mn_course.specs.Course.{Past, Course, record_of, deliver, all, until, most_of, played}
-use Rattle.mn_course.specs.Expansion.{Note, Expansion, after_line, with_line, unless_stopped, expanded_from}
+use Rattle.mn_course_laws.specs.declared.coming.Arrivals.TheVariants.{DueBy, News, AllFrames}
+use Rattle.mn_course_laws.specs.declared.coming.Ending.{Ending}
+use Rattle.mn_course_laws.specs.declared.coming.Ending.TheVariants as ending
+use Rattle.mn_course_laws.specs.Course.{Past, Course, record_of, deliver, all, until, most_of, played}
+use Rattle.mn_course_laws.specs.Expansion.{Note, Expansion, after_line, with_line, unless_stopped, expanded_from}
 use Rattle.mn_record.specs.Playing.{IsFirstPart}
 use Rattle.mn_record.proofs.Delivering.{first_part_refl, first_part_trans, deliver_more}
 use Rattle.mn_record.proofs.Telling.{stepped_more, damaged_more}
-use Rattle.mn_output.specs.Files.{OutputFile}
-use Rattle.mn_output.specs.Moments.{Moment, moments_from, moments_of}
-use Rattle.mn_output.specs.Contents.{contents, adds, head_of}
+use Rattle.mn_output_laws.specs.Files.{OutputFile}
+use Rattle.mn_output_laws.specs.Moments.{Moment, moments_from, moments_of}
+use Rattle.mn_output_laws.specs.Contents.{contents, adds, head_of}
 
 -- 1. A line
 

@@ -13,8 +13,8 @@ use Rattle.mn_edge.specs.Written.{PartWritten, same_name, is_known}
 use Rattle.mn_capture.specs.Packets.{CaptureView, packets_in}
 use Rattle.mn_topo.specs.Network.{Network}
 use Rattle.mn_topo.specs.declared.steps.JournalEntry.{JournalEntry}
-use Rattle.mn_output.specs.Files.{OutputFile, Journal, files_of, file_name, base_name}
-use Rattle.mn_output.specs.Contents.{contents, whole, tail_of, output}
+use Rattle.mn_output_laws.specs.Files.{OutputFile, Journal, files_of, file_name, base_name}
+use Rattle.mn_output_laws.specs.Contents.{contents, whole, tail_of, output}
 use Rattle.mn_record.specs.Recorded.{contents_at, whole_at, packets_there, told_packets}
 use Rattle.mn_record.specs.Playing.{IsFirstPart}
 use Rattle.mn_perform.specs.Inside.{is_inside}

@@ -8,5 +8,6 @@ pub mod Whole
 pub mod Records
 pub mod Showing
 pub mod Totals
+pub mod Blaming
 pub use Rattle.mn_record.proofs.Adding
 pub use Rattle.mn_record.proofs.Closing

@@ -12,15 +12,15 @@ use Rattle.mn_script.specs.declared.command.Command.{Command}
 use Rattle.mn_script.specs.declared.command.Command.TheVariants.{Do, Damage, Run, Drain, Flush, Show}
 use Rattle.mn_script.specs.declared.command.Line.{Line}
 use Rattle.mn_script.specs.declared.command.Show as show
-use Rattle.mn_course.specs.declared.coming.Ending.{Ending}
-use Rattle.mn_course.specs.declared.coming.Ending.TheVariants as ending
-use Rattle.mn_course.specs.Course.{Past, Course, inputs_of, played}
-use Rattle.mn_course.specs.Expansion.{Note, Refusal, Missing, Table, SentLine, Expansion, sending_by, table_by, after_line, with_line}
+use Rattle.mn_course_laws.specs.declared.coming.Ending.{Ending}
+use Rattle.mn_course_laws.specs.declared.coming.Ending.TheVariants as ending
+use Rattle.mn_course_laws.specs.Course.{Past, Course, inputs_of, played}
+use Rattle.mn_course_laws.specs.Expansion.{Note, Refusal, Missing, Table, SentLine, Expansion, sending_by, table_by, after_line, with_line}
 use Rattle.mn_lines.specs.Putting.{PutOn, PartPut, Puts, PutsPart}
-use Rattle.mn_output.specs.Report.{packet_for, note_text, count, is_refusal}
-use Rattle.mn_output.specs.Tables.{table_text}
+use Rattle.mn_output_laws.specs.Report.{packet_for, note_text, count, is_refusal}
+use Rattle.mn_output_laws.specs.Tables.{table_text}
 use Rattle.mn_files.specs.Numbers.{file_at}
-use Rattle.mn_net_now.specs.Now.{NetNow}
+use Rattle.mn_net_laws.specs.Now.{NetNow}
 use Rattle.mn_record.specs.Playing.{past_of, is_show, IsFirstPart, Takes}
 use Rattle.mn_record.specs.Played.{Played}
 use Rattle.mn_record.specs.Played.TheVariants.{All, Refused, NoRecord}

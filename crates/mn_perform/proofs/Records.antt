@@ -6,7 +6,7 @@ use Rattle.std.proofs.lemmas.Option.{slice_get-map, slice_get_read}
 use Rattle.mn_base.proofs.Rules.{some_is}
 use Rattle.mn_pcap.specs.declared.message.Place.{Place}
 use Rattle.mn_pcap.specs.Reading.{bytes_at, packet_of}
-use Rattle.mn_course.specs.Course.{record_of}
+use Rattle.mn_course_laws.specs.Course.{record_of}
 use Rattle.mn_record.specs.Watching.{is_record}
 use Rattle.mn_record.proofs.Recording.{record_within}
 use Rattle.mn_perform.specs.Memory.{MemoryView, packets_at}

@@ -5,10 +5,10 @@ use Rattle.mn_edge.specs.Files.{Files}
 use Rattle.mn_edge.specs.KeptLaws.{begins_on_more}
 use Rattle.mn_topo.specs.Network.{Network}
 use Rattle.mn_script.specs.declared.command.Line.{Line}
-use Rattle.mn_course.specs.Expansion.{Expansion, with_line, unless_stopped, expanded_from, expanded}
-use Rattle.mn_output.specs.Report.{note_text}
+use Rattle.mn_course_laws.specs.Expansion.{Expansion, with_line, unless_stopped, expanded_from, expanded}
+use Rattle.mn_output_laws.specs.Report.{note_text}
 use Rattle.mn_files.specs.Numbers.{file_at}
-use Rattle.mn_net_now.specs.Now.{NetNow}
+use Rattle.mn_net_laws.specs.Now.{NetNow}
 use Rattle.mn_record.specs.Recorded.{BooksNow}
 use Rattle.mn_perform.specs.declared.desk.Desk.{Desk}
 use Rattle.mn_perform.specs.declared.ended.Ended.{Ended}

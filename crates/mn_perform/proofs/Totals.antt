@@ -9,13 +9,13 @@ use Rattle.mn_script.specs.declared.command.Show as show
 use Rattle.mn_ledger.specs.declared.verdict.Verdict.{Verdict}
 use Rattle.mn_ledger.specs.Packets.{Packets}
 use Rattle.mn_ledger.specs.Ledger.{packets_of}
-use Rattle.mn_course.specs.Course.{Course, inputs_of, played}
-use Rattle.mn_course.specs.Expansion.{Table, Expansion, after_line, start_of, with_line, expanded_from, expanded}
+use Rattle.mn_course_laws.specs.Course.{Course, inputs_of, played}
+use Rattle.mn_course_laws.specs.Expansion.{Table, Expansion, after_line, start_of, with_line, expanded_from, expanded}
 use Rattle.mn_lines.specs.declared.lines.Totals.{Totals}
 use Rattle.mn_lines.specs.Lines.{total_line}
 use Rattle.mn_lines.specs.Putting.{PutOn, PartPut}
-use Rattle.mn_output.specs.Report.{packet_lines, count, is_refusal, is_delivered, is_dropped, is_flying, totals_of}
-use Rattle.mn_net_now.specs.Now.{NetNow, StandsFor}
+use Rattle.mn_output_laws.specs.Report.{packet_lines, count, is_refusal, is_delivered, is_dropped, is_flying, totals_of}
+use Rattle.mn_net_laws.specs.Now.{NetNow, StandsFor}
 use Rattle.mn_record.specs.Playing.{past_of, is_show, Takes}
 use Rattle.mn_record.specs.Played.{Played}
 use Rattle.mn_record.specs.Stopped.TheVariants.{TooManySteps}

@@ -6,15 +6,15 @@ use Rattle.mn_edge.specs.KeptLaws.{begins_on, same_some}
 use Rattle.mn_edge.specs.Written.{laid, PartWritten, is_known}
 use Rattle.mn_topo.specs.Network.{Network}
 use Rattle.mn_script.specs.declared.command.Line.{Line}
-use Rattle.mn_course.specs.Course.{inputs_of}
-use Rattle.mn_course.specs.Expansion.{expanded, start_of}
+use Rattle.mn_course_laws.specs.Course.{inputs_of}
+use Rattle.mn_course_laws.specs.Expansion.{expanded, start_of}
 use Rattle.mn_capture.specs.Packets.{CaptureView, packets_in}
 use Rattle.mn_lines.specs.Putting.{PartPut, PutOn}
 use Rattle.mn_lines.proofs.Putting.{begun}
-use Rattle.mn_output.specs.Files.{files_of, file_name}
-use Rattle.mn_output.specs.Contents.{output}
-use Rattle.mn_output.specs.Report.{run_answer}
-use Rattle.mn_net_now.specs.Now.{NetNow, StandsFor}
+use Rattle.mn_output_laws.specs.Files.{files_of, file_name}
+use Rattle.mn_output_laws.specs.Contents.{output}
+use Rattle.mn_output_laws.specs.Report.{run_answer}
+use Rattle.mn_net_laws.specs.Now.{NetNow, StandsFor}
 use Rattle.mn_record.specs.Recorded.{BooksNow, contents_at, told_packets}
 use Rattle.mn_report.specs.Shown.{sending_of}
 use Rattle.mn_perform.specs.declared.desk.Desk.{Desk}

@@ -5,12 +5,12 @@ use Rattle.mn_edge.specs.Files.{Files}
 use Rattle.mn_edge.specs.Kept.{HoldsOn, BeginsOn}
 use Rattle.mn_topo.specs.Network.{Network}
 use Rattle.mn_script.specs.declared.command.Line.{Line}
-use Rattle.mn_course.specs.Course.{inputs_of}
-use Rattle.mn_course.specs.Expansion.{SentLine, Expansion, sending_by, expanded_from, expanded}
+use Rattle.mn_course_laws.specs.Course.{inputs_of}
+use Rattle.mn_course_laws.specs.Expansion.{SentLine, Expansion, sending_by, expanded_from, expanded}
 use Rattle.mn_lines.specs.Lines.{cause_text, refused_line}
 use Rattle.mn_lines.specs.Putting.{PutOn, PartPut, Puts}
-use Rattle.mn_output.specs.Report.{note_text, count, is_refusal}
-use Rattle.mn_net_now.specs.Now.{NetNow, StandsFor}
+use Rattle.mn_output_laws.specs.Report.{note_text, count, is_refusal}
+use Rattle.mn_net_laws.specs.Now.{NetNow, StandsFor}
 use Rattle.mn_record.specs.Played.{Played}
 use Rattle.mn_record.specs.Played.TheVariants.{All, Refused, NoRecord}
 use Rattle.mn_record.specs.Recorded.{BooksNow, contents_at}

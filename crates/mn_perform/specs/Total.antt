@@ -3,12 +3,12 @@ use Rattle.std.specs.Prelude.{◌≡◌, ℕ, false, cond, List, [], ◌++◌, d
 use Rattle.mn_topo.specs.Network.{Network}
 use Rattle.mn_script.specs.declared.command.Line.{Line}
 use Rattle.mn_ledger.specs.Ledger.{packets_of}
-use Rattle.mn_course.specs.Course.{inputs_of}
-use Rattle.mn_course.specs.Expansion.{Expansion, expanded_from, expanded}
+use Rattle.mn_course_laws.specs.Course.{inputs_of}
+use Rattle.mn_course_laws.specs.Expansion.{Expansion, expanded_from, expanded}
 use Rattle.mn_lines.specs.Lines.{total_line}
 use Rattle.mn_lines.specs.Putting.{PartPut}
-use Rattle.mn_output.specs.Report.{count, is_refusal, totals_of}
-use Rattle.mn_net_now.specs.Now.{NetNow, StandsFor}
+use Rattle.mn_output_laws.specs.Report.{count, is_refusal, totals_of}
+use Rattle.mn_net_laws.specs.Now.{NetNow, StandsFor}
 use Rattle.mn_perform.specs.Running.{is_stopped}
 use Rattle.mn_perform.specs.declared.ended.Ended.{Ended}
 use Rattle.mn_perform.specs.declared.ended.Ended.TheVariants as ended

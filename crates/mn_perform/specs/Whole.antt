@@ -7,16 +7,16 @@ use Rattle.mn_topo.specs.Network.{Network}
 use Rattle.mn_topo.specs.declared.steps.JournalEntry.{JournalEntry}
 use Rattle.mn_script.specs.declared.command.Line.{Line}
 use Rattle.mn_ledger.specs.Packets.{Packets}
-use Rattle.mn_course.specs.Expansion.{expanded}
+use Rattle.mn_course_laws.specs.Expansion.{expanded}
 use Rattle.mn_capture.specs.Packets.{CaptureView, packets_in}
 use Rattle.mn_lines.specs.Lines.{total_line}
 use Rattle.mn_lines.specs.Putting.{PartPut}
 use Rattle.mn_edge.specs.Laid.{named}
-use Rattle.mn_output.specs.Files.{files_of, file_name}
-use Rattle.mn_output.specs.Contents.{contents}
-use Rattle.mn_output.specs.Report.{packet_lines, RunAnswer, run_answer, report}
+use Rattle.mn_output_laws.specs.Files.{files_of, file_name}
+use Rattle.mn_output_laws.specs.Contents.{contents}
+use Rattle.mn_output_laws.specs.Report.{packet_lines, RunAnswer, run_answer, report}
 use Rattle.mn_record.specs.Recorded.{contents_at, whole_at}
-use Rattle.mn_net_now.specs.Now.{NetNow}
+use Rattle.mn_net_laws.specs.Now.{NetNow}
 use Rattle.mn_report.specs.Shown.{sending_of, totals_by}
 use Rattle.mn_perform.specs.Running.{is_stopped, notes_text}
 use Rattle.mn_perform.specs.declared.desk.Desk.{Desk}

@@ -1,11 +1,11 @@
 //! The lines of a script, one after another.
-ghost use Rattle.std.specs.Prelude.{◌≡◌, ◌-◌, ◌+◌, ◌<◌, ◌≤◌, ◌^◌, true, false, [], List, ℕ, length, Option, IfOk, OnOk};
+ghost use Rattle.std.specs.Prelude.{◌≡◌, ◌-◌, ◌+◌, ◌<◌, ◌≤◌, ◌^◌, true, false, [], List, ℕ, length, None, Option, IfOk, OnOk};
 ghost use Rattle.std.specs.Option.{ForSome};
 ghost use Rattle.mn_base.specs.Limits.{most_script_lines};
 ghost use Rattle.mn_edge.specs.Kept.{Framed};
 ghost use Rattle.mn_script.specs.Lines.{command_fits};
 ghost use Rattle.mn_script.specs.Script.{AllFit};
-ghost use Rattle.mn_course.specs.Expansion.{Expansion, with_line, start_of, expanded};
+ghost use Rattle.mn_course_laws.specs.Expansion.{Expansion, with_line, start_of, expanded};
 ghost use Rattle.mn_record.specs.Playing.{is_show, IsPaced};
 ghost use Rattle.mn_record.specs.Recorded.{IsFor, told_packets};
 ghost use Rattle.mn_perform.specs.Faults.{Blamed};
@@ -45,7 +45,8 @@ fn perform_steps<S: Shelf, O: Sink>(
     ensures went { ForSome (told_packets (S.files shelf.old) books.old.names capture.now) (λ all. (begun : Option (List ℕ)) (run : Expansion) → run.is_stopped ≡ false →
         Keeps net.old.topology all begun run net.old books.old desk.old (S.files shelf.old) (O.written out.old) →
         Went net.old.topology all begun (with_line net.old.topology all run line.now) net.new books.new desk.new (S.files shelf.new) (O.written out.new) result) }
-    ensures cause { Blamed (S.read_faults shelf.old, S.write_faults shelf.old, O.faults out.old)
+    ensures cause { Blamed (told_packets (S.files shelf.old) books.old.names capture.now ≡ None) (told_packets (S.files shelf.old) books.old.names capture.now ≡ None)
+        (S.read_faults shelf.old, S.write_faults shelf.old, O.faults out.old)
         (S.read_faults shelf.new, S.write_faults shelf.new, O.faults out.new) result }
 {
     match record_line(net, &line.command, shelf, books, capture) {
@@ -85,7 +86,8 @@ fn perform_line<S: Shelf, O: Sink>(
     ensures went { ForSome (told_packets (S.files shelf.old) books.old.names capture.now) (λ all. (begun : Option (List ℕ)) (run : Expansion) → run.is_stopped ≡ false →
         Keeps net.old.topology all begun run net.old books.old desk.old (S.files shelf.old) (O.written out.old) →
         Went net.old.topology all begun (with_line net.old.topology all run line.now) net.new books.new desk.new (S.files shelf.new) (O.written out.new) result) }
-    ensures cause { Blamed (S.read_faults shelf.old, S.write_faults shelf.old, O.faults out.old)
+    ensures cause { Blamed (told_packets (S.files shelf.old) books.old.names capture.now ≡ None) (told_packets (S.files shelf.old) books.old.names capture.now ≡ None)
+        (S.read_faults shelf.old, S.write_faults shelf.old, O.faults out.old)
         (S.read_faults shelf.new, S.write_faults shelf.new, O.faults out.new) result }
 {
     match line.command {
@@ -120,7 +122,8 @@ pub(crate) fn perform_lines<S: Shelf, O: Sink>(
     ensures framed { Framed books.old.names (S.files shelf.old) (S.files shelf.new) }
     ensures went { ForSome (told_packets (S.files shelf.old) books.old.names capture.now) (λ all.
         Went net.old.topology all (O.written out.old) (expanded net.old.topology all lines.now) net.new books.new desk.new (S.files shelf.new) (O.written out.new) result) }
-    ensures cause { Blamed (S.read_faults shelf.old, S.write_faults shelf.old, O.faults out.old)
+    ensures cause { Blamed (told_packets (S.files shelf.old) books.old.names capture.now ≡ None) (told_packets (S.files shelf.old) books.old.names capture.now ≡ None)
+        (S.read_faults shelf.old, S.write_faults shelf.old, O.faults out.old)
         (S.read_faults shelf.new, S.write_faults shelf.new, O.faults out.new) result }
 {
     for line in lines {

@@ -1,5 +1,5 @@
 //! A capture in memory, and a watch that hands out its packets and keeps nothing.
-ghost use Rattle.std.specs.Prelude.{◌≡◌, ◌≢◌, ◌≤◌, length, Some, Ok, Err, IfOk, IfErr, ⊤};
+ghost use Rattle.std.specs.Prelude.{◌≡◌, ◌≢◌, ◌≤◌, length, None, Some, Ok, Err, IfOk, IfErr, ⊤};
 ghost use Rattle.mn_pcap.specs.Reading.{packets_of, end_of};
 ghost use Rattle.mn_pcap.specs.declared.refusal.PcapBad.TheVariants.{NoMemory};
 ghost use Rattle.mn_record.specs.Watching.{Found};
@@ -70,9 +70,9 @@ impl Watch for InMemory<'_> {
 
     ghost packets = { λ w. Some (packets_at w.capture.now) };
 
-    ghost reads = { λ w. 0 };
+    ghost reads = { λ w. None };
 
-    ghost writes = { λ w. 0 };
+    ghost writes = { λ w. None };
 
     ghost stands = { λ w topology journal inputs. ⊤ };
 

@@ -1,20 +1,20 @@
 //! A whole run.
-ghost use Rattle.std.specs.Prelude.{◌≡◌, ◌≢◌, ◌⊎◌, ◌≤◌, ◌++◌, [], false, List, ℕ, length, Some, Ok, Err, OnOk, OnErr};
+ghost use Rattle.std.specs.Prelude.{◌≡◌, ◌≢◌, ◌⊎◌, ◌≤◌, ◌++◌, [], false, List, ℕ, length, None, Some, Ok, Err, OnOk, OnErr};
 ghost use Rattle.std.specs.Option.{ForSome};
 ghost use Rattle.mn_base.specs.Limits.{most_script_lines};
-ghost use Rattle.mn_edge.specs.Files.{Files};
-ghost use Rattle.mn_edge.specs.Kept.{Framed};
+ghost use Rattle.mn_edge.specs.Files.{Absent, Files};
+ghost use Rattle.mn_edge.specs.Kept.{Framed, Lacking};
 ghost use Rattle.mn_edge.specs.Laid.{named};
 ghost use Rattle.mn_edge.specs.Written.{laid, PartWritten};
 ghost use Rattle.mn_script.specs.Script.{AllFit};
 ghost use Rattle.mn_ledger.specs.Ledger.{packets_of};
-ghost use Rattle.mn_course.specs.Course.{inputs_of};
+ghost use Rattle.mn_course_laws.specs.Course.{inputs_of};
 ghost use Rattle.mn_lines.specs.Putting.{PutOn, PartPut};
 ghost use Rattle.mn_record.specs.Recorded.{whole_at};
 ghost use Rattle.mn_perform.specs.Faults.{Blamed};
 ghost use Rattle.mn_perform.specs.Inside.{is_inside};
 ghost use Rattle.mn_record.specs.Recorded.{IsFor, told_packets};
-ghost use Rattle.mn_course.specs.Expansion.{start_of, expanded};
+ghost use Rattle.mn_course_laws.specs.Expansion.{start_of, expanded};
 ghost use Rattle.mn_perform.specs.Running.{notes_text, Keeps, Stands};
 ghost use Rattle.mn_perform.specs.Whole.{last_text, running, running_files, BegunAtRead, UntoldAtRead, RunEnds, RunFiles, RunText, IsLate};
 ghost use Rattle.mn_perform.specs.Whole.{ForRun, ForPackets, FilesOf, TextOf, EndsAs, TellsLate};
@@ -52,7 +52,8 @@ fn finish<S: Shelf, O: Sink>(
         Stands all net.now books.old (S.files shelf.old) → PutOn before notes desk.old.page (O.written out.old) →
         (S.files shelf.new ≡ Some (laid (named books.old.names (whole_at net.now.topology all net.now.journal)) base)) ⊎ PartPut notes before (O.written out.new)) }
     ensures unread { result ≢ Err Fault.Read }
-    ensures cause { Blamed (S.read_faults shelf.old, S.write_faults shelf.old, O.faults out.old)
+    ensures cause { Blamed ⊥ (Lacking books.old.names (S.files shelf.old))
+        (S.read_faults shelf.old, S.write_faults shelf.old, O.faults out.old)
         (S.read_faults shelf.new, S.write_faults shelf.new, O.faults out.new) result }
 {
     books.close(shelf, net)?;
@@ -88,7 +89,8 @@ fn perform_script<S: Shelf, O: Sink>(
         BegunAtRead (running_files net.old.topology all lines.now books.old.names) base (S.files shelf.new) result) }
     ensures untold { ForSome (told_packets (S.files shelf.old) books.old.names capture.now) (λ all. ForSome (O.written out.old) (λ before.
         UntoldAtRead (notes_text net.old.topology all (expanded net.old.topology all lines.now)) before (O.written out.new) result)) }
-    ensures cause { Blamed (S.read_faults shelf.old, S.write_faults shelf.old, O.faults out.old)
+    ensures cause { Blamed (told_packets (S.files shelf.old) books.old.names capture.now ≡ None) (told_packets (S.files shelf.old) books.old.names capture.now ≡ None)
+        (S.read_faults shelf.old, S.write_faults shelf.old, O.faults out.old)
         (S.read_faults shelf.new, S.write_faults shelf.new, O.faults out.new) result }
 {
     let how = perform_lines(net, lines, shelf, out, books, capture, desk)?;
@@ -124,7 +126,8 @@ pub fn perform<S: Shelf, O: Sink>(
         capture.now (S.files shelf.old) }
     ensures untold { ForPackets (λ packets m. ForSome (O.written out.old) (λ before.
         UntoldAtRead (notes_text topology packets (expanded topology packets lines.now)) before (O.written out.new) result)) capture.now (S.files shelf.old) }
-    ensures cause { Blamed (S.read_faults shelf.old, S.write_faults shelf.old, O.faults out.old)
+    ensures cause { Blamed (Absent (S.files shelf.old) capture.now.name) (Absent (S.files shelf.old) capture.now.name)
+        (S.read_faults shelf.old, S.write_faults shelf.old, O.faults out.old)
         (S.read_faults shelf.new, S.write_faults shelf.new, O.faults out.new) result }
 {
     let mut books = Books::open(alloc, shelf, &topology, folder)?;

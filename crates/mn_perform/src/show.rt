@@ -1,11 +1,12 @@
 //! A table, with the packet of the record that it names.
-ghost use Rattle.std.specs.Prelude.{◌≡◌, true, List, ℕ, Some, OnOk, OnErr, IfOk};
+ghost use Rattle.std.specs.Prelude.{◌≡◌, true, List, ℕ, Option, Some, OnOk, OnErr, IfOk};
+ghost use Rattle.mn_edge.specs.Files.{Absent};
 ghost use Rattle.mn_script.specs.Lines.{command_fits};
 ghost use Rattle.mn_script.specs.declared.command.Command.TheVariants as command;
 ghost use Rattle.mn_lines.specs.Putting.{Puts, PutsPart};
-ghost use Rattle.mn_output.specs.Report.{packet_for};
-ghost use Rattle.mn_output.specs.Tables.{table_text};
-ghost use Rattle.mn_net_now.specs.Now.{StandsFor};
+ghost use Rattle.mn_output_laws.specs.Report.{packet_for};
+ghost use Rattle.mn_output_laws.specs.Tables.{table_text};
+ghost use Rattle.mn_net_laws.specs.Now.{StandsFor};
 ghost use Rattle.mn_record.specs.Recorded.{told_packets};
 ghost use Rattle.mn_report.specs.Frames.{packet_of as packet_shown};
 ghost use Rattle.mn_perform.specs.Faults.{Blamed};
@@ -28,8 +29,8 @@ fn named_packet<'a, S: Shelf>(
     ensures same { S.files shelf.new ≡ S.files shelf.old }
     ensures named { IfOk result (λ found. (names : List (List ℕ)) (all : List (List ℕ)) → told_packets (S.files shelf.old) names capture.now ≡ Some all →
         packet_shown found ≡ packet_for all table) }
-    ensures cause { (sink : ℕ) → Blamed (S.read_faults shelf.old, S.write_faults shelf.old, sink)
-        (S.read_faults shelf.new, S.write_faults shelf.new, sink) result }
+    ensures cause { (sink : Option ℕ) → Blamed (Absent (S.files shelf.old) capture.now.name) ⊥
+        (S.read_faults shelf.old, S.write_faults shelf.old, sink) (S.read_faults shelf.new, S.write_faults shelf.new, sink) result }
 {
     let Show::Frame(_, number) = table else {
         return Ok(None);
@@ -61,7 +62,8 @@ pub(crate) fn put_shown<S: Shelf, O: Sink>(
     ensures sendings { desk.new.sendings ≡ desk.old.sendings }
     ensures refused { desk.new.refused ≡ desk.old.refused }
     ensures same { S.files shelf.new ≡ S.files shelf.old }
-    ensures cause { Blamed (S.read_faults shelf.old, S.write_faults shelf.old, O.faults out.old)
+    ensures cause { Blamed (Absent (S.files shelf.old) capture.now.name) ⊥
+        (S.read_faults shelf.old, S.write_faults shelf.old, O.faults out.old)
         (S.read_faults shelf.new, S.write_faults shelf.new, O.faults out.new) result }
 {
     let mut fetched = Vec::new(*desk.line.allocator());

@@ -1,5 +1,5 @@
 //! A shelf that gives few bytes at once, and captures on it.
-ghost use Rattle.std.specs.Prelude.{None};
+ghost use Rattle.std.specs.Prelude.{None, Some, refl};
 
 use crate::devices::{bytes_at, device_row};
 use mn_capture::Capture;
@@ -18,9 +18,11 @@ struct ShortShelf {
 impl Shelf for ShortShelf {
     ghost files = { λ s. None };
 
-    ghost read_faults = { λ s. 0 };
+    ghost read_faults = { λ s. Some 0 };
 
-    ghost write_faults = { λ s. 0 };
+    ghost write_faults = { λ s. Some 0 };
+
+    ghost refusal = { λ s. None };
 
     fn fetch(&mut self, name: &str, at: u64, buf: &mut [u8]) -> Result<usize, DeviceBad> {
         let _ = name;
@@ -41,6 +43,8 @@ impl Shelf for ShortShelf {
     fn append(&mut self, _: &str, _: &[u8]) -> Result<(), DeviceBad> {
         Ok(())
     }
+
+    ghost told = { λ shelf none. (refl, refl) };
 }
 
 /// Such a shelf, and the last capture on it.

@@ -63,8 +63,8 @@ fn step_of_sites(call: Call<'_>, k: usize) -> Option<Step>
     Some(match call.word(k)? {
         b"AddRoute" => Step::AddRoute(site, call.prefix(k + 2)?),
         b"DelRoute" => Step::DelRoute(site, call.prefix(k + 2)?),
-        b"Import" => Step::Import(vrf, target(call, k + 2)?, flag(call, k + 3)?),
-        b"Export" => Step::Export(vrf, target(call, k + 2)?, flag(call, k + 3)?),
+        b"Import" => Step::Import(vrf, flag(call, k + 3)?, target(call, k + 2)?),
+        b"Export" => Step::Export(vrf, flag(call, k + 3)?, target(call, k + 2)?),
         b"Attach" => Step::Attach(site),
         b"Detach" => Step::Detach(site),
         b"Inject" => Step::Inject(site, call.number_u32(k + 2)?),

@@ -1,11 +1,15 @@
 -- What follows of files to which something is added.
-use Rattle.std.proofs.Common.{◌≡◌, ℕ, ◌<◌, ◌≤◌, ◌==◌, ◌+◌, Bool, true, false, cond, is_ok, if◌then◌else◌, arith, List, [], ◌++◌, length, Option, Result, Ok, Err, OnOk}
-use Rattle.std.proofs.Common.{OnErr, refl, subst, sym, ◌∙◌, ap, append_assoc, length-append}
+use Rattle.std.proofs.Common.{◌≡◌, ℕ, ◌<◌, ◌≤◌, ◌==◌, ◌+◌, Bool, true, false, if◌then◌else◌, arith, List, [], ◌++◌, length, Option, Result, Ok, Err, OnOk}
+use Rattle.std.proofs.Common.{IsErr, OnErr, refl, subst, sym, ◌∙◌, ap, append_assoc, length-append}
 use Rattle.std.proofs.lemmas.List.{append-nil}
 use Rattle.mn_base.proofs.Bools.{other_test}
+use Rattle.std.specs.Result.{IsErrAnd}
+use Rattle.mn_edge.specs.declared.device.DeviceBad.{DeviceBad}
+use Rattle.mn_edge.specs.Faults.{CountedUnless}
+use Rattle.mn_edge.specs.FaultLaws.{counted_out}
 use Rattle.mn_edge.specs.Files.{Files}
-use Rattle.mn_edge.specs.Kept.{HoldsOn, BeginsOn, Framed}
-use Rattle.mn_edge.specs.KeptLaws.{begins_on, begins_on_more, framed_both}
+use Rattle.mn_edge.specs.Kept.{HoldsOn, BeginsOn, Framed, Lacking}
+use Rattle.mn_edge.specs.KeptLaws.{begins_on, begins_on_more, framed_both, counted_framed}
 use Rattle.mn_pcap.specs.Format.{record_header, record_of}
 use Rattle.mn_topo.specs.Network.{Network}
 use Rattle.mn_record.specs.Recorded.{BooksNow, IsFor}
@@ -154,6 +158,19 @@ record_put (Ok done) tick old head front packet new is put_is =
 
 pub framed_then : (a b : List (List ℕ)) (f g h : Option Files) → b ≡ a → Framed a f g → Framed b g h → Framed a f h
 framed_then a b f g h same one other = framed_both a f g h one (subst (λ n. Framed n g h) same other)
+
+-- a call that comes after others fails over a sound shelf only where one of the files wasn't there before them
+pub writes_then : {T : Type 0} (a b : List (List ℕ)) (f g : Option Files) (first before now : Option ℕ) (result : Result T DeviceBad) → b ≡ a → Framed a f g →
+    before ≡ first → CountedUnless (Lacking b g) before now result → CountedUnless (Lacking a f) first now result
+writes_then a b f g first before now result same framed left counted =
+    counted_framed a f g first before now result framed left (subst (λ n. CountedUnless (Lacking n g) before now result) same counted)
+
+pub writes_out : {U : Type 0} (a b : List (List ℕ)) (f g : Option Files) (first before now : Option ℕ) (e : DeviceBad) (result : Result U DeviceBad) →
+    IsErr result × IsErrAnd result (λ y. y ≡ e) → b ≡ a → Framed a f g → before ≡ first → CountedUnless {T = Unit {0}} (Lacking b g) before now (Err e) →
+    CountedUnless (Lacking a f) first now result
+writes_out {U} a b f g first before now e result from same framed left counted =
+    counted_out (Lacking a f) (Lacking a f) first first now e result from refl (λ lacking. lacking)
+    (writes_then {T = Unit {0}} a b f g first before now (Err e) same framed left counted)
 
 pub still_for : (a b : BooksNow) (t : Network) → b.names ≡ a.names → b.places ≡ a.places → IsFor a t → IsFor b t
 still_for a b t names places is = record { files = ap length names ∙ is.files; table = places ∙ is.table }

@@ -1,25 +1,27 @@
 -- Files that are begun, and files that are whole.
-use Rattle.std.proofs.Common.{◌≡◌, ℕ, zero, suc, ◌<◌, List, [], ◌∷◌, ◌++◌, map, length, replicate, Option, Some, None, refl, sym, ◌∙◌, ap, subst, append_assoc}
+use Rattle.std.proofs.Common.{◌≡◌, ℕ, zero, suc, ◌<◌, List, [], ◌∷◌, ◌++◌, map, length, replicate, Option, Some, None, Result, refl, sym, ◌∙◌, ap, subst, append_assoc}
 use Rattle.std.specs.Option.{ForSome}
 use Rattle.std.specs.List.{flat_map}
 use Rattle.mn_wiring.specs.Wiring.{nodes_of}
+use Rattle.mn_edge.specs.declared.device.DeviceBad.{DeviceBad}
+use Rattle.mn_edge.specs.Faults.{CountedUnless}
 use Rattle.mn_edge.specs.Files.{Files}
-use Rattle.mn_edge.specs.Kept.{HoldsOn, BeginsOn, Framed, held_for, none_held}
-use Rattle.mn_edge.specs.KeptLaws.{begins_on_more, framed_both, begun-holds, begun-framed}
+use Rattle.mn_edge.specs.Kept.{HoldsOn, BeginsOn, Framed, Lacking, held_for, none_held}
+use Rattle.mn_edge.specs.KeptLaws.{begins_on_more, framed_both, begun-holds, begun-framed, begun-there}
 use Rattle.mn_edge.specs.Laid.{named, all_written, part_written}
 use Rattle.mn_edge.specs.Written.{laid, PartWritten, Stands}
 use Rattle.mn_topo.specs.Network.{Network, wiring_of}
 use Rattle.mn_topo.specs.declared.steps.JournalEntry.{JournalEntry}
-use Rattle.mn_frames.specs.Given.{given}
-use Rattle.mn_output.specs.Moments.{moments_of}
-use Rattle.mn_output.specs.Files.{OutputFile, Labels, files_of, file_name}
-use Rattle.mn_output.specs.Contents.{output, head_of, tail_of, adds, label_lines, whole}
+use Rattle.mn_frame_laws.specs.Given.{given}
+use Rattle.mn_output_laws.specs.Moments.{moments_of}
+use Rattle.mn_output_laws.specs.Files.{OutputFile, Labels, files_of, file_name}
+use Rattle.mn_output_laws.specs.Contents.{output, head_of, tail_of, adds, label_lines, whole}
 use Rattle.mn_files.specs.Numbers.{file_at}
 use Rattle.mn_files.proofs.Places.{labels_are}
 use Rattle.mn_record.specs.Recorded.{BooksNow, IsFor, Records, contents_at, whole_at}
 use Rattle.mn_record.specs.Adding.{Adds, MayAdd, with_part, only_in}
 use Rattle.mn_record.specs.Parts.{by_number}
-use Rattle.mn_record.proofs.Adding.{holds_as, begins_as}
+use Rattle.mn_record.proofs.Adding.{holds_as, begins_as, writes_then}
 use Rattle.mn_record.proofs.Same.{in_place}
 use Rattle.mn_record.proofs.Opening.{named_output, labels_tail, begun_contents}
 
@@ -38,6 +40,7 @@ pub framed_begun : (names : List (List ℕ)) (old new : Option Files) →
     (old ≡ None → new ≡ None) → ForSome old (λ m. Stands names [] m new) → Framed names old new
 framed_begun names old new silent begun = record {
   silent = silent;
+  stays = λ all. begun-there names all.now new (begun all.now all.told);
   others = λ before is. (begun-framed names before new (begun before is)).others before refl;
 }
 
@@ -147,3 +150,10 @@ pub end_framed : (seen a b : BooksNow) (f g h : Option Files) → seen ≡ a →
     Framed a.names f h
 end_framed seen a b f g h same names framed after =
     subst (λ x. Framed x.names f h) same (framed_both seen.names f g h framed (subst (λ n. Framed n g h) names after))
+
+pub end_writes : {T : Type 0} (seen a b : BooksNow) (f g : Option Files) (first before now : Option ℕ) (result : Result T DeviceBad) → seen ≡ a →
+    b.names ≡ seen.names → Framed seen.names f g → before ≡ first → CountedUnless (Lacking b.names g) before now result →
+    CountedUnless (Lacking a.names f) first now result
+end_writes seen a b f g first before now result same names framed left counted =
+    subst (λ x. CountedUnless (Lacking x.names f) first now result) same
+    (writes_then seen.names b.names f g first before now result names framed left counted)

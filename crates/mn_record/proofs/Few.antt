@@ -10,7 +10,7 @@ use Rattle.mn_topo.specs.Network.{Network, wiring_of}
 use Rattle.mn_topo.specs.Lawful.{IsLawful}
 use Rattle.mn_topo.specs.VrfTable.{is_edge}
 use Rattle.mn_ledger.specs.Places.{edges}
-use Rattle.mn_output.specs.Files.{OutputFile, Frames, Said, Told, told_files, files_of}
+use Rattle.mn_output_laws.specs.Files.{OutputFile, Frames, Said, Told, told_files, files_of}
 
 each : {A B : Type 0} (f : A → List B) (k : ℕ) → ((x : A) → length (f x) ≤ k) → (xs : List A) → length (flat_map f xs) ≤ k * length xs
 each f k h [] = omega arith

@@ -4,8 +4,8 @@ use Rattle.std.proofs.Common.{Some, refl, ◌∙◌, ap, arith}
 use Rattle.mn_base.proofs.Bools.{and_false, same_test, other_test, less_is, not_less}
 use Rattle.mn_topo.specs.Network.{Network}
 use Rattle.mn_ledger.specs.Items.{Channel, Load, Item, same_channel, items_on, numbered, delay_on}
-use Rattle.mn_laws.specs.Flight.{AreAscending}
-use Rattle.mn_course.specs.Coming.{place_of}
+use Rattle.mn_ledger_laws.specs.Flight.{AreAscending}
+use Rattle.mn_course_laws.specs.Coming.{place_of}
 
 -- 1. Numbers
 

@@ -15,16 +15,16 @@ use Rattle.mn_ledger.specs.Packets.{away_from}
 use Rattle.mn_ledger.specs.World.{Telling}
 use Rattle.mn_ledger.specs.Items.{Channel, Load, Notice, Says, Tells, Carries}
 use Rattle.mn_ledger.specs.Items as on
-use Rattle.mn_laws.specs.Flight.{IsOfChannel}
-use Rattle.mn_frames.specs.Given.{given}
-use Rattle.mn_frames.specs.Numbers.{labels_of}
-use Rattle.mn_frames.specs.Frames.{stack_of}
+use Rattle.mn_ledger_laws.specs.Flight.{IsOfChannel}
+use Rattle.mn_frame_laws.specs.Given.{given}
+use Rattle.mn_frame_laws.specs.Numbers.{labels_of}
+use Rattle.mn_frame_laws.specs.Frames.{stack_of}
 use Rattle.mn_stack.specs.Grammar.{stack_bytes}
-use Rattle.mn_bgp_spelling.specs.Spelling.{bytes_in}
+use Rattle.mn_bgp_spelling_laws.specs.Spelling.{bytes_in}
 use Rattle.mn_sched.specs.Told.{channel_of, bytes_on}
-use Rattle.mn_output.specs.Files.{OutputFile, Journal, Labels, Deliveries, Frames, Said}
-use Rattle.mn_output.specs.Files as file
-use Rattle.mn_output.specs.Contents.{frame_record, over_ppp, told_on}
+use Rattle.mn_output_laws.specs.Files.{OutputFile, Journal, Labels, Deliveries, Frames, Said}
+use Rattle.mn_output_laws.specs.Files as file
+use Rattle.mn_output_laws.specs.Contents.{frame_record, over_ppp, told_on}
 use Rattle.mn_record.specs.Parts.{in_file, same_file, is_dir, file_for, piece_of}
 use Rattle.mn_record.proofs.Same.{by_test}
 

@@ -7,14 +7,14 @@ use Rattle.std.specs.List.{flat_map, range_with_len}
 use Rattle.mn_base.proofs.Bools.{other_test, other_numbers, same_numbers, less_is, not_less, less_tells, not_less_tells}
 use Rattle.mn_wiring.specs.Wiring.{nodes_of}
 use Rattle.mn_labels.specs.declared.meaning.Given.{Given}
-use Rattle.mn_frames.specs.Given.{given}
+use Rattle.mn_frame_laws.specs.Given.{given}
 use Rattle.mn_pcap.specs.Format.{header}
 use Rattle.mn_edge.specs.Laid.{named}
 use Rattle.mn_topo.specs.Network.{Network, wiring_of}
 use Rattle.mn_topo.specs.declared.steps.JournalEntry.{JournalEntry}
-use Rattle.mn_output.specs.Files.{OutputFile, Journal, Labels, Deliveries, Frames, Said, files_of, file_name}
-use Rattle.mn_output.specs.Files as file
-use Rattle.mn_output.specs.Contents.{contents, whole, output, head_of, label_line, label_lines, raw_ipv4, ppp}
+use Rattle.mn_output_laws.specs.Files.{OutputFile, Journal, Labels, Deliveries, Frames, Said, files_of, file_name}
+use Rattle.mn_output_laws.specs.Files as file
+use Rattle.mn_output_laws.specs.Contents.{contents, whole, output, head_of, label_line, label_lines, raw_ipv4, ppp}
 use Rattle.mn_files.specs.Numbers.{file_at}
 use Rattle.mn_files.proofs.Finding.{is_there, frames_there}
 use Rattle.mn_record.specs.Recorded.{whole_at}

@@ -1,14 +1,18 @@
 -- What a recorder hands out, and what stands after a line.
-use Rattle.std.proofs.Common.{◌≡◌, ℕ, suc, ◌-◌, ◌≤◌, nat_le, true, List, slice_get, Option, Some, Result, Ok, Err, sym, ◌∙◌, ap}
-use Rattle.std.proofs.Common.{subst, arith}
+use Rattle.std.proofs.Common.{◌≡◌, ℕ, suc, ◌-◌, ◌≤◌, nat_le, true, List, slice_get, Option, None, Some, Result, Ok, Err, sym, ◌∙◌, ap}
+use Rattle.std.proofs.Common.{refl, subst, arith}
+use Rattle.std.proofs.lemmas.Option.{none-some}
 use Rattle.std.specs.Option.{ForSome}
 use Rattle.mn_base.proofs.Bools.{and_left, and_right, at_most_tells}
-use Rattle.mn_edge.specs.Files.{Files, file}
-use Rattle.mn_edge.specs.Kept.{BeginsOn, Framed}
+use Rattle.mn_edge.specs.Files.{Absent, Files, file}
+use Rattle.mn_edge.specs.Kept.{BeginsOn, Framed, Lacking}
+use Rattle.mn_edge.specs.KeptLaws.{holds_there}
 use Rattle.mn_base.proofs.Rules.{some_is}
-use Rattle.mn_course.specs.Course.{record_of, inputs_of}
+use Rattle.mn_course_laws.specs.Course.{record_of, inputs_of}
 use Rattle.mn_capture.specs.Packets.{CaptureView, packets_in}
-use Rattle.mn_net_now.specs.Now.{NetNow, StandsFor}
+use Rattle.mn_topo.specs.Network.{Network}
+use Rattle.mn_topo.specs.declared.steps.JournalEntry.{JournalEntry}
+use Rattle.mn_net_laws.specs.Now.{NetNow, StandsFor}
 use Rattle.mn_sched.specs.Watching.{is_record, Together, but_last}
 use Rattle.mn_sched.specs.Playing.{After}
 use Rattle.mn_sched.specs.declared.line.Stopped.{Stopped}
@@ -83,3 +87,25 @@ step_begins net all old new capture before after told names framed holding recor
     let same : all ≡ other = some_is all other (sym told ∙ sym (same_packets old.names capture before after framed)
     ∙ ap (λ n. told_packets after n capture) (sym names) ∙ said) in
     subst (λ packets. BeginsOn new.names (contents_at net.topology packets net.journal) after) same (records holding.0 (holding.1 all told))
+
+-- no packets are told where the capture isn't there
+pub absent_untold : (files : Option Files) (names : List (List ℕ)) (capture : CaptureView) → Absent files capture.name → told_packets files names capture ≡ None
+absent_untold files names capture absent = by (told_packets files names capture) refl
+  where
+    by : (o : Option (List (List ℕ))) → told_packets files names capture ≡ o → told_packets files names capture ≡ None
+    by None is = is
+    by (Some all) is =
+        let x = packets_are_there files names capture all is in
+        let e : ◌≡◌ {A = Option (List ℕ)} None (Some x.bytes) = sym (absent x.now x.told) ∙ x.there in
+        absurd (none-some x.bytes e)
+
+-- nor where not all files are there that have what the journal's steps have added
+pub lacking_untold : (books : BooksNow) (capture : CaptureView) (files : Option Files) (topology : Network) (journal : List JournalEntry) →
+    ForSome (told_packets files books.names capture) (λ all. Holding books capture files topology journal) → Lacking books.names files →
+    told_packets files books.names capture ≡ None
+lacking_untold books capture files topology journal holding lacking = by (told_packets files books.names capture) refl
+  where
+    by : (o : Option (List (List ℕ))) → told_packets files books.names capture ≡ o → told_packets files books.names capture ≡ None
+    by None is = is
+    by (Some all) is =
+        absurd (lacking (holds_there books.names (contents_at topology all journal) books.held files ((holding all is).1 all is)))

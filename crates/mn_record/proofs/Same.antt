@@ -11,8 +11,8 @@ use Rattle.mn_topo.specs.declared.steps.JournalEntry.{JournalEntry}
 use Rattle.mn_sched.specs.Channel.{Channel}
 use Rattle.mn_sched.specs.Channel.TheVariants as channel
 use Rattle.mn_sched.specs.Told.{Told, told_at}
-use Rattle.mn_output.specs.Files.{OutputFile, Journal, Labels, Deliveries, Frames, Said, files_of}
-use Rattle.mn_output.specs.Files as file
+use Rattle.mn_output_laws.specs.Files.{OutputFile, Journal, Labels, Deliveries, Frames, Said, files_of}
+use Rattle.mn_output_laws.specs.Files as file
 use Rattle.mn_files.specs.Numbers.{IsNumber, IsPlace, file_at}
 use Rattle.mn_files.proofs.Places.{one_number}
 use Rattle.mn_record.specs.Adding.{only_in}

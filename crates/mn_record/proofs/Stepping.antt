@@ -10,15 +10,15 @@ use Rattle.mn_topo.specs.declared.steps.JournalEntry.{JournalEntry}
 use Rattle.mn_ledger.specs.Ledger.{packets_of}
 use Rattle.mn_ledger.specs.Items.{flight_of}
 use Rattle.mn_ledger.specs.Lawful.{IsLawfulJournal}
-use Rattle.mn_course.specs.Course.{inputs_of}
-use Rattle.mn_output.specs.Moments.{Moment, journal_then, made}
-use Rattle.mn_output.specs.Files.{OutputFile, Journal, Deliveries, files_of}
-use Rattle.mn_output.specs.Contents.{contents, adds, delivery_record}
-use Rattle.mn_output.proofs.Adding.{adding}
+use Rattle.mn_course_laws.specs.Course.{inputs_of}
+use Rattle.mn_output_laws.specs.Moments.{Moment, journal_then, made}
+use Rattle.mn_output_laws.specs.Files.{OutputFile, Journal, Deliveries, files_of}
+use Rattle.mn_output_laws.specs.Contents.{contents, adds, delivery_record}
+use Rattle.mn_output_laws.proofs.Adding.{adding}
 use Rattle.mn_files.specs.Numbers.{file_at}
 use Rattle.mn_files.proofs.Places.{journal_is, deliveries_are}
 use Rattle.mn_sched.specs.Done.{Done}
-use Rattle.mn_net_now.specs.Now.{NetNow, StandsFor}
+use Rattle.mn_net_laws.specs.Now.{NetNow, StandsFor}
 use Rattle.mn_sched.specs.Watching.{but_last, made_over}
 use Rattle.mn_record.specs.Recorded.{BooksNow, IsFor, contents_at}
 use Rattle.mn_record.specs.Adding.{Adds, MayAdd, with_part, only_in}

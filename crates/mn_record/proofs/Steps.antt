@@ -26,18 +26,18 @@ use Rattle.mn_ledger.specs.OneMore.{with_packet, GoesOnByOneStep}
 use Rattle.mn_ledger.specs.InFlight.{IsInFlight}
 use Rattle.mn_ledger.proofs.More.{goes_on}
 use Rattle.mn_ledger.proofs.Flows.{in_flight}
-use Rattle.mn_laws.specs.Flight.{AreAscending, IsOfChannel, FliesAsCounted}
-use Rattle.mn_laws.proofs.Counted.{flies_as_counted}
-use Rattle.mn_frames.specs.Given.{Labelling, given}
-use Rattle.mn_frames.specs.Numbers.{labels_of}
-use Rattle.mn_bgp_spelling.specs.Spelling.{bytes_in}
-use Rattle.mn_course.specs.Course.{inputs_of, input_before}
-use Rattle.mn_course.proofs.Going.{a_packet_each, inputs_more, packet_at}
+use Rattle.mn_ledger_laws.specs.Flight.{AreAscending, IsOfChannel, FliesAsCounted}
+use Rattle.mn_ledger_laws.proofs.Counted.{flies_as_counted}
+use Rattle.mn_frame_laws.specs.Given.{Labelling, given}
+use Rattle.mn_frame_laws.specs.Numbers.{labels_of}
+use Rattle.mn_bgp_spelling_laws.specs.Spelling.{bytes_in}
+use Rattle.mn_course_laws.specs.Course.{inputs_of, input_before}
+use Rattle.mn_course_laws.proofs.Going.{a_packet_each, inputs_more, packet_at}
 use Rattle.mn_sched.specs.Told.{told_at, item_told, channel_of}
-use Rattle.mn_output.specs.Moments.{Moment, journal_then, labels_then, made, injected, world_then, packets_then}
-use Rattle.mn_output.specs.Files.{OutputFile, Journal, Labels, Deliveries, Frames, Said}
-use Rattle.mn_output.specs.Files as file
-use Rattle.mn_output.specs.Contents.{delivery_record, frame_record, said_on, told_on, pdu_bytes, pdus, adds}
+use Rattle.mn_output_laws.specs.Moments.{Moment, journal_then, labels_then, made, injected, world_then, packets_then}
+use Rattle.mn_output_laws.specs.Files.{OutputFile, Journal, Labels, Deliveries, Frames, Said}
+use Rattle.mn_output_laws.specs.Files as file
+use Rattle.mn_output_laws.specs.Contents.{delivery_record, frame_record, said_on, told_on, pdu_bytes, pdus, adds}
 use Rattle.mn_record.specs.Parts.{in_file, item_part, items_part, is_dir, same_file, file_for}
 use Rattle.mn_record.proofs.Same.{by_test}
 use Rattle.mn_record.proofs.Flying.{found, place_is, numbered-append, item_made}

@@ -11,10 +11,10 @@ use Rattle.mn_sched.specs.Done.{Done}
 use Rattle.mn_sched.specs.Channel.{Channel}
 use Rattle.mn_sched.specs.Channel.TheVariants as channel
 use Rattle.mn_sched.specs.Told.{Told, told_at}
-use Rattle.mn_net_now.specs.Now.{NetNow}
-use Rattle.mn_output.specs.Files.{OutputFile, Journal, Labels, Deliveries, Frames, Said}
-use Rattle.mn_output.specs.Files as file
-use Rattle.mn_output.specs.Contents.{over_ppp}
+use Rattle.mn_net_laws.specs.Now.{NetNow}
+use Rattle.mn_output_laws.specs.Files.{OutputFile, Journal, Labels, Deliveries, Frames, Said}
+use Rattle.mn_output_laws.specs.Files as file
+use Rattle.mn_output_laws.specs.Contents.{over_ppp}
 use Rattle.mn_sched.specs.Watching.{but_last, made_over}
 use Rattle.mn_files.specs.Numbers.{file_at, IsPlace}
 use Rattle.mn_record.specs.Recorded.{BooksNow, contents_at}

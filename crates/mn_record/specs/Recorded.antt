@@ -5,12 +5,12 @@ use Rattle.mn_edge.specs.Written.{is_known}
 use Rattle.mn_edge.specs.Kept.{HoldsOn, BeginsOn}
 use Rattle.mn_topo.specs.Network.{Network}
 use Rattle.mn_topo.specs.declared.steps.JournalEntry.{JournalEntry}
-use Rattle.mn_course.specs.Course.{inputs_of}
+use Rattle.mn_course_laws.specs.Course.{inputs_of}
 use Rattle.mn_capture.specs.Packets.{CaptureView, packets_in}
-use Rattle.mn_output.specs.Files.{files_of}
-use Rattle.mn_output.specs.Contents.{contents, whole}
+use Rattle.mn_output_laws.specs.Files.{files_of}
+use Rattle.mn_output_laws.specs.Contents.{contents, whole}
 use Rattle.mn_files.specs.Numbers.{file_at, edge_places}
-use Rattle.mn_net_now.specs.Now.{NetNow, StandsFor}
+use Rattle.mn_net_laws.specs.Now.{NetNow, StandsFor}
 use Rattle.mn_sched.specs.declared.line.Stopped.{Stopped}
 use Rattle.mn_sched.specs.declared.line.Stopped.TheVariants.{TooManySteps}
 

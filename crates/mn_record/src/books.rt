@@ -3,18 +3,18 @@ ghost use Rattle.std.specs.Prelude.{◌≡◌, ◌<◌, ◌++◌, ◌∷◌, ◌
 ghost use Rattle.std.specs.Option.{ForSome};
 ghost use Rattle.std.specs.List.{flat_map, range_with_len};
 ghost use Rattle.mn_wiring.specs.Wiring.{nodes_of};
-ghost use Rattle.mn_edge.specs.Faults.{Counted};
+ghost use Rattle.mn_edge.specs.Faults.{Counted, CountedUnless};
 ghost use Rattle.mn_edge.specs.Files.{Files};
-ghost use Rattle.mn_edge.specs.Kept.{Framed};
+ghost use Rattle.mn_edge.specs.Kept.{Framed, Lacking};
 ghost use Rattle.mn_edge.specs.Laid.{named};
 ghost use Rattle.mn_edge.specs.Written.{laid, PartWritten};
 ghost use Rattle.mn_topo.specs.Network.{wiring_of};
 ghost use Rattle.mn_topo.specs.declared.steps.JournalEntry.{JournalEntry};
-ghost use Rattle.mn_frames.specs.Given.{given};
-ghost use Rattle.mn_net_now.specs.Now.{StandsFor};
-ghost use Rattle.mn_course.specs.Course.{inputs_of};
-ghost use Rattle.mn_output.specs.Files.{Frames, files_of, file_name};
-ghost use Rattle.mn_output.specs.Contents.{output as run_output, head_of, label_lines, ppp};
+ghost use Rattle.mn_frame_laws.specs.Given.{given};
+ghost use Rattle.mn_net_laws.specs.Now.{StandsFor};
+ghost use Rattle.mn_course_laws.specs.Course.{inputs_of};
+ghost use Rattle.mn_output_laws.specs.Files.{Frames, files_of, file_name};
+ghost use Rattle.mn_output_laws.specs.Contents.{output as run_output, head_of, label_lines, ppp};
 ghost use Rattle.mn_pcap.specs.Format.{header};
 ghost use Rattle.mn_record.specs.Recorded.{IsFor, IsFresh, Records, whole_at};
 ghost use Rattle.mn_record.specs.Adding.{Adds, MayAdd, only_in};
@@ -37,7 +37,7 @@ const RAW_IPV4: u32 = 228;
 /// Link type 9: a record is a PPP frame.
 const PPP: u32 = 9;
 
-/// The files of a run, their names and what waits for them: 64 KiB at most.
+/// The files of a run, their names and what waits for them: 64 KiB at most, or 1 MiB over more than 64 files.
 #[derive(Drop)]
 pub struct Books {
     pub(crate) output: Output,
@@ -65,7 +65,8 @@ fn put_frame_head<S: Shelf>(
     ensures names { output.new.names ≡ output.old.names }
     ensures places { output.new.places ≡ output.old.places }
     ensures framed { Framed output.old.names (S.files shelf.old) (S.files shelf.new) }
-    ensures writes { Counted (S.write_faults shelf.old) (S.write_faults shelf.new) result }
+    ensures writes { CountedUnless (Lacking output.old.names (S.files shelf.old))
+        (S.write_faults shelf.old) (S.write_faults shelf.new) result }
     ensures reads { S.read_faults shelf.new ≡ S.read_faults shelf.old }
 {
     match find_frames(topology, link) {
@@ -85,7 +86,8 @@ fn put_frame_heads<S: Shelf>(
     ensures names { output.new.names ≡ output.old.names }
     ensures places { output.new.places ≡ output.old.places }
     ensures framed { Framed output.old.names (S.files shelf.old) (S.files shelf.new) }
-    ensures writes { Counted (S.write_faults shelf.old) (S.write_faults shelf.new) result }
+    ensures writes { CountedUnless (Lacking output.old.names (S.files shelf.old))
+        (S.write_faults shelf.old) (S.write_faults shelf.new) result }
     ensures reads { S.read_faults shelf.new ≡ S.read_faults shelf.old }
 {
     topology.laws();
@@ -106,7 +108,8 @@ fn put_heads<S: Shelf>(
     ensures names { output.new.names ≡ output.old.names }
     ensures places { output.new.places ≡ output.old.places }
     ensures framed { Framed output.old.names (S.files shelf.old) (S.files shelf.new) }
-    ensures writes { Counted (S.write_faults shelf.old) (S.write_faults shelf.new) result }
+    ensures writes { CountedUnless (Lacking output.old.names (S.files shelf.old))
+        (S.write_faults shelf.old) (S.write_faults shelf.new) result }
     ensures reads { S.read_faults shelf.new ≡ S.read_faults shelf.old }
 {
     output.put_header(shelf, deliveries_file(), RAW_IPV4)?;
@@ -126,7 +129,8 @@ fn put_labels_of<S: Shelf>(
     ensures names { output.new.names ≡ output.old.names }
     ensures places { output.new.places ≡ output.old.places }
     ensures framed { Framed output.old.names (S.files shelf.old) (S.files shelf.new) }
-    ensures writes { Counted (S.write_faults shelf.old) (S.write_faults shelf.new) result }
+    ensures writes { CountedUnless (Lacking output.old.names (S.files shelf.old))
+        (S.write_faults shelf.old) (S.write_faults shelf.new) result }
     ensures reads { S.read_faults shelf.new ≡ S.read_faults shelf.old }
 {
     for giving in givings {
@@ -145,7 +149,8 @@ fn put_labels<S: Shelf>(net: &Net, shelf: &mut S, output: &mut Output) -> Result
     ensures names { output.new.names ≡ output.old.names }
     ensures places { output.new.places ≡ output.old.places }
     ensures framed { Framed output.old.names (S.files shelf.old) (S.files shelf.new) }
-    ensures writes { Counted (S.write_faults shelf.old) (S.write_faults shelf.new) result }
+    ensures writes { CountedUnless (Lacking output.old.names (S.files shelf.old))
+        (S.write_faults shelf.old) (S.write_faults shelf.new) result }
     ensures reads { S.read_faults shelf.new ≡ S.read_faults shelf.old }
 {
     let topology = net.topology();
@@ -224,7 +229,8 @@ impl Books {
             PartWritten (named self.old.names (whole_at net.now.topology all net.now.journal)) base (S.files shelf.new)) }
         ensures names { self.new.names ≡ self.old.names }
         ensures framed { Framed self.old.names (S.files shelf.old) (S.files shelf.new) }
-        ensures writes { Counted (S.write_faults shelf.old) (S.write_faults shelf.new) result }
+        ensures writes { CountedUnless (Lacking self.old.names (S.files shelf.old))
+            (S.write_faults shelf.old) (S.write_faults shelf.new) result }
         ensures reads { S.read_faults shelf.new ≡ S.read_faults shelf.old }
     {
         if !net.works() {

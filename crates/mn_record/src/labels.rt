@@ -1,7 +1,7 @@
 //! The lines of labels.txt: one label space for each node, RFC 3031, section 3.14.
 ghost use Rattle.std.specs.Prelude.{◌≡◌, ◌++◌, OnOk};
 ghost use Rattle.mn_ledger.specs.Places.{loopback};
-ghost use Rattle.mn_output.specs.Contents.{bind_text, label_line};
+ghost use Rattle.mn_output_laws.specs.Contents.{bind_text, label_line};
 
 use itoa::Buffer;
 use mn_base::NodeNo;

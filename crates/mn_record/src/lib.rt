@@ -8,7 +8,7 @@
 //!                                  A+B.bgp         each message that it told (RFC 4271, section 4.1)
 //! ```
 //!
-//! Nothing is kept of a step once it is written but bytes that wait for their files, 64 KiB at most.
+//! Nothing is kept of a step once it is written but bytes that wait for their files: 64 KiB at most, or 1 MiB over more than 64 files.
 //!
 //! - `output`: the files, and what waits for them
 //! - `capture_record`: the header of a record of a capture

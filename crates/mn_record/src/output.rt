@@ -1,13 +1,13 @@
 //! The files, by number, and what waits for them.
 ghost use Rattle.std.specs.Prelude.{◌≡◌, ◌++◌, ◌<◌, ◌^◌, ℕ, List, [], true, length, replicate, IfOk, OnOk, OnErr, IsTrue};
-ghost use Rattle.mn_edge.specs.Faults.{Counted};
+ghost use Rattle.mn_edge.specs.Faults.{CountedUnless};
 ghost use Rattle.mn_edge.specs.Files.{Files};
-ghost use Rattle.mn_edge.specs.Kept.{Framed, HoldsOn, BeginsOn, none_held};
+ghost use Rattle.mn_edge.specs.Kept.{BeginsOn, Framed, HoldsOn, Lacking, none_held};
 ghost use Rattle.mn_edge.specs.Memory.{all_differ};
 ghost use Rattle.mn_edge.specs.Written.{texts};
 ghost use Rattle.mn_entry.specs.Entries.{entry_fits};
 ghost use Rattle.mn_journal.specs.Lines.{line_of};
-ghost use Rattle.mn_output.specs.Contents.{label_line};
+ghost use Rattle.mn_output_laws.specs.Contents.{label_line};
 ghost use Rattle.mn_pcap.specs.Format.{header, record_of};
 ghost use Rattle.mn_files.specs.Numbers.{edge_places};
 ghost use Rattle.mn_record.specs.Adding.{Adds, MayAdd, only_in};
@@ -68,7 +68,8 @@ fn put_piece<S: Shelf>(
         (record { names = texts names.now; held = gather.new; places = [] }) (S.files shelf.old) (S.files shelf.new)) }
     ensures files { length gather.new ≡ length gather.old }
     ensures framed { Framed (texts names.now) (S.files shelf.old) (S.files shelf.new) }
-    ensures writes { Counted (S.write_faults shelf.old) (S.write_faults shelf.new) result }
+    ensures writes { CountedUnless (Lacking (texts names.now) (S.files shelf.old))
+        (S.write_faults shelf.old) (S.write_faults shelf.new) result }
     ensures reads { S.read_faults shelf.new ≡ S.read_faults shelf.old }
 {
     if file as usize >= names.len() {
@@ -127,7 +128,8 @@ impl Output {
         ensures names { self.new.names ≡ self.old.names }
         ensures places { self.new.places ≡ self.old.places }
         ensures framed { Framed self.old.names (S.files shelf.old) (S.files shelf.new) }
-        ensures writes { Counted (S.write_faults shelf.old) (S.write_faults shelf.new) result }
+        ensures writes { CountedUnless (Lacking self.old.names (S.files shelf.old))
+            (S.write_faults shelf.old) (S.write_faults shelf.new) result }
         ensures reads { S.read_faults shelf.new ≡ S.read_faults shelf.old }
     {
         put_piece(&mut self.gather, shelf, &self.names, file, piece)
@@ -146,7 +148,8 @@ impl Output {
         ensures names { self.new.names ≡ self.old.names }
         ensures places { self.new.places ≡ self.old.places }
         ensures framed { Framed self.old.names (S.files shelf.old) (S.files shelf.new) }
-        ensures writes { Counted (S.write_faults shelf.old) (S.write_faults shelf.new) result }
+        ensures writes { CountedUnless (Lacking self.old.names (S.files shelf.old))
+            (S.write_faults shelf.old) (S.write_faults shelf.new) result }
         ensures reads { S.read_faults shelf.new ≡ S.read_faults shelf.old }
     {
         self.line.clear();
@@ -172,7 +175,8 @@ impl Output {
         ensures names { self.new.names ≡ self.old.names }
         ensures places { self.new.places ≡ self.old.places }
         ensures framed { Framed self.old.names (S.files shelf.old) (S.files shelf.new) }
-        ensures writes { Counted (S.write_faults shelf.old) (S.write_faults shelf.new) result }
+        ensures writes { CountedUnless (Lacking self.old.names (S.files shelf.old))
+            (S.write_faults shelf.old) (S.write_faults shelf.new) result }
         ensures reads { S.read_faults shelf.new ≡ S.read_faults shelf.old }
     {
         self.line.clear();
@@ -193,7 +197,8 @@ impl Output {
         ensures names { self.new.names ≡ self.old.names }
         ensures places { self.new.places ≡ self.old.places }
         ensures framed { Framed self.old.names (S.files shelf.old) (S.files shelf.new) }
-        ensures writes { Counted (S.write_faults shelf.old) (S.write_faults shelf.new) result }
+        ensures writes { CountedUnless (Lacking self.old.names (S.files shelf.old))
+            (S.write_faults shelf.old) (S.write_faults shelf.new) result }
         ensures reads { S.read_faults shelf.new ≡ S.read_faults shelf.old }
     {
         self.line.clear();
@@ -221,7 +226,8 @@ impl Output {
         ensures names { self.new.names ≡ self.old.names }
         ensures places { self.new.places ≡ self.old.places }
         ensures framed { Framed self.old.names (S.files shelf.old) (S.files shelf.new) }
-        ensures writes { Counted (S.write_faults shelf.old) (S.write_faults shelf.new) result }
+        ensures writes { CountedUnless (Lacking self.old.names (S.files shelf.old))
+            (S.write_faults shelf.old) (S.write_faults shelf.new) result }
         ensures reads { S.read_faults shelf.new ≡ S.read_faults shelf.old }
     {
         if packet.len() > MOST_JOINED {
@@ -245,7 +251,8 @@ impl Output {
         ensures names { self.new.names ≡ self.old.names }
         ensures places { self.new.places ≡ self.old.places }
         ensures framed { Framed self.old.names (S.files shelf.old) (S.files shelf.new) }
-        ensures writes { Counted (S.write_faults shelf.old) (S.write_faults shelf.new) result }
+        ensures writes { CountedUnless (Lacking self.old.names (S.files shelf.old))
+            (S.write_faults shelf.old) (S.write_faults shelf.new) result }
         ensures reads { S.read_faults shelf.new ≡ S.read_faults shelf.old }
     {
         self.line.clear();
@@ -267,7 +274,8 @@ impl Output {
         ensures names { self.new.names ≡ self.old.names }
         ensures places { self.new.places ≡ self.old.places }
         ensures framed { Framed self.old.names (S.files shelf.old) (S.files shelf.new) }
-        ensures writes { Counted (S.write_faults shelf.old) (S.write_faults shelf.new) result }
+        ensures writes { CountedUnless (Lacking self.old.names (S.files shelf.old))
+            (S.write_faults shelf.old) (S.write_faults shelf.new) result }
         ensures reads { S.read_faults shelf.new ≡ S.read_faults shelf.old }
     {
         self.put(
@@ -287,7 +295,8 @@ impl Output {
         ensures part { OnErr result ((contents : ℕ → List ℕ) → HoldsOn self.old.names contents self.old.held (S.files shelf.old) →
             BeginsOn self.old.names contents (S.files shelf.new)) }
         ensures framed { Framed self.old.names (S.files shelf.old) (S.files shelf.new) }
-        ensures writes { Counted (S.write_faults shelf.old) (S.write_faults shelf.new) result }
+        ensures writes { CountedUnless (Lacking self.old.names (S.files shelf.old))
+            (S.write_faults shelf.old) (S.write_faults shelf.new) result }
         ensures reads { S.read_faults shelf.new ≡ S.read_faults shelf.old }
     {
         self.gather.end(shelf, &self.names)

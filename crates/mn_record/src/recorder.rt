@@ -1,13 +1,13 @@
 //! A watch that writes the files of a run.
-ghost use Rattle.std.specs.Prelude.{◌≡◌, ◌≤◌, ◌^◌, true, false, List, ℕ, map, length, refl, OnOk, OnErr};
+ghost use Rattle.std.specs.Prelude.{◌≡◌, ◌≤◌, ◌^◌, true, false, List, ℕ, None, map, length, refl, OnOk, OnErr};
 ghost use Rattle.std.specs.Option.{ForSome};
 ghost use Rattle.std.proofs.Common.{◌∙◌, subst};
 ghost use Rattle.mn_script.specs.Lines.{command_fits};
-ghost use Rattle.mn_course.specs.Course.{inputs_of, played};
+ghost use Rattle.mn_course_laws.specs.Course.{inputs_of, played};
 ghost use Rattle.mn_topo.specs.Network.{Network};
 ghost use Rattle.mn_topo.specs.declared.steps.JournalEntry.{JournalEntry};
 ghost use Rattle.mn_edge.specs.Kept.{BeginsOn, Framed};
-ghost use Rattle.mn_net_now.specs.Now.{StandsFor};
+ghost use Rattle.mn_net_laws.specs.Now.{StandsFor};
 ghost use Rattle.mn_sched.specs.Watching.{Together, is_record};
 ghost use Rattle.mn_sched.specs.Playing.{is_show, past_of, Takes, After, Caused, IsPaced, MissingIff, names_no_record};
 ghost use Rattle.mn_record.specs.Recorded.{IsFor, Records, RecordedAfter, contents_at, told_packets};
@@ -102,7 +102,8 @@ fn record_with<S: Shelf>(
         (S.files recorder.old.shelf.now) (S.files recorder.new.shelf.now) }
     ensures topology { net.new.topology ≡ net.old.topology }
     ensures clock { OnOk result (IsPaced 1000000 net.old net.new) }
-    ensures cause { Caused (S.read_faults recorder.old.shelf.now, S.write_faults recorder.old.shelf.now) (S.read_faults recorder.new.shelf.now, S.write_faults recorder.new.shelf.now) result }
+    ensures cause { Caused (told_packets (S.files recorder.old.shelf.now) recorder.old.output.now.names recorder.old.capture.now ≡ None)
+        (S.read_faults recorder.old.shelf.now, S.write_faults recorder.old.shelf.now) (S.read_faults recorder.new.shelf.now, S.write_faults recorder.new.shelf.now) result }
     ensures missing { MissingIff (names_no_record (length recorder.old.capture.now.places) command.now) result }
     ensures course { ForSome (told_packets (S.files recorder.old.shelf.now) recorder.old.output.now.names recorder.old.capture.now) (λ all.
         Takes (played net.old.topology all (past_of net.old) command.now) net.new result) }
@@ -134,7 +135,8 @@ pub(crate) fn record_on<S: Shelf>(
     ensures clock { OnOk result (IsPaced 1000000 net.old net.new) }
     ensures framed { Framed output.old.names (S.files shelf.old) (S.files shelf.new) }
     ensures told { told_packets (S.files shelf.new) output.old.names capture.now ≡ told_packets (S.files shelf.old) output.old.names capture.now }
-    ensures cause { Caused (S.read_faults shelf.old, S.write_faults shelf.old) (S.read_faults shelf.new, S.write_faults shelf.new) result }
+    ensures cause { Caused (told_packets (S.files shelf.old) output.old.names capture.now ≡ None)
+        (S.read_faults shelf.old, S.write_faults shelf.old) (S.read_faults shelf.new, S.write_faults shelf.new) result }
     ensures missing { MissingIff (names_no_record (length capture.now.places) command.now) result }
     ensures course { ForSome (told_packets (S.files shelf.old) output.old.names capture.now) (λ all.
         Takes (played net.old.topology all (past_of net.old) command.now) net.new result) }
@@ -170,7 +172,9 @@ pub fn record_line<S: Shelf>(
     // No file but these is changed, and so no packet of the capture.
     ensures framed { Framed books.old.names (S.files shelf.old) (S.files shelf.new) }
     ensures told { told_packets (S.files shelf.new) books.old.names capture.now ≡ told_packets (S.files shelf.old) books.old.names capture.now }
-    ensures cause { Caused (S.read_faults shelf.old, S.write_faults shelf.old) (S.read_faults shelf.new, S.write_faults shelf.new) result }
+    // A fault comes only where its count rose, or over a sound shelf where no packets are told.
+    ensures cause { Caused (told_packets (S.files shelf.old) books.old.names capture.now ≡ None)
+        (S.read_faults shelf.old, S.write_faults shelf.old) (S.read_faults shelf.new, S.write_faults shelf.new) result }
     ensures missing { MissingIff (names_no_record (length capture.now.places) command.now) result }
     // The journal grows by exactly what the line's course says, or by a first part of it.
     ensures course { ForSome (told_packets (S.files shelf.old) books.old.names capture.now) (λ all.

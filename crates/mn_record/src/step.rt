@@ -1,12 +1,12 @@
 //! What a step adds to the files.
 ghost use Rattle.std.specs.Prelude.{◌≡◌, ◌-◌, ℕ, List, OnOk, OnErr};
-ghost use Rattle.mn_edge.specs.Faults.{Counted};
-ghost use Rattle.mn_edge.specs.Kept.{Framed};
+ghost use Rattle.mn_edge.specs.Faults.{CountedUnless};
+ghost use Rattle.mn_edge.specs.Kept.{Framed, Lacking};
 ghost use Rattle.mn_ledger.specs.Ledger.{packets_of};
 ghost use Rattle.mn_sched.specs.Told.{told_at};
-ghost use Rattle.mn_net_now.specs.Now.{StandsFor};
-ghost use Rattle.mn_course.specs.Course.{inputs_of};
-ghost use Rattle.mn_output.specs.Contents.{delivery_record};
+ghost use Rattle.mn_net_laws.specs.Now.{StandsFor};
+ghost use Rattle.mn_course_laws.specs.Course.{inputs_of};
+ghost use Rattle.mn_output_laws.specs.Contents.{delivery_record};
 ghost use Rattle.mn_sched.specs.Watching.{LastFits};
 ghost use Rattle.mn_record.specs.Recorded.{IsFor};
 ghost use Rattle.mn_record.specs.Adding.{Adds, MayAdd, only_in};
@@ -34,7 +34,8 @@ fn write_delivery<S: Shelf>(
     ensures names { output.new.names ≡ output.old.names }
     ensures places { output.new.places ≡ output.old.places }
     ensures framed { Framed output.old.names (S.files shelf.old) (S.files shelf.new) }
-    ensures writes { Counted (S.write_faults shelf.old) (S.write_faults shelf.new) result }
+    ensures writes { CountedUnless (Lacking output.old.names (S.files shelf.old))
+        (S.write_faults shelf.old) (S.write_faults shelf.new) result }
     ensures reads { S.read_faults shelf.new ≡ S.read_faults shelf.old }
 {
     match net.delivered() {
@@ -58,7 +59,8 @@ fn write_item<S: Shelf>(
     ensures names { output.new.names ≡ output.old.names }
     ensures places { output.new.places ≡ output.old.places }
     ensures framed { Framed output.old.names (S.files shelf.old) (S.files shelf.new) }
-    ensures writes { Counted (S.write_faults shelf.old) (S.write_faults shelf.new) result }
+    ensures writes { CountedUnless (Lacking output.old.names (S.files shelf.old))
+        (S.write_faults shelf.old) (S.write_faults shelf.new) result }
     ensures reads { S.read_faults shelf.new ≡ S.read_faults shelf.old }
 {
     let Some(item) = net.item(number) else {
@@ -88,7 +90,8 @@ fn write_items<S: Shelf>(
     ensures names { output.new.names ≡ output.old.names }
     ensures places { output.new.places ≡ output.old.places }
     ensures framed { Framed output.old.names (S.files shelf.old) (S.files shelf.new) }
-    ensures writes { Counted (S.write_faults shelf.old) (S.write_faults shelf.new) result }
+    ensures writes { CountedUnless (Lacking output.old.names (S.files shelf.old))
+        (S.write_faults shelf.old) (S.write_faults shelf.new) result }
     ensures reads { S.read_faults shelf.new ≡ S.read_faults shelf.old }
 {
     for number in made.first..made.end {
@@ -112,7 +115,8 @@ pub(crate) fn write_step<S: Shelf>(
     ensures names { output.new.names ≡ output.old.names }
     ensures places { output.new.places ≡ output.old.places }
     ensures framed { Framed output.old.names (S.files shelf.old) (S.files shelf.new) }
-    ensures writes { Counted (S.write_faults shelf.old) (S.write_faults shelf.new) result }
+    ensures writes { CountedUnless (Lacking output.old.names (S.files shelf.old))
+        (S.write_faults shelf.old) (S.write_faults shelf.new) result }
     ensures reads { S.read_faults shelf.new ≡ S.read_faults shelf.old }
 {
     let Some(entry) = net.journal().last() else {

@@ -15,31 +15,31 @@ use Rattle.mn_topo.specs.Steps.{has_vrf, has_site}
 use Rattle.mn_topo.specs.declared.steps.Step.{Step}
 use Rattle.mn_topo.specs.declared.steps.Step.TheVariants as step
 use Rattle.mn_ledger.specs.Places.{vrf_of, edge_of, home_of}
-use Rattle.mn_laws.proofs.There.{vrf_there, edge_there}
-use Rattle.mn_bgp_spelling.specs.Spelling.{Labels}
+use Rattle.mn_ledger_laws.proofs.There.{vrf_there, edge_there}
+use Rattle.mn_bgp_spelling_laws.specs.Spelling.{Labels}
 use Rattle.mn_vrf.specs.Vrf.{with_static}
 use Rattle.mn_pe.specs.Edge.{Edge, after_vrf, after_attach}
 use Rattle.mn_pe.specs.Exports.{exports_at, exports_over, export_of}
-use Rattle.mn_routing_model.specs.Doing.{AreSayable, those_of}
-use Rattle.mn_routing_model.proofs.Home.{is_edge_of}
-use Rattle.mn_reflection.specs.Words.{Offer, Word, Open, KeepAlive, Announce, Withdraw}
-use Rattle.mn_reflection.specs.Picks.{ReflectWorld}
-use Rattle.mn_reflection.specs.World.{world_of, first_word, words_to}
-use Rattle.mn_reflection.specs.Quiet.{told}
-use Rattle.mn_reflection.specs.Through.{ComesThrough}
-use Rattle.mn_reflection.proofs.Steps.{first_said}
-use Rattle.mn_reflection.proofs.Through.{comes_through}
-use Rattle.mn_reflection.specs.Refusal.{refusal}
-use Rattle.mn_reflect_model.specs.Labels.{labels_of}
-use Rattle.mn_reflect_model.specs.Now.{ReflectNow}
-use Rattle.mn_reflect_model.specs.Steps.{may_peer, takes}
-use Rattle.mn_reflect_model.specs.Goes.{Goes, word_heard, edge_of_node}
-use Rattle.mn_reflect_model.proofs.Config.{free}
-use Rattle.mn_reflect_model.proofs.Run.{peers_there, run_goes_on}
-use Rattle.mn_reflect_model.proofs.Hears.{hears as hears_in_turn}
-use Rattle.mn_reflect_model.proofs.Exporting.{exports_sayable, exports_sayable_after}
-use Rattle.mn_reflect_model.proofs.Unrefused.{import_free, export_free, add_is_free, del_is_free, site_vrf, few_statics, some_statics, label_fits}
-use Rattle.mn_reflect_model.proofs.Onward.{goes_on}
+use Rattle.mn_routing_laws.specs.Doing.{AreSayable, those_of}
+use Rattle.mn_routing_laws.proofs.Home.{is_edge_of}
+use Rattle.mn_reflection_laws.specs.Words.{Offer, Word, Open, KeepAlive, Announce, Withdraw}
+use Rattle.mn_reflection_laws.specs.Picks.{ReflectWorld}
+use Rattle.mn_reflection_laws.specs.World.{world_of, first_word, words_to}
+use Rattle.mn_reflection_laws.specs.Quiet.{told}
+use Rattle.mn_reflection_laws.specs.Through.{ComesThrough}
+use Rattle.mn_reflection_laws.proofs.Steps.{first_said}
+use Rattle.mn_reflection_laws.proofs.Through.{comes_through}
+use Rattle.mn_reflection_laws.specs.Refusal.{refusal}
+use Rattle.mn_reflect_laws.specs.Labels.{labels_of}
+use Rattle.mn_reflect_laws.specs.Now.{ReflectNow}
+use Rattle.mn_reflect_laws.specs.Steps.{may_peer, takes}
+use Rattle.mn_reflect_laws.specs.Goes.{Goes, word_heard, edge_of_node}
+use Rattle.mn_reflect_laws.proofs.Config.{free}
+use Rattle.mn_reflect_laws.proofs.Run.{peers_there, run_goes_on}
+use Rattle.mn_reflect_laws.proofs.Hears.{hears as hears_in_turn}
+use Rattle.mn_reflect_laws.proofs.Exporting.{exports_sayable, exports_sayable_after}
+use Rattle.mn_reflect_laws.proofs.Unrefused.{import_free, export_free, add_is_free, del_is_free, site_vrf, few_statics, some_statics, label_fits}
+use Rattle.mn_reflect_laws.proofs.Onward.{goes_on}
 use Rattle.mn_reflect.specs.Course.{IsRun}
 use Rattle.mn_reflect.specs.Doing.{IsEdgeAt, IsNext}
 use Rattle.mn_reflect.specs.Changing.{MayImport, MayExport, MayAdd, MayDel, MayAttach, MayDetach, exports_changed, static_over, next_label}
@@ -115,13 +115,13 @@ module _ (rs : List ℕ) (steps : List Step) (now : ReflectNow) (is : IsRun now.
 
   -- 3. It can be done
 
-  may_import : (v : VrfNo) (target : Rt) (on : Bool) → takes t rs (step.Import v target on) ≡ true → refusal t w (step.Import v target on) ≡ None →
+  may_import : (v : VrfNo) (target : Rt) (on : Bool) → takes t rs (step.Import v on target) ≡ true → refusal t w (step.Import v on target) ≡ None →
       MayImport now v target on
   may_import v target on taken none =
       let there = vrf_named v target taken in
       record { vrf = there; there = at_vrf v.0 there; free = import_free t rs steps now is.run is.stands v target on taken none }
 
-  may_export : (v : VrfNo) (target : Rt) (on : Bool) → takes t rs (step.Export v target on) ≡ true → refusal t w (step.Export v target on) ≡ None →
+  may_export : (v : VrfNo) (target : Rt) (on : Bool) → takes t rs (step.Export v on target) ≡ true → refusal t w (step.Export v on target) ≡ None →
       MayExport now v target on
   may_export v target on taken none =
       let there = vrf_named v target taken in
@@ -131,7 +131,7 @@ module _ (rs : List ℕ) (steps : List Step) (now : ReflectNow) (is : IsRun now.
         free = export_free t rs steps now is.run is.stands v target on taken none;
         came = subst (λ (e : Edge). AreSayable (exports_at e v.0))
             (edge_becomes now (edge_of t v.0) (exports_changed v target on) (vrf_below v.0 there) (at_vrf v.0 there))
-            ((exports_sayable_after t rs steps now (step.Export v target on) is.run taken none is.stands (edge_of t v.0) (is_edge_of t v.0 there)).at v.0);
+            ((exports_sayable_after t rs steps now (step.Export v on target) is.run taken none is.stands (edge_of t v.0) (is_edge_of t v.0 there)).at v.0);
         went = (exports_sayable t rs steps now is.run is.stands (edge_of t v.0) (is_edge_of t v.0 there)).at v.0;
       }
 
@@ -199,8 +199,8 @@ module _ (rs : List ℕ) (steps : List Step) (now : ReflectNow) (is : IsRun now.
   may_act (step.HearBgp a b) taken none = let heard = word_there a b none in may_hear_it a b taken heard.0 heard.1
   may_act (step.AddRoute s prefix) taken none = may_add s prefix taken none
   may_act (step.DelRoute s prefix) taken none = may_del s prefix taken none
-  may_act (step.Import v target on) taken none = may_import v target on taken none
-  may_act (step.Export v target on) taken none = may_export v target on taken none
+  may_act (step.Import v on target) taken none = may_import v target on taken none
+  may_act (step.Export v on target) taken none = may_export v target on taken none
   may_act (step.Attach s) taken none = may_attach s taken none
   may_act (step.Detach s) taken none = may_detach s taken
   may_act _ taken none = absurd (no taken)
@@ -218,8 +218,8 @@ module _ (rs : List ℕ) (steps : List Step) (now : ReflectNow) (is : IsRun now.
   is_heard (step.BgpDown a b) taken none = tt
   is_heard (step.AddRoute s prefix) taken none = tt
   is_heard (step.DelRoute s prefix) taken none = tt
-  is_heard (step.Import v target on) taken none = tt
-  is_heard (step.Export v target on) taken none = tt
+  is_heard (step.Import v on target) taken none = tt
+  is_heard (step.Export v on target) taken none = tt
   is_heard (step.Attach s) taken none = tt
   is_heard (step.Detach s) taken none = tt
   is_heard _ taken none = absurd (no taken)
@@ -243,8 +243,8 @@ module _ (rs : List ℕ) (steps : List Step) (now : ReflectNow) (is : IsRun now.
   made (step.DelRoute s prefix) taken none =
       let there = site_named s prefix taken in
       dels_go rs l None now s prefix (at_vrf (vrf_of t s.0) (of_site s.0 there)) (site_vrf t rs steps now is.run is.stands s prefix there)
-  made (step.Import v target on) taken none = imports_go rs l None now v target on (at_vrf v.0 (vrf_named v target taken))
-  made (step.Export v target on) taken none =
+  made (step.Import v on target) taken none = imports_go rs l None now v target on (at_vrf v.0 (vrf_named v target taken))
+  made (step.Export v on target) taken none =
       let there = vrf_named v target taken in
       exports_go rs l None now v target on (vrf_below v.0 there) (at_vrf v.0 there)
   made (step.Attach s) taken none =

@@ -4,9 +4,9 @@ use Rattle.std.specs.Prelude.{OnOk}
 use Rattle.mn_base.specs.declared.numbers.NodeNo.{NodeNo}
 use Rattle.mn_topo.specs.declared.steps.Step.{Step}
 use Rattle.mn_topo.specs.declared.steps.Step.TheVariants as step
-use Rattle.mn_bgp_spelling.specs.Spelling.{Labels}
-use Rattle.mn_reflection.specs.Words.{Word}
-use Rattle.mn_reflect_model.specs.Now.{ReflectNow}
+use Rattle.mn_bgp_spelling_laws.specs.Spelling.{Labels}
+use Rattle.mn_reflection_laws.specs.Words.{Word}
+use Rattle.mn_reflect_laws.specs.Now.{ReflectNow}
 use Rattle.mn_reflect.specs.Doing.{IsNext, word_heard}
 use Rattle.mn_reflect.specs.Acting.{MayAct, IsHeardIn, acted}
 

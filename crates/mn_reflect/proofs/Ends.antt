@@ -5,7 +5,7 @@ use Rattle.std.specs.BTreeMap.{BTreeMap}
 use Rattle.std.specs.Vec.{with_item}
 use Rattle.mn_base.specs.declared.numbers.VrfNo.{VrfNo}
 use Rattle.mn_bgp_session.specs.declared.session.BgpSession.{BgpSession}
-use Rattle.mn_reflect_model.specs.Now.{ReflectNow}
+use Rattle.mn_reflect_laws.specs.Now.{ReflectNow}
 use Rattle.mn_reflect.specs.Shape.{IsShaped, IsWhole}
 use Rattle.mn_reflect_telling.specs.Found.{FindsEach}
 use Rattle.mn_reflect.specs.Doing.{with_end}

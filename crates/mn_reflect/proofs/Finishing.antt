@@ -8,15 +8,15 @@ use Rattle.mn_ledger.specs.declared.refused.Refused.{Refused}
 use Rattle.mn_ledger.specs.declared.refused.Refused.TheVariants.{Unchanged, Empty, NoRouteThere, RoutesFull, TargetsFull, LabelsSpent, NetFull}
 use Rattle.mn_ledger.specs.Places.{vrf_of}
 use Rattle.mn_ledger.specs.Refusal.{first_cause, where_holds, prefix_refusal}
-use Rattle.mn_net_refusal.specs.Refusal.{site_with, is_site}
-use Rattle.mn_bgp_spelling.specs.Spelling.{Labels}
-use Rattle.mn_reflection.specs.Words.{Word, Open, KeepAlive, Announce, Withdraw}
-use Rattle.mn_reflection.specs.World.{world_of}
-use Rattle.mn_reflection.specs.Refusal.{refusal}
-use Rattle.mn_reflect_model.specs.Now.{ReflectNow}
-use Rattle.mn_reflect_model.specs.Steps.{takes}
-use Rattle.mn_reflect_model.specs.Labels.{labels_of}
-use Rattle.mn_reflect_model.specs.Goes.{word_heard}
+use Rattle.mn_net_laws.specs.Refusal.{site_with, is_site}
+use Rattle.mn_bgp_spelling_laws.specs.Spelling.{Labels}
+use Rattle.mn_reflection_laws.specs.Words.{Word, Open, KeepAlive, Announce, Withdraw}
+use Rattle.mn_reflection_laws.specs.World.{world_of}
+use Rattle.mn_reflection_laws.specs.Refusal.{refusal}
+use Rattle.mn_reflect_laws.specs.Now.{ReflectNow}
+use Rattle.mn_reflect_laws.specs.Steps.{takes}
+use Rattle.mn_reflect_laws.specs.Labels.{labels_of}
+use Rattle.mn_reflect_laws.specs.Goes.{word_heard}
 use Rattle.mn_reflect.specs.declared.refusal.ReflectBad.{ReflectBad}
 use Rattle.mn_reflect.specs.declared.refusal.ReflectBad.TheVariants as bad
 use Rattle.mn_reflect.specs.Course.{IsRun, MayStep, bad_of}
@@ -39,8 +39,8 @@ same_count l (Some (Announce offer)) (step.HearBgp a b) now = refl
 same_count l (Some (Withdraw key)) (step.HearBgp a b) now = refl
 same_count l word (step.AddRoute s prefix) now = refl
 same_count l word (step.DelRoute s prefix) now = refl
-same_count l word (step.Import v target on) now = refl
-same_count l word (step.Export v target on) now = refl
+same_count l word (step.Import v on target) now = refl
+same_count l word (step.Export v on target) now = refl
 same_count l word (step.Attach s) now = refl
 same_count l word (step.Detach s) now = refl
 same_count l word _ now = refl
@@ -55,8 +55,8 @@ same_memory l (Some (Announce offer)) (step.HearBgp a b) now = refl
 same_memory l (Some (Withdraw key)) (step.HearBgp a b) now = refl
 same_memory l word (step.AddRoute s prefix) now = refl
 same_memory l word (step.DelRoute s prefix) now = refl
-same_memory l word (step.Import v target on) now = refl
-same_memory l word (step.Export v target on) now = refl
+same_memory l word (step.Import v on target) now = refl
+same_memory l word (step.Export v on target) now = refl
 same_memory l word (step.Attach s) now = refl
 same_memory l word (step.Detach s) now = refl
 same_memory l word _ now = refl

@@ -9,7 +9,7 @@ use Rattle.mn_base.specs.declared.numbers.VrfNo.{VrfNo}
 use Rattle.mn_base.specs.declared.numbers.SiteNo.{SiteNo}
 use Rattle.mn_prefix.specs.Prefix.{AddressBlock}
 use Rattle.mn_topo.specs.declared.steps.Step.TheVariants as step
-use Rattle.mn_bgp_spelling.specs.Spelling.{Labels}
+use Rattle.mn_bgp_spelling_laws.specs.Spelling.{Labels}
 use Rattle.mn_ledger.specs.Places.{vrf_of, edge_of, home_of}
 use Rattle.mn_vrf.specs.Vrf.{with_static, without_static}
 use Rattle.mn_pe.specs.Edge.{Edge, vrf_of_site, after_vrf, after_attach, after_detach}
@@ -18,17 +18,17 @@ use Rattle.mn_pe.specs.Pe.{PeNow}
 use Rattle.mn_mail.specs.Mail.{Letter, Mail}
 use Rattle.mn_mail.specs.Mail as mail
 use Rattle.mn_offers.specs.Heard.{Heard}
-use Rattle.mn_routing_model.specs.Routed.{working}
-use Rattle.mn_routing_model.specs.Doing.{edge_or_blank, those_of}
-use Rattle.mn_routing_model.proofs.Opening.{set_same}
-use Rattle.mn_routing_model.proofs.Turning.{get_other}
-use Rattle.mn_reflection.specs.Words.{Key, Offer, Word, Open, KeepAlive, Announce, Withdraw, key_of}
-use Rattle.mn_reflection.specs.Picks.{is_reflector}
-use Rattle.mn_reflect_model.specs.Now.{ReflectNow}
-use Rattle.mn_reflect_model.specs.Choice.{Row, row_at, names_in}
-use Rattle.mn_reflect_model.specs.Kept.{route_in}
-use Rattle.mn_reflect_model.specs.Letters.{open_letter, reflector_news, edge_news}
-use Rattle.mn_reflect_model.specs.Goes.{Goes, set_at, on_edge, edge_of_node, decide_all, steady_of, either_news}
+use Rattle.mn_routing_laws.specs.Routed.{working}
+use Rattle.mn_routing_laws.specs.Doing.{edge_or_blank, those_of}
+use Rattle.mn_routing_laws.proofs.Opening.{set_same}
+use Rattle.mn_routing_laws.proofs.Turning.{get_other}
+use Rattle.mn_reflection_laws.specs.Words.{Key, Offer, Word, Open, KeepAlive, Announce, Withdraw, key_of}
+use Rattle.mn_reflection_laws.specs.Picks.{is_reflector}
+use Rattle.mn_reflect_laws.specs.Now.{ReflectNow}
+use Rattle.mn_reflect_laws.specs.Choice.{Row, row_at, names_in}
+use Rattle.mn_reflect_laws.specs.Kept.{route_in}
+use Rattle.mn_reflect_laws.specs.Letters.{open_letter, reflector_news, edge_news}
+use Rattle.mn_reflect_laws.specs.Goes.{Goes, set_at, on_edge, edge_of_node, decide_all, steady_of, either_news}
 use Rattle.mn_reflect_telling.specs.Telling.{posted}
 use Rattle.mn_reflect.specs.Doing.{IsEdgeAt, changed_edge, kept, forgotten, cut_between, with_end, taken, begun, ended, word_heard}
 use Rattle.mn_reflect.specs.Changing.{imports_changed, exports_changed, import_set, export_set, static_over, with_route, without_route, route_added}
@@ -300,7 +300,7 @@ module _ (rs : List ℕ) (labels : Labels) (word : Option Word) (now : ReflectNo
   put_as home f g there same = ap (λ edge. slice_set now.edges home (Some (working edge))) same ∙ sym (on_edge_is now home g there)
 
   pub imports_go : (v : VrfNo) (target : Rt) (on : Bool) → IsEdgeAt now (edge_of now.topology v.0) →
-      Goes now.topology rs labels word now (finished (import_set v target on now)) (step.Import v target on)
+      Goes now.topology rs labels word now (finished (import_set v target on now)) (step.Import v on target)
   imports_go v target on there = record {
     works = refl;
     topology_is = refl;
@@ -316,7 +316,7 @@ module _ (rs : List ℕ) (labels : Labels) (word : Option Word) (now : ReflectNo
   }
 
   pub exports_go : (v : VrfNo) (target : Rt) (on : Bool) → edge_of now.topology v.0 < length now.edges → IsEdgeAt now (edge_of now.topology v.0) →
-      Goes now.topology rs labels word now (finished (export_set v target on now)) (step.Export v target on)
+      Goes now.topology rs labels word now (finished (export_set v target on now)) (step.Export v on target)
   exports_go v target on below there = record {
     works = refl;
     topology_is = refl;

@@ -8,23 +8,23 @@ use Rattle.mn_topo.specs.Network.{Network}
 use Rattle.mn_topo.specs.declared.steps.Step.{Step}
 use Rattle.mn_ledger.specs.Places.{edge_of}
 use Rattle.mn_ledger.specs.Held.{best}
-use Rattle.mn_laws.proofs.There.{edge_there}
-use Rattle.mn_settled.specs.Routes.{routes_of}
+use Rattle.mn_ledger_laws.proofs.There.{edge_there}
+use Rattle.mn_settled_laws.specs.Routes.{routes_of}
 use Rattle.mn_vrf.specs.Vrf.{VrfState, IsHeldAt, heads}
 use Rattle.mn_vrf.specs.declared.source.Source.{Source}
 use Rattle.mn_pe.specs.Held.{held_by}
 use Rattle.mn_pe.specs.Pe.{PeNow, found_in}
-use Rattle.mn_routing_model.specs.Routed.{working}
-use Rattle.mn_routing_model.specs.Sources.{as_held}
-use Rattle.mn_routing_model.proofs.Home.{is_edge_of}
-use Rattle.mn_routing_model.proofs.Placed.{index_of}
-use Rattle.mn_reflection.specs.World.{world_of}
-use Rattle.mn_reflection.specs.Quiet.{held, IsJoined}
-use Rattle.mn_reflect_model.specs.Labels.{labels_of}
-use Rattle.mn_reflect_model.specs.Heads.{held_at}
-use Rattle.mn_reflect_model.specs.Now.{ReflectNow}
-use Rattle.mn_reflect_model.specs.Goes.{edge_of_node}
-use Rattle.mn_reflect_model.proofs.Held.{found_lookup, found_held, rest_lookup, rest_held}
+use Rattle.mn_routing_laws.specs.Routed.{working}
+use Rattle.mn_routing_laws.specs.Sources.{as_held}
+use Rattle.mn_routing_laws.proofs.Home.{is_edge_of}
+use Rattle.mn_routing_laws.proofs.Placed.{index_of}
+use Rattle.mn_reflection_laws.specs.World.{world_of}
+use Rattle.mn_reflection_laws.specs.Quiet.{held, IsJoined}
+use Rattle.mn_reflect_laws.specs.Labels.{labels_of}
+use Rattle.mn_ledger.specs.Heads.{held_at}
+use Rattle.mn_reflect_laws.specs.Now.{ReflectNow}
+use Rattle.mn_reflect_laws.specs.Goes.{edge_of_node}
+use Rattle.mn_reflect_laws.proofs.Held.{found_lookup, found_held, rest_lookup, rest_held}
 use Rattle.mn_reflect.specs.Course.{IsRun}
 use Rattle.mn_reflect.proofs.Placed.{at_edge}
 

@@ -3,19 +3,19 @@ use Rattle.std.proofs.Common.{ℕ, ◌≡◌, ◌+◌, ◌<◌, Bool, true, fals
 use Rattle.std.specs.Prelude.{slice_get, slice_index_or, option_map, if◌then◌else◌}
 use Rattle.mn_topo.specs.Network.{Network}
 use Rattle.mn_topo.specs.VrfTable.{is_edge}
-use Rattle.mn_bgp_spelling.specs.Spelling.{Labels}
+use Rattle.mn_bgp_spelling_laws.specs.Spelling.{Labels}
 use Rattle.mn_pe.specs.Edge.{Edge}
-use Rattle.mn_routing_model.specs.Routed.{working}
-use Rattle.mn_routing_model.specs.Standing.{edge_in}
-use Rattle.mn_routing_model.specs.Doing.{edge_or_blank}
-use Rattle.mn_routing_model.proofs.Placed.{get_range, index_of, length_range}
-use Rattle.mn_routing_model.proofs.Tables.{map_numbers_at}
-use Rattle.mn_reflection.specs.Picks.{ReflectWorld, is_reflector}
-use Rattle.mn_reflection.specs.Quiet.{AreReflectors}
-use Rattle.mn_reflect_model.specs.Edges.{all_live, as_peerings}
-use Rattle.mn_reflect_model.specs.Now.{ReflectNow, StandsFor, edge_or_none}
-use Rattle.mn_reflect_model.specs.Goes.{edge_of_node}
-use Rattle.mn_reflect_model.proofs.Addresses.{still_reflector}
+use Rattle.mn_routing_laws.specs.Routed.{working}
+use Rattle.mn_routing_laws.specs.Standing.{edge_in}
+use Rattle.mn_routing_laws.specs.Doing.{edge_or_blank}
+use Rattle.mn_routing_laws.proofs.Placed.{get_range, index_of, length_range}
+use Rattle.mn_routing_laws.proofs.Tables.{map_numbers_at}
+use Rattle.mn_reflection_laws.specs.Picks.{ReflectWorld, is_reflector}
+use Rattle.mn_reflection_laws.specs.Quiet.{AreReflectors}
+use Rattle.mn_reflect_laws.specs.Edges.{all_live, as_peerings}
+use Rattle.mn_reflect_laws.specs.Now.{ReflectNow, StandsFor, edge_or_none}
+use Rattle.mn_reflect_laws.specs.Goes.{edge_of_node}
+use Rattle.mn_reflect_laws.proofs.Addresses.{still_reflector}
 use Rattle.mn_reflect.specs.Doing.{IsEdgeAt}
 use Rattle.mn_reflect.proofs.Going.{IsPlaced}
 

@@ -16,26 +16,26 @@ use Rattle.mn_ledger.specs.declared.refused.Refused.TheVariants.{Unchanged, Empt
 use Rattle.mn_ledger.specs.Places.{vrf_of, home_of}
 use Rattle.mn_ledger.specs.Refusal.{agree, first_cause, where_holds, taken_by, prefix_refusal, static_refusal, is_unchanged, is_targets_full, is_spent}
 use Rattle.mn_ledger.proofs.Statics.{HasStatics, first_statics}
-use Rattle.mn_laws.proofs.There.{vrf_there, home_there}
+use Rattle.mn_ledger_laws.proofs.There.{vrf_there, home_there}
 use Rattle.mn_vrf.specs.Vrf.{Static, static_of}
-use Rattle.mn_bgp_spelling.specs.Spelling.{Labels}
+use Rattle.mn_bgp_spelling_laws.specs.Spelling.{Labels}
 use Rattle.mn_mail.specs.Mail as mail
-use Rattle.mn_routing_model.proofs.Tables.{map_numbers_at}
-use Rattle.mn_routing_model.proofs.GoingOn.{edge_below}
-use Rattle.mn_net_refusal.specs.Refusal.{session_at, of_vrf, imports_it, exports_it, site_label, site_with, is_site}
-use Rattle.mn_net_refusal.proofs.Statics.{site_is, over_site}
-use Rattle.mn_net_refusal.proofs.Vrfs.{not_some, vrf_is, imports_is, exports_is, imports_count, exports_count, attached_is}
-use Rattle.mn_reflection.specs.Words.{Word}
-use Rattle.mn_reflection.specs.Picks.{ReflectWorld, is_reflector}
-use Rattle.mn_reflection.specs.Quiet.{AreReflectors}
-use Rattle.mn_reflection.specs.World.{start, world_of, first_word}
-use Rattle.mn_reflection.specs.Refusal.{is_empty, is_full, takes_out, refusal}
-use Rattle.mn_reflection.proofs.Apart.{statics_from}
-use Rattle.mn_reflect_model.specs.Labels.{labels_of, attachments_at}
-use Rattle.mn_reflect_model.specs.Spelling.{letter_in}
-use Rattle.mn_reflect_model.specs.Now.{ReflectNow, StandsFor}
-use Rattle.mn_reflect_model.specs.Steps.{may_peer, takes}
-use Rattle.mn_reflect_model.proofs.Letters.{are_words}
+use Rattle.mn_routing_laws.proofs.Tables.{map_numbers_at}
+use Rattle.mn_routing_laws.proofs.GoingOn.{edge_below}
+use Rattle.mn_net_laws.specs.Refusal.{session_at, of_vrf, imports_it, exports_it, site_label, site_with, is_site}
+use Rattle.mn_net_laws.proofs.Statics.{site_is, over_site}
+use Rattle.mn_net_laws.proofs.Vrfs.{not_some, vrf_is, imports_is, exports_is, imports_count, exports_count, attached_is}
+use Rattle.mn_reflection_laws.specs.Words.{Word}
+use Rattle.mn_reflection_laws.specs.Picks.{ReflectWorld, is_reflector}
+use Rattle.mn_reflection_laws.specs.Quiet.{AreReflectors}
+use Rattle.mn_reflection_laws.specs.World.{start, world_of, first_word}
+use Rattle.mn_reflection_laws.specs.Refusal.{is_empty, is_full, takes_out, refusal}
+use Rattle.mn_reflection_laws.proofs.Apart.{statics_from}
+use Rattle.mn_reflect_laws.specs.Labels.{labels_of, attachments_at}
+use Rattle.mn_reflect_laws.specs.Spelling.{letter_in}
+use Rattle.mn_reflect_laws.specs.Now.{ReflectNow, StandsFor}
+use Rattle.mn_reflect_laws.specs.Steps.{may_peer, takes}
+use Rattle.mn_reflect_laws.proofs.Letters.{are_words}
 use Rattle.mn_reflect.specs.Course.{IsRun}
 use Rattle.mn_reflect.specs.Causes.{IsOfPlaces, shown, is_so, has_nothing, of_static, has_all_targets, has_given_all, has_too_much, refusal_seen}
 use Rattle.mn_reflect.proofs.Reading.{as_many}
@@ -59,11 +59,11 @@ module _ (t : Network) (rs : List ℕ) (steps : List Step) (now : ReflectNow) (l
   so_is (step.BgpUp a b) places taken same = lives_as t rs l w now h a.0 b.0 places.0 places.1 (and_parts _ (nat_lt a.0 b.0) taken).1
   so_is (step.BgpDown a b) places taken same =
       not_some (session_at (shown now) a.0 b.0) ∙ ap not (lives_as t rs l w now h a.0 b.0 places.0 places.1 (and_parts _ (nat_lt a.0 b.0) taken).1)
-  so_is (step.Import v target on) places taken same =
+  so_is (step.Import v on target) places taken same =
       ap (agree on) (ap (λ n. imports_it n (shown now) v.0 target) same
       ∙ by_edges t rs l w now h (λ r. imports_it t r v.0 target) (λ es ss other. refl)
       ∙ imports_is t l (c t rs l w now h) (p t rs l w now h) lawful v.0 target places)
-  so_is (step.Export v target on) places taken same =
+  so_is (step.Export v on target) places taken same =
       ap (agree on) (ap (λ n. exports_it n (shown now) v.0 target) same
       ∙ by_edges t rs l w now h (λ r. exports_it t r v.0 target) (λ es ss other. refl)
       ∙ exports_is t l (c t rs l w now h) (p t rs l w now h) lawful v.0 target places)
@@ -118,16 +118,16 @@ module _ (t : Network) (rs : List ℕ) (steps : List Step) (now : ReflectNow) (l
   -- 4. Targets
 
   targets_are : (s : Step) → IsOfPlaces t s → now.topology ≡ t → has_all_targets now s ≡ is_targets_full w.config s
-  targets_are (step.Import v target true) places same =
+  targets_are (step.Import v true target) places same =
       ap (nat_le 16) (ap (λ n. unwrap_or (of_vrf n (shown now) v.0 (λ vrf. Some (length vrf.imports))) 0) same
       ∙ by_edges t rs l w now h (λ r. unwrap_or (of_vrf t r v.0 (λ vrf. Some (length vrf.imports))) 0) (λ es ss other. refl)
       ∙ imports_count t l (c t rs l w now h) (p t rs l w now h) lawful v.0 places)
-  targets_are (step.Export v target true) places same =
+  targets_are (step.Export v true target) places same =
       ap (nat_le 16) (ap (λ n. unwrap_or (of_vrf n (shown now) v.0 (λ vrf. Some (length vrf.exports))) 0) same
       ∙ by_edges t rs l w now h (λ r. unwrap_or (of_vrf t r v.0 (λ vrf. Some (length vrf.exports))) 0) (λ es ss other. refl)
       ∙ exports_count t l (c t rs l w now h) (p t rs l w now h) lawful v.0 places)
-  targets_are (step.Import v target false) places same = refl
-  targets_are (step.Export v target false) places same = refl
+  targets_are (step.Import v false target) places same = refl
+  targets_are (step.Export v false target) places same = refl
   targets_are (step.LinkUp k) places same = refl
   targets_are _ places same = refl
 
@@ -186,8 +186,8 @@ module _ (t : Network) (rs : List ℕ) (lawful : IsLawful t) (are : AreReflector
   places_of (step.HearBgp a b) taken = peers_below a.0 b.0 taken
   places_of (step.AddRoute s prefix) taken = less_tells s.0 (length t.sites) (and_parts (nat_lt s.0 (length t.sites)) (is_lawful_prefix prefix) taken).0
   places_of (step.DelRoute s prefix) taken = less_tells s.0 (length t.sites) (and_parts (nat_lt s.0 (length t.sites)) (is_lawful_prefix prefix) taken).0
-  places_of (step.Import v target on) taken = less_tells v.0 (length t.vrfs) (and_parts (nat_lt v.0 (length t.vrfs)) (has_rt_form target.0) taken).0
-  places_of (step.Export v target on) taken = less_tells v.0 (length t.vrfs) (and_parts (nat_lt v.0 (length t.vrfs)) (has_rt_form target.0) taken).0
+  places_of (step.Import v on target) taken = less_tells v.0 (length t.vrfs) (and_parts (nat_lt v.0 (length t.vrfs)) (has_rt_form target.0) taken).0
+  places_of (step.Export v on target) taken = less_tells v.0 (length t.vrfs) (and_parts (nat_lt v.0 (length t.vrfs)) (has_rt_form target.0) taken).0
   places_of (step.Attach s) taken = less_tells s.0 (length t.sites) taken
   places_of (step.Detach s) taken = less_tells s.0 (length t.sites) taken
   places_of (step.LinkUp k) taken = tt

@@ -1,7 +1,7 @@
 -- Rows of a table, as the code keeps them.
 use Rattle.std.proofs.Common.{ℕ, zero, suc, ◌≡◌, ◌<◌, List, [], ◌∷◌, map, length, refl, arith, ◌∙◌, ap}
 use Rattle.std.specs.Prelude.{slice_set, slice_index_or}
-use Rattle.mn_reflect_model.specs.Goes.{set_at}
+use Rattle.mn_reflect_laws.specs.Goes.{set_at}
 
 map_set : {R B : Type 0} (f : R → B) (rows : List R) (i : ℕ) (x : R) → map f (slice_set rows i x) ≡ slice_set (map f rows) i (f x)
 map_set f [] i x = refl

@@ -4,7 +4,7 @@ use Rattle.mn_bgp_session.specs.declared.session.BgpSession.{BgpSession}
 use Rattle.mn_pe.specs.Edge.{Edge}
 use Rattle.mn_offers.specs.Heard.{Heard}
 use Rattle.mn_mail.specs.Mail.{Letter}
-use Rattle.mn_reflect_model.specs.Now.{ReflectNow}
+use Rattle.mn_reflect_laws.specs.Now.{ReflectNow}
 use Rattle.mn_reflect.specs.Shape.{IsShaped}
 use Rattle.mn_reflect.specs.Doing.{with_end, with_row, with_letters, changed_edge}
 use Rattle.std.proofs.lemmas.List.{length-set}

@@ -5,17 +5,17 @@ use Rattle.mn_wiring.specs.Wiring.{nodes_of}
 use Rattle.mn_topo.specs.Network.{Network, wiring_of}
 use Rattle.mn_ledger.specs.World.{Config, Peerings}
 use Rattle.mn_ledger.specs.Bgp.{peers_live}
-use Rattle.mn_bgp_spelling.specs.Spelling.{Labels}
+use Rattle.mn_bgp_spelling_laws.specs.Spelling.{Labels}
 use Rattle.mn_bgp_session.specs.declared.session.BgpSession.{BgpSession}
 use Rattle.mn_pe.specs.Edge.{Edge}
 use Rattle.mn_pe.specs.Pe.{PeNow}
-use Rattle.mn_routing_model.specs.Routed.{working}
-use Rattle.mn_routing_model.specs.Whole.{RoutesNow, routes_in, edge_or_none}
-use Rattle.mn_routing_model.proofs.Tables.{map_numbers_at}
-use Rattle.mn_net_refusal.specs.Refusal.{session_at}
-use Rattle.mn_reflection.specs.Picks.{ReflectWorld}
-use Rattle.mn_reflect_model.specs.Edges.{all_live, as_peerings}
-use Rattle.mn_reflect_model.specs.Now.{ReflectNow, StandsFor, session_in}
+use Rattle.mn_routing_laws.specs.Routed.{working}
+use Rattle.mn_routing_laws.specs.Whole.{RoutesNow, routes_in, edge_or_none}
+use Rattle.mn_routing_laws.proofs.Tables.{map_numbers_at}
+use Rattle.mn_net_laws.specs.Refusal.{session_at}
+use Rattle.mn_reflection_laws.specs.Picks.{ReflectWorld}
+use Rattle.mn_reflect_laws.specs.Edges.{all_live, as_peerings}
+use Rattle.mn_reflect_laws.specs.Now.{ReflectNow, StandsFor, session_in}
 use Rattle.mn_reflect.specs.Causes.{shown}
 
 -- 1. Edges

@@ -9,22 +9,22 @@ use Rattle.mn_base.specs.declared.numbers.NodeNo.{NodeNo}
 use Rattle.mn_topo.specs.Network.{Network}
 use Rattle.mn_topo.specs.VrfTable.{is_edge}
 use Rattle.mn_topo.specs.declared.steps.Step.{Step}
-use Rattle.mn_bgp_spelling.specs.Spelling.{Labels}
+use Rattle.mn_bgp_spelling_laws.specs.Spelling.{Labels}
 use Rattle.mn_pe.specs.Edge.{Edge}
 use Rattle.mn_offers.specs.Heard.{Heard}
-use Rattle.mn_routing_model.proofs.GoingOn.{edge_below}
-use Rattle.mn_reflection.specs.Words.{Word, Open, KeepAlive, Announce, Withdraw}
-use Rattle.mn_reflection.specs.Picks.{ReflectWorld, is_reflector}
-use Rattle.mn_reflection.specs.World.{world_of}
-use Rattle.mn_reflect_model.specs.Labels.{labels_of}
-use Rattle.mn_reflect_model.specs.Kept.{route_in}
-use Rattle.mn_reflect_model.specs.Now.{ReflectNow}
-use Rattle.mn_reflect_model.specs.Steps.{may_peer}
-use Rattle.mn_reflect_model.specs.Goes.{end_in}
-use Rattle.mn_reflect_model.specs.Known.{IsSayableRoute, IsSayableWord, HasClusters, IsHeardInTurn}
-use Rattle.mn_reflect_model.specs.Known as known
-use Rattle.mn_reflect_model.proofs.Hears.{kept_sayable}
-use Rattle.mn_reflect_model.proofs.Exporting.{exports_sayable}
+use Rattle.mn_routing_laws.proofs.GoingOn.{edge_below}
+use Rattle.mn_reflection_laws.specs.Words.{Word, Open, KeepAlive, Announce, Withdraw}
+use Rattle.mn_reflection_laws.specs.Picks.{ReflectWorld, is_reflector}
+use Rattle.mn_reflection_laws.specs.World.{world_of}
+use Rattle.mn_reflect_laws.specs.Labels.{labels_of}
+use Rattle.mn_reflect_laws.specs.Kept.{route_in}
+use Rattle.mn_reflect_laws.specs.Now.{ReflectNow}
+use Rattle.mn_reflect_laws.specs.Steps.{may_peer}
+use Rattle.mn_reflect_laws.specs.Goes.{end_in}
+use Rattle.mn_reflect_laws.specs.Known.{IsSayableRoute, IsSayableWord, HasClusters, IsHeardInTurn}
+use Rattle.mn_reflect_laws.specs.Known as known
+use Rattle.mn_reflect_laws.proofs.Hears.{kept_sayable}
+use Rattle.mn_reflect_laws.proofs.Exporting.{exports_sayable}
 use Rattle.mn_reflect.specs.Course.{IsRun}
 use Rattle.mn_reflect_telling.specs.Passing.{IsPassable}
 use Rattle.mn_reflect.specs.Doing.{MayTurn, MayHear, IsNext, IsGoodWord, state_of_word}

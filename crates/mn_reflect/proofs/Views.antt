@@ -11,12 +11,12 @@ use Rattle.mn_bgp_session.specs.declared.session.BgpSession.{BgpSession}
 use Rattle.mn_pe.specs.Pe.{PeNow}
 use Rattle.mn_mail.specs.Mail.{Mail}
 use Rattle.mn_offers.specs.Heard.{Heard}
-use Rattle.mn_reflect_model.specs.Now.{ReflectNow}
-use Rattle.mn_reflect_model.specs.Choice.{row_at}
+use Rattle.mn_reflect_laws.specs.Now.{ReflectNow}
+use Rattle.mn_reflect_laws.specs.Choice.{row_at}
 use Rattle.mn_reflect.specs.Shape.{IsShaped, IsWhole}
 use Rattle.mn_reflect_telling.specs.Found.{FindsEach}
-use Rattle.mn_routing_model.specs.Sending.{peers_from}
-use Rattle.mn_reflect_model.specs.Goes.{steady_of}
+use Rattle.mn_routing_laws.specs.Sending.{peers_from}
+use Rattle.mn_reflect_laws.specs.Goes.{steady_of}
 use Rattle.mn_reflect_telling.specs.Mentions.{AreKept, AreNodes}
 use Rattle.mn_reflect_telling.specs.Passing.{IsPassable}
 use Rattle.mn_reflect.specs.Doing.{MayTurn, with_row}

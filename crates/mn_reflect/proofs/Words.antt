@@ -10,7 +10,7 @@ use Rattle.mn_topo.specs.Lawful.{IsLawful, is_vrf_of}
 use Rattle.mn_topo.specs.Nodes.{is_loopback}
 use Rattle.mn_ledger.specs.Places.{loopback, vrf_at, edge_of}
 use Rattle.mn_ledger.specs.World as ledger
-use Rattle.mn_laws.proofs.There.{at_all}
+use Rattle.mn_ledger_laws.proofs.There.{at_all}
 use Rattle.mn_bgp_wire.specs.Says.{Says}
 use Rattle.mn_bgp_wire.specs.Grammar.{PathAttribute, IsBgp, value_of, attributes_bytes, update_kind, update_body}
 use Rattle.mn_bgp_wire.specs.Written.{update_bytes, announced, withdrawn, says_announced, says_withdrawn}
@@ -24,13 +24,13 @@ use Rattle.mn_bgp_reflected.specs.Grammar.{attributes_of_update as attributes_by
 use Rattle.mn_bgp_reflected.specs.Written.{reflected, says_reflected}
 use Rattle.mn_bgp_reflected.proofs.Messages.{are_in_body, one_reflected}
 use Rattle.mn_bgp_reflected.proofs.Spelling.{reflected_is_spelled}
-use Rattle.mn_bgp_spelling.specs.Spelling.{Labels, as_targets, route_of}
-use Rattle.mn_bgp_spelling.proofs.Coming.{spelled}
-use Rattle.mn_reflection.specs.Words.{Key, Offer, Word, Open, KeepAlive, Announce, Withdraw, key_of}
-use Rattle.mn_reflection.specs.Picks.{is_reflector}
-use Rattle.mn_reflection.specs.Through.{AreOneOrTwo, ComesThrough}
-use Rattle.mn_reflect_model.specs.Kept.{route_in}
-use Rattle.mn_reflect_model.specs.Spelling.{word_bytes, hop_of}
+use Rattle.mn_bgp_spelling_laws.specs.Spelling.{Labels, as_targets, route_of}
+use Rattle.mn_bgp_spelling_laws.proofs.Coming.{spelled}
+use Rattle.mn_reflection_laws.specs.Words.{Key, Offer, Word, Open, KeepAlive, Announce, Withdraw, key_of}
+use Rattle.mn_reflection_laws.specs.Picks.{is_reflector}
+use Rattle.mn_reflection_laws.specs.Through.{AreOneOrTwo, ComesThrough}
+use Rattle.mn_reflect_laws.specs.Kept.{route_in}
+use Rattle.mn_reflect_laws.specs.Spelling.{word_bytes, hop_of}
 use Rattle.mn_reflect_telling.specs.Said.{IsOther, IsSaid}
 use Rattle.mn_reflect.specs.Doing.{IsGoodWord, IsFirst, IsSaying}
 

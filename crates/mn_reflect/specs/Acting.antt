@@ -2,9 +2,9 @@
 use Rattle.std.specs.Prelude.{◌≢◌, ◌<◌, ◌+◌, ℕ, false, length, Option, Some, None}
 use Rattle.mn_topo.specs.declared.steps.Step.{Step}
 use Rattle.mn_topo.specs.declared.steps.Step.TheVariants as step
-use Rattle.mn_bgp_spelling.specs.Spelling.{Labels}
-use Rattle.mn_reflection.specs.Words.{Word}
-use Rattle.mn_reflect_model.specs.Now.{ReflectNow}
+use Rattle.mn_bgp_spelling_laws.specs.Spelling.{Labels}
+use Rattle.mn_reflection_laws.specs.Words.{Word}
+use Rattle.mn_reflect_laws.specs.Now.{ReflectNow}
 use Rattle.mn_reflect.specs.Doing.{MayTurn, CanHear, IsNext, begun, ended, word_heard}
 use Rattle.mn_reflect.specs.Changing.{MayImport, MayExport, MayAdd, MayDel, MayAttach, MayDetach, import_set, export_set, route_added, route_deleted}
 use Rattle.mn_reflect.specs.Changing.{site_attached, site_detached}
@@ -30,8 +30,8 @@ MayAct now (step.BgpDown a b) = MayEnd now a.0 b.0
 MayAct now (step.HearBgp a b) = MayHearNext now a.0 b.0
 MayAct now (step.AddRoute s prefix) = MayAdd now s prefix
 MayAct now (step.DelRoute s prefix) = MayDel now s prefix
-MayAct now (step.Import v target on) = MayImport now v target on
-MayAct now (step.Export v target on) = MayExport now v target on
+MayAct now (step.Import v on target) = MayImport now v target on
+MayAct now (step.Export v on target) = MayExport now v target on
 MayAct now (step.Attach s) = MayAttach now s
 MayAct now (step.Detach s) = MayDetach now s
 MayAct now _ = Unit {0}
@@ -49,8 +49,8 @@ acted labels None (step.HearBgp a b) now = now
 acted labels (Some word) (step.HearBgp a b) now = word_heard labels a.0 b.0 word now
 acted labels word (step.AddRoute s prefix) now = route_added s prefix now
 acted labels word (step.DelRoute s prefix) now = route_deleted s prefix now
-acted labels word (step.Import v target on) now = import_set v target on now
-acted labels word (step.Export v target on) now = export_set v target on now
+acted labels word (step.Import v on target) now = import_set v target on now
+acted labels word (step.Export v on target) now = export_set v target on now
 acted labels word (step.Attach s) now = site_attached s now
 acted labels word (step.Detach s) now = site_detached s now
 acted labels word _ now = now

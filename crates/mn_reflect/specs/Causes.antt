@@ -11,10 +11,10 @@ use Rattle.mn_ledger.specs.Places.{vrf_of, home_of}
 use Rattle.mn_ledger.specs.Refusal.{first_cause, where_holds, agree, prefix_refusal}
 use Rattle.mn_mail.specs.Mail.{first_from_to}
 use Rattle.mn_pe.specs.Pe.{PeNow}
-use Rattle.mn_routing_model.specs.Whole.{RoutesNow}
-use Rattle.mn_net_refusal.specs.Refusal.{session_at, of_vrf, imports_it, exports_it, site_label, site_with, is_site}
-use Rattle.mn_reflection.specs.Refusal.{takes_out}
-use Rattle.mn_reflect_model.specs.Now.{ReflectNow}
+use Rattle.mn_routing_laws.specs.Whole.{RoutesNow}
+use Rattle.mn_net_laws.specs.Refusal.{session_at, of_vrf, imports_it, exports_it, site_label, site_with, is_site}
+use Rattle.mn_reflection_laws.specs.Refusal.{takes_out}
+use Rattle.mn_reflect_laws.specs.Now.{ReflectNow}
 
 -- the nodes, VRFs and sites are the topology's
 abbrev pub IsOfPlaces : Network → Step → Type 0
@@ -23,8 +23,8 @@ IsOfPlaces topology (step.BgpDown a b) = (a.0 < length topology.loopbacks) × (b
 IsOfPlaces topology (step.HearBgp a b) = (a.0 < length topology.loopbacks) × (b.0 < length topology.loopbacks)
 IsOfPlaces topology (step.AddRoute s prefix) = s.0 < length topology.sites
 IsOfPlaces topology (step.DelRoute s prefix) = s.0 < length topology.sites
-IsOfPlaces topology (step.Import v target on) = v.0 < length topology.vrfs
-IsOfPlaces topology (step.Export v target on) = v.0 < length topology.vrfs
+IsOfPlaces topology (step.Import v on target) = v.0 < length topology.vrfs
+IsOfPlaces topology (step.Export v on target) = v.0 < length topology.vrfs
 IsOfPlaces topology (step.Attach s) = s.0 < length topology.sites
 IsOfPlaces topology (step.Detach s) = s.0 < length topology.sites
 IsOfPlaces topology _ = Unit {0}
@@ -37,8 +37,8 @@ shown now = record { edges = map (option_map (λ (pe : PeNow). pe.edge)) now.edg
 abbrev pub is_so : ReflectNow → Step → Bool
 is_so now (step.BgpUp a b) = is_some (session_at (shown now) a.0 b.0)
 is_so now (step.BgpDown a b) = is_none (session_at (shown now) a.0 b.0)
-is_so now (step.Import v target on) = agree on (imports_it now.topology (shown now) v.0 target)
-is_so now (step.Export v target on) = agree on (exports_it now.topology (shown now) v.0 target)
+is_so now (step.Import v on target) = agree on (imports_it now.topology (shown now) v.0 target)
+is_so now (step.Export v on target) = agree on (exports_it now.topology (shown now) v.0 target)
 is_so now (step.Attach s) = is_some (site_label now.topology (shown now) s.0)
 is_so now (step.Detach s) = is_none (site_label now.topology (shown now) s.0)
 is_so now _ = false
@@ -57,9 +57,9 @@ of_static now _ = None
 
 -- the set has 16 targets
 abbrev pub has_all_targets : ReflectNow → Step → Bool
-has_all_targets now (step.Import v target true) =
+has_all_targets now (step.Import v true target) =
     nat_le most_targets (unwrap_or (of_vrf now.topology (shown now) v.0 (λ vrf. Some (length vrf.imports))) 0)
-has_all_targets now (step.Export v target true) =
+has_all_targets now (step.Export v true target) =
     nat_le most_targets (unwrap_or (of_vrf now.topology (shown now) v.0 (λ vrf. Some (length vrf.exports))) 0)
 has_all_targets now _ = false
 

@@ -11,23 +11,23 @@ use Rattle.mn_bgp_wire.specs.declared.message.BgpMessage.TheVariants as messages
 use Rattle.mn_bgp_reflected.specs.Says.{SaysReflected}
 use Rattle.mn_bgp_session.specs.declared.session.BgpSession.{BgpSession}
 use Rattle.mn_bgp_session.specs.declared.table.BgpReply.{BgpReply}
-use Rattle.mn_bgp_spelling.specs.Spelling.{Labels}
+use Rattle.mn_bgp_spelling_laws.specs.Spelling.{Labels}
 use Rattle.mn_ledger.specs.Places.{vrf_at, loopback}
 use Rattle.mn_pe.specs.Edge.{Edge}
 use Rattle.mn_pe.specs.Held as held
 use Rattle.mn_offers.specs.Heard.{Heard, with_heard, without_heard}
 use Rattle.mn_mail.specs.Mail.{Letter}
 use Rattle.mn_mail.specs.Mail as mail
-use Rattle.mn_routing_model.specs.Routed.{working}
-use Rattle.mn_routing_model.specs.Doing.{AreSayable}
-use Rattle.mn_reflection.specs.Words.{Key, Word, Open, KeepAlive, Announce, Withdraw, key_of}
-use Rattle.mn_reflection.specs.Picks.{is_reflector}
-use Rattle.mn_reflect_model.specs.Kept.{route_in}
-use Rattle.mn_reflect_model.specs.Spelling.{letter_in}
-use Rattle.mn_reflect_model.specs.Now.{ReflectNow}
-use Rattle.mn_reflect_model.specs.Choice.{row_at, names_in}
-use Rattle.mn_reflect_model.specs.Letters.{open_letter, keep_letter, vpn_route_of, next_hop, reflector_news}
-use Rattle.mn_reflect_model.specs.Goes.{set_at, end_in, steady_of, edge_of_node, decide, decide_all, offering_letters}
+use Rattle.mn_routing_laws.specs.Routed.{working}
+use Rattle.mn_routing_laws.specs.Doing.{AreSayable}
+use Rattle.mn_reflection_laws.specs.Words.{Key, Word, Open, KeepAlive, Announce, Withdraw, key_of}
+use Rattle.mn_reflection_laws.specs.Picks.{is_reflector}
+use Rattle.mn_reflect_laws.specs.Kept.{route_in}
+use Rattle.mn_reflect_laws.specs.Spelling.{letter_in}
+use Rattle.mn_reflect_laws.specs.Now.{ReflectNow}
+use Rattle.mn_reflect_laws.specs.Choice.{row_at, names_in}
+use Rattle.mn_reflect_laws.specs.Letters.{open_letter, keep_letter, vpn_route_of, next_hop, reflector_news}
+use Rattle.mn_reflect_laws.specs.Goes.{set_at, end_in, steady_of, edge_of_node, decide, decide_all, offering_letters}
 use Rattle.mn_reflect_telling.specs.Passing.{IsPassable, IfPassable}
 use Rattle.mn_reflect_telling.specs.Telling.{posted}
 

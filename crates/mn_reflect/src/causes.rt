@@ -4,7 +4,7 @@ ghost use Rattle.mn_base.specs.Limits.{most_targets};
 ghost use Rattle.mn_topo.specs.declared.steps.Step.TheVariants as StepOf;
 ghost use Rattle.mn_vrf.specs.Vrf.{VrfState};
 ghost use Rattle.mn_ledger.specs.Refusal.{agree};
-ghost use Rattle.mn_net_refusal.specs.Refusal.{session_at, of_vrf, imports_it, exports_it, site_label, site_with};
+ghost use Rattle.mn_net_laws.specs.Refusal.{session_at, of_vrf, imports_it, exports_it, site_label, site_with};
 ghost use Rattle.mn_reflect.specs.Course.{bad_of};
 ghost use Rattle.mn_reflect.specs.Causes.{IsOfPlaces, shown, is_so, has_nothing, of_static, has_all_targets, has_given_all, has_too_much, limit_seen, refusal_seen};
 
@@ -96,8 +96,8 @@ impl<'t> Reflect<'t> {
         match *step {
             Step::BgpUp(a, b) => self.lives(a, b),
             Step::BgpDown(a, b) => !self.lives(a, b),
-            Step::Import(vrf, target, on) => agree(on, self.imports(vrf, target)),
-            Step::Export(vrf, target, on) => agree(on, self.exports(vrf, target)),
+            Step::Import(vrf, on, target) => agree(on, self.imports(vrf, target)),
+            Step::Export(vrf, on, target) => agree(on, self.exports(vrf, target)),
             Step::Attach(site) => self.is_attached(site),
             Step::Detach(site) => !self.is_attached(site),
             _ => false,
@@ -182,13 +182,13 @@ impl<'t> Reflect<'t> {
         ensures { result ≡ has_all_targets self.now step.now }
     {
         match *step {
-            Step::Import(vrf, _, on) => {
+            Step::Import(vrf, on, _) => {
                 if on {
                     return self.imports_all(vrf);
                 }
                 false
             }
-            Step::Export(vrf, _, on) => {
+            Step::Export(vrf, on, _) => {
                 if on {
                     return self.exports_all(vrf);
                 }

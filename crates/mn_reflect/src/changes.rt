@@ -5,8 +5,8 @@ ghost use Rattle.mn_vrf.specs.Vrf.{VrfState, add_refused, del_refused, set_refus
 ghost use Rattle.mn_pe.specs.Edge.{vrf_of_site, after_attach, after_detach};
 ghost use Rattle.mn_pe.specs.Pe.{found_in};
 ghost use Rattle.mn_pe.specs.Exports.{exports_at, exports_over, export_of};
-ghost use Rattle.mn_routing_model.specs.Doing.{AreSayable, AreNews, those_of};
-ghost use Rattle.mn_reflect_model.specs.Goes.{edge_of_node};
+ghost use Rattle.mn_routing_laws.specs.Doing.{AreSayable, AreNews, those_of};
+ghost use Rattle.mn_reflect_laws.specs.Goes.{edge_of_node};
 ghost use Rattle.mn_reflect.specs.Doing.{IsEdgeAt, changed_edge};
 ghost use Rattle.mn_reflect.specs.Changing.{told_peers, imports_changed, exports_changed, MayImport, MayExport, import_set, export_set, with_route, without_route, MayAdd, MayDel, route_added, route_deleted, next_label, MayAttach, MayDetach, site_attached, site_detached};
 

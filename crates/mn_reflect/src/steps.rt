@@ -3,11 +3,11 @@ ghost use Rattle.std.specs.Prelude.{◌≡◌, ◌≤◌, ◌+◌, ◌++◌, ◌
 ghost use Rattle.mn_base.specs.Limits.{most_steps};
 ghost use Rattle.mn_topo.specs.Network.{Network};
 ghost use Rattle.mn_topo.specs.declared.steps.Step.{Step as StepOf};
-ghost use Rattle.mn_reflection.specs.World.{world_of};
-ghost use Rattle.mn_reflection.specs.Refusal.{refusal};
-ghost use Rattle.mn_reflect_model.specs.Steps.{takes};
-ghost use Rattle.mn_bgp_spelling.specs.Spelling.{Labels};
-ghost use Rattle.mn_reflection.specs.Words.{Word};
+ghost use Rattle.mn_reflection_laws.specs.World.{world_of};
+ghost use Rattle.mn_reflection_laws.specs.Refusal.{refusal};
+ghost use Rattle.mn_reflect_laws.specs.Steps.{takes};
+ghost use Rattle.mn_bgp_spelling_laws.specs.Spelling.{Labels};
+ghost use Rattle.mn_reflection_laws.specs.Words.{Word};
 ghost use Rattle.mn_reflect.specs.Course.{IsRun, MayStep, bad_of};
 ghost use Rattle.mn_reflect.specs.Acting.{MayAct, IsHeardIn, acted, counted};
 
@@ -85,8 +85,8 @@ impl<'t> Reflect<'t> {
             Step::HearBgp(a, b) => self.hear_next(a, b),
             Step::AddRoute(site, prefix) => self.add(site, prefix),
             Step::DelRoute(site, prefix) => self.del(site, prefix),
-            Step::Import(vrf, target, on) => self.set_import(vrf, target, on),
-            Step::Export(vrf, target, on) => self.set_export(vrf, target, on),
+            Step::Import(vrf, on, target) => self.set_import(vrf, target, on),
+            Step::Export(vrf, on, target) => self.set_export(vrf, target, on),
             Step::Attach(site) => self.attach(site),
             Step::Detach(site) => self.detach(site),
             _ => Ok(()),

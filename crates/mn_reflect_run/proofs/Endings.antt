@@ -10,7 +10,7 @@ use Rattle.mn_lines.proofs.Putting.{begun, ended}
 use Rattle.mn_answer.specs.declared.outcome.Limit.TheVariants.{Steps}
 use Rattle.mn_answer.specs.declared.outcome.Outcome.{Outcome}
 use Rattle.mn_answer.specs.declared.outcome.Outcome.TheVariants.{Done, Usage, ReadFault, WriteFault, NoMemory, BadTopology, BadScript, BadCapture, BadSecond, BadJoints, TooLarge}
-use Rattle.mn_answer.specs.Endings.{OutcomeIs, TextIs, CausedBy}
+use Rattle.mn_answer.specs.Endings.{OutcomeIs, TextIs, SinkCausedBy}
 use Rattle.mn_reflect_telling.specs.Mentions.{numbers_of}
 use Rattle.mn_reflect_run.specs.Language.{Script, script_of}
 use Rattle.mn_reflect_run.specs.Course.{ReflectRun}
@@ -66,12 +66,12 @@ module _ (topology : Network) (reflectors : List ℕ) (run : ReflectRun) where
       TextIs (Some (told topology reflectors run)) before written outcome
   text_told outcome before written is e = subst (TextIs (Some (told topology reflectors run)) before written) (sym is) (text_by run.is_stopped before written e)
 
-  cause_by : (b : Bool) (old new : ℕ) → new ≡ old → CausedBy (0, 0, old) (0, 0, new) (cond b (TooLarge Steps most_steps) Done)
+  cause_by : (b : Bool) (old new : Option ℕ) → new ≡ old → SinkCausedBy old new (cond b (TooLarge Steps most_steps) Done)
   cause_by true old new e = (refl, refl, e)
   cause_by false old new e = (refl, refl, e)
 
-  pub cause_told : (outcome : Outcome) (old new : ℕ) → outcome ≡ outcome_of run → new ≡ old → CausedBy (0, 0, old) (0, 0, new) outcome
-  cause_told outcome old new is e = subst (CausedBy (0, 0, old) (0, 0, new)) (sym is) (cause_by run.is_stopped old new e)
+  pub cause_told : (outcome : Outcome) (old new : Option ℕ) → outcome ≡ outcome_of run → new ≡ old → SinkCausedBy old new outcome
+  cause_told outcome old new is e = subst (SinkCausedBy old new) (sym is) (cause_by run.is_stopped old new e)
 
   usage_by : (b : Bool) → cond b (TooLarge Steps most_steps) Done ≡ Usage → ⊥
   usage_by true e = cc

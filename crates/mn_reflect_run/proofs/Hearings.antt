@@ -15,11 +15,11 @@ use Rattle.mn_ledger.specs.Bgp.{peers_live}
 use Rattle.mn_ledger.specs.Refusal.{first_cause, where_holds}
 use Rattle.mn_ledger.specs.declared.refused.Refused.{Refused}
 use Rattle.mn_ledger.specs.declared.refused.Refused.TheVariants as cause
-use Rattle.mn_reflection.specs.Words.{Key, Word, Open, change}
-use Rattle.mn_reflection.specs.Picks.{Spoken, ReflectWorld, is_established, is_reflector, offered}
-use Rattle.mn_reflection.specs.World.{start, is_from_to, is_between, first_word, without_first, says, heard_one, counted, unsaid, replies, is_steady, news_of, news, said_in, after, world_from, world_of}
-use Rattle.mn_reflection.specs.Refusal.{refusal}
-use Rattle.mn_reflect_model.specs.Steps.{may_peer, takes, AreTaken, first_hearing}
+use Rattle.mn_reflection_laws.specs.Words.{Key, Word, Open, change}
+use Rattle.mn_reflection_laws.specs.Picks.{Spoken, ReflectWorld, is_established, is_reflector, offered}
+use Rattle.mn_reflection_laws.specs.World.{start, is_from_to, is_between, first_word, without_first, says, heard_one, counted, unsaid, replies, is_steady, news_of, news, said_in, after, world_from, world_of}
+use Rattle.mn_reflection_laws.specs.Refusal.{refusal}
+use Rattle.mn_reflect_laws.specs.Steps.{may_peer, takes, AreTaken, first_hearing}
 
 module _ (topology : Network) (reflectors : List ℕ) where
   -- the one may peer with the other where that may with it
@@ -74,8 +74,8 @@ module _ (topology : Network) (reflectors : List ℕ) where
   live_after config (step.HearBgp a b) t live = live
   live_after config (step.AddRoute s prefix) t live = live
   live_after config (step.DelRoute s prefix) t live = live
-  live_after config (step.Import v target on) t live = live
-  live_after config (step.Export v target on) t live = live
+  live_after config (step.Import v on target) t live = live
+  live_after config (step.Export v on target) t live = live
   live_after config (step.Attach s) t live = live
   live_after config (step.Detach s) t live = live
   live_after config (step.LinkUp l) t live = absurd (no t)
@@ -109,8 +109,8 @@ module _ (topology : Network) (reflectors : List ℕ) where
   still_in world (step.HearBgp a b) spoken i = heard_in world a.0 b.0 (first_word a.0 b.0 world.flying) spoken i
   still_in world (step.AddRoute s prefix) spoken i = i
   still_in world (step.DelRoute s prefix) spoken i = i
-  still_in world (step.Import v target on) spoken i = i
-  still_in world (step.Export v target on) spoken i = i
+  still_in world (step.Import v on target) spoken i = i
+  still_in world (step.Export v on target) spoken i = i
   still_in world (step.Attach s) spoken i = i
   still_in world (step.Detach s) spoken i = i
   still_in world (step.LinkUp l) spoken i = i
@@ -140,8 +140,8 @@ module _ (topology : Network) (reflectors : List ℕ) where
   replied world new (step.BgpDown a b) t spoken i = absurd i
   replied world new (step.AddRoute s prefix) t spoken i = absurd i
   replied world new (step.DelRoute s prefix) t spoken i = absurd i
-  replied world new (step.Import v target on) t spoken i = absurd i
-  replied world new (step.Export v target on) t spoken i = absurd i
+  replied world new (step.Import v on target) t spoken i = absurd i
+  replied world new (step.Export v on target) t spoken i = absurd i
   replied world new (step.Attach s) t spoken i = absurd i
   replied world new (step.Detach s) t spoken i = absurd i
   replied world new (step.LinkUp l) t spoken i = absurd i

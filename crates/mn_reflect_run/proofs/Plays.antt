@@ -1,5 +1,5 @@
 -- What stands on the page as lines are played.
-use Rattle.std.proofs.Common.{ℕ, zero, suc, ◌≡◌, ◌+◌, ◌<◌, ◌≤◌, inl, inr, false, Bool, true, cond, List, [], ◌∷◌, ◌++◌, length, take, drop, get_or, Result, Ok, Err, IsErr}
+use Rattle.std.proofs.Common.{ℕ, zero, suc, ◌≡◌, ◌+◌, ◌<◌, ◌≤◌, inl, inr, false, Bool, true, cond, List, [], ◌∷◌, ◌++◌, length, take, drop, get_or, Option, Result, Ok, Err, IsErr}
 use Rattle.std.proofs.Common.{refl, arith, sym, ◌∙◌, ap, subst, append_assoc, append-nil, length-append}
 use Rattle.std.specs.Prelude.{All, codes, filter, if◌then◌else◌}
 use Rattle.std.specs.Result.{IsErrAnd}
@@ -14,10 +14,10 @@ use Rattle.mn_edge.specs.Faults.{Counted}
 use Rattle.mn_topo.specs.Network.{Network}
 use Rattle.mn_topo.specs.declared.steps.Step.{Step}
 use Rattle.mn_ledger.specs.declared.refused.Refused.{Refused}
-use Rattle.mn_reflection.specs.World.{world_of}
+use Rattle.mn_reflection_laws.specs.World.{world_of}
 use Rattle.mn_tables.specs.Telling.{Stand, Tells, Told}
 use Rattle.mn_tables.proofs.Telling.{told_more, told_nothing, tells_within, tells_want}
-use Rattle.mn_reflect_model.specs.Now.{ReflectNow}
+use Rattle.mn_reflect_laws.specs.Now.{ReflectNow}
 use Rattle.mn_reflect.specs.Course.{IsRun}
 use Rattle.mn_reflect_run.specs.declared.command.ReflectCommand.{ReflectCommand}
 use Rattle.mn_reflect_run.specs.declared.command.ReflectCommand.TheVariants as command
@@ -34,7 +34,7 @@ use Rattle.mn_reflect_run.proofs.Courses.{lines_tell, course_at, course_all, cou
 
 -- 1. What a call answers, by another type of its value
 
-counted_of : (T : Type 0) (before now : ℕ) (e : DeviceBad) → Counted {T = Unit {0}} before now (Err e) → Counted {T = T} before now (Err e)
+counted_of : (T : Type 0) (before now : Option ℕ) (e : DeviceBad) → Counted {T = Unit {0}} before now (Err e) → Counted {T = T} before now (Err e)
 counted_of T before now Failed h = h
 counted_of T before now NoMemory h = h
 
@@ -50,7 +50,7 @@ tells_ok a s t x this = record { put = this.puts; part = tt; cause = this.faults
 pub told_of : {T : Type 0} (a : List ℕ) (s t : Stand) (x : T) → Tells {T = T} a s t (Ok x) → Told a s t
 told_of a s t x this = record { puts = this.put; faults = this.cause }
 
-back_of : (T : Type 0) (before now : ℕ) (e : DeviceBad) → Counted {T = T} before now (Err e) → Counted {T = Unit {0}} before now (Err e)
+back_of : (T : Type 0) (before now : Option ℕ) (e : DeviceBad) → Counted {T = T} before now (Err e) → Counted {T = Unit {0}} before now (Err e)
 back_of T before now Failed h = h
 back_of T before now NoMemory h = h
 

@@ -10,15 +10,15 @@ use Rattle.mn_base.specs.declared.numbers.SiteNo.{SiteNo}
 use Rattle.mn_base.specs.declared.numbers.VrfNo.{VrfNo}
 use Rattle.mn_base.specs.declared.numbers.NodeNo.{NodeNo}
 use Rattle.mn_base.specs.declared.numbers.Rd.{Rd}
-use Rattle.mn_bgp_spelling.specs.Spelling.{Labels}
-use Rattle.mn_routing_model.specs.Sources.{as_held, source_from}
-use Rattle.mn_reflect_model.specs.Heads.{prefixes_of, best_for, best_at, held_at}
+use Rattle.mn_bgp_spelling_laws.specs.Spelling.{Labels}
+use Rattle.mn_routing_laws.specs.Sources.{as_held, source_from}
+use Rattle.mn_ledger.specs.Heads.{prefixes_of, best_for, best_at, held_at}
 use Rattle.mn_topo.specs.Network.{Network}
-use Rattle.mn_frames.specs.Given.{Labelling}
+use Rattle.mn_frame_laws.specs.Given.{Labelling}
 use Rattle.mn_text.specs.Addresses.{prefix_text}
 use Rattle.mn_lines.specs.Lines.{text}
-use Rattle.mn_output.specs.Tables as output
-use Rattle.mn_output.specs.Tables.{vrf_name}
+use Rattle.mn_output_laws.specs.Tables as output
+use Rattle.mn_output_laws.specs.Tables.{vrf_name}
 use Rattle.mn_reflect_run.specs.Report.{source_text, route_line}
 
 -- 1. A source tells the ledger's

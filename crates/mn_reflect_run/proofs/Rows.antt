@@ -5,9 +5,9 @@ use Rattle.mn_text.specs.Addresses.{prefix_text}
 use Rattle.mn_topo.specs.Network.{Network}
 use Rattle.mn_ledger.specs.Held.{HeldRoute, Far}
 use Rattle.mn_lines.specs.Lines.{text}
-use Rattle.mn_output.specs.Files.{node_name}
-use Rattle.mn_output.specs.Tables.{vrf_name}
-use Rattle.mn_bgp_spelling.specs.Spelling.{Labels}
+use Rattle.mn_output_laws.specs.Files.{node_name}
+use Rattle.mn_output_laws.specs.Tables.{vrf_name}
+use Rattle.mn_bgp_spelling_laws.specs.Spelling.{Labels}
 use Rattle.mn_reflect_run.specs.Report.{route_line, total_line}
 
 pub total_row : (steps refused flying : ℕ) (a b d : List ℕ) → a ≡ decimal steps → b ≡ decimal refused → d ≡ decimal flying →

@@ -11,13 +11,13 @@ use Rattle.mn_topo.specs.VrfTable.{is_edge}
 use Rattle.mn_topo.specs.declared.steps.Step.{Step}
 use Rattle.mn_topo.specs.declared.steps.Step.TheVariants as step
 use Rattle.mn_ledger.specs.declared.refused.Refused.{Refused}
-use Rattle.mn_routing_model.proofs.Lawful.{below_of}
-use Rattle.mn_reflection.specs.Picks.{ReflectWorld, is_reflector}
-use Rattle.mn_reflection.specs.World.{start, after, world_from, world_of}
-use Rattle.mn_reflection.specs.Quiet.{AreReflectors, NamesNodes, AreReflected}
-use Rattle.mn_reflection.specs.Refusal.{refusal}
-use Rattle.mn_reflection.specs.Holding.{AreDoneFrom}
-use Rattle.mn_reflect_model.specs.Steps.{may_peer, takes, AreTaken, IsLawfulRun}
+use Rattle.mn_routing_laws.proofs.Lawful.{below_of}
+use Rattle.mn_reflection_laws.specs.Picks.{ReflectWorld, is_reflector}
+use Rattle.mn_reflection_laws.specs.World.{start, after, world_from, world_of}
+use Rattle.mn_reflection_laws.specs.Quiet.{AreReflectors, NamesNodes, AreReflected}
+use Rattle.mn_reflection_laws.specs.Refusal.{refusal}
+use Rattle.mn_reflection_laws.specs.Holding.{AreDoneFrom}
+use Rattle.mn_reflect_laws.specs.Steps.{may_peer, takes, AreTaken, IsLawfulRun}
 use Rattle.mn_reflect_run.specs.declared.command.ReflectCommand.{ReflectCommand}
 use Rattle.mn_reflect_run.specs.declared.command.ReflectCommand.TheVariants as command
 use Rattle.mn_reflect_run.specs.declared.command.ReflectLine.{ReflectLine}
@@ -98,8 +98,8 @@ module _ (t : Network) (reflectors : List ℕ) (lawful : IsLawful t) (are : AreR
   names_nodes (step.HearBgp a b) h = peers_there a.0 b.0 h
   names_nodes (step.AddRoute s p) h = tt
   names_nodes (step.DelRoute s p) h = tt
-  names_nodes (step.Import v x on) h = tt
-  names_nodes (step.Export v x on) h = tt
+  names_nodes (step.Import v on x) h = tt
+  names_nodes (step.Export v on x) h = tt
   names_nodes (step.Attach s) h = tt
   names_nodes (step.Detach s) h = tt
   names_nodes _ h = absurd (no h)

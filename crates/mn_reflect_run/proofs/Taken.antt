@@ -16,7 +16,7 @@ use Rattle.mn_script.specs.Rules.{◌>>=◌}
 use Rattle.mn_script.specs.Words.{word_at, choice, counted}
 use Rattle.mn_script.specs.Operands.{prefix_in, site_in}
 use Rattle.mn_script.specs.Steps.{route_line, target_operands, import_line, export_line, site_line}
-use Rattle.mn_reflect_model.specs.Steps.{takes}
+use Rattle.mn_reflect_laws.specs.Steps.{takes}
 use Rattle.mn_reflect_telling.specs.Mentions.{numbers_of}
 
 pub listed : (node : ℕ) (nodes : List NodeNo) → list_any (λ (other : NodeNo). other.0 == node) nodes ≡ list_any (λ other. other == node) (numbers_of nodes)
@@ -48,7 +48,7 @@ module _ (network : Network) (reflectors : List ℕ) where
   unfolding route_line
   route_taken ws = route_by (choice ws (codes "add") (codes "del")) (counted ws 4) (prefix_in (word_at ws 3)) (site_in network (word_at ws 2))
 
-  import_by : (found : Result (VrfNo × Rt × Bool) ScriptRule) → Taken (found >>= (λ found. Ok (Import found.0 found.1 found.2)))
+  import_by : (found : Result (VrfNo × Rt × Bool) ScriptRule) → Taken (found >>= (λ found. Ok (Import found.0 found.2 found.1)))
   import_by (Ok found) = refl
   import_by (Err rule) = tt
 
@@ -56,7 +56,7 @@ module _ (network : Network) (reflectors : List ℕ) where
   unfolding import_line
   import_taken ws = import_by (target_operands network ws)
 
-  export_by : (found : Result (VrfNo × Rt × Bool) ScriptRule) → Taken (found >>= (λ found. Ok (Export found.0 found.1 found.2)))
+  export_by : (found : Result (VrfNo × Rt × Bool) ScriptRule) → Taken (found >>= (λ found. Ok (Export found.0 found.2 found.1)))
   export_by (Ok found) = refl
   export_by (Err rule) = tt
 

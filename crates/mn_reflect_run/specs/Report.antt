@@ -8,12 +8,13 @@ use Rattle.mn_topo.specs.declared.steps.Step.{Step}
 use Rattle.mn_ledger.specs.Places.{edge_of}
 use Rattle.mn_ledger.specs.Held.{HeldRoute, Source, Own, Near, Far}
 use Rattle.mn_lines.specs.Lines.{text, refused_line, cause_text}
-use Rattle.mn_output.specs.Files.{node_name}
-use Rattle.mn_output.specs.Tables.{vrf_name, site_name, prefixes_of, best_for}
-use Rattle.mn_bgp_spelling.specs.Spelling.{Labels}
-use Rattle.mn_reflection.specs.World.{world_of}
-use Rattle.mn_reflection.specs.Quiet.{held}
-use Rattle.mn_reflect_model.specs.Labels.{labels_of}
+use Rattle.mn_output_laws.specs.Files.{node_name}
+use Rattle.mn_ledger.specs.Heads.{prefixes_of, best_for}
+use Rattle.mn_output_laws.specs.Tables.{vrf_name, site_name}
+use Rattle.mn_bgp_spelling_laws.specs.Spelling.{Labels}
+use Rattle.mn_reflection_laws.specs.World.{world_of}
+use Rattle.mn_reflection_laws.specs.Quiet.{held}
+use Rattle.mn_reflect_laws.specs.Labels.{labels_of}
 use Rattle.mn_reflect_telling.specs.Mentions.{numbers_of}
 use Rattle.mn_reflect_run.specs.Language.{Script}
 use Rattle.mn_reflect_run.specs.Course.{Note, Refusal, Table, ReflectRun, run_of}

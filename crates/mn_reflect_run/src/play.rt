@@ -4,7 +4,7 @@ ghost use Rattle.mn_base.specs.Limits.{most_script_lines};
 ghost use Rattle.mn_topo.specs.Network.{Network};
 ghost use Rattle.mn_topo.specs.declared.steps.Step.{Step as StepOf};
 ghost use Rattle.mn_tables.specs.Telling.{standing, Tells};
-ghost use Rattle.mn_reflect_model.specs.Steps.{takes};
+ghost use Rattle.mn_reflect_laws.specs.Steps.{takes};
 ghost use Rattle.mn_reflect.specs.Course.{IsRun};
 ghost use Rattle.mn_reflect_telling.specs.Mentions.{numbers_of};
 ghost use Rattle.mn_reflect_run.specs.Language.{command_fits};

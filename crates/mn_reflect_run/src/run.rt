@@ -2,11 +2,11 @@
 ghost use Rattle.std.specs.Prelude.{◌≡◌, ◌≢◌, ◌≤◌, ◌++◌, length, Some, IfOk, OnOk, OnErr};
 ghost use Rattle.std.specs.Option.{ForSome};
 ghost use Rattle.mn_base.specs.Limits.{most_script_lines};
-ghost use Rattle.mn_edge.specs.Faults.{Counted};
-ghost use Rattle.mn_edge.specs.Files.{file};
+ghost use Rattle.mn_edge.specs.Faults.{Counted, CountedUnless};
+ghost use Rattle.mn_edge.specs.Files.{Absent, file};
 ghost use Rattle.mn_lines.specs.Putting.{PartPut};
 ghost use Rattle.mn_tables.specs.Telling.{standing, Tells};
-ghost use Rattle.mn_answer.specs.Endings.{OutcomeIs, TextIs, CausedBy, Answers};
+ghost use Rattle.mn_answer.specs.Endings.{OutcomeIs, TextIs, CausedBy, SinkCausedBy, HasNone, Answers};
 ghost use Rattle.mn_answer.specs.Inputs.{IsSound};
 ghost use Rattle.mn_reflect_telling.specs.Mentions.{numbers_of};
 ghost use Rattle.mn_reflect_run.specs.Reading.{IsLawfulScript};
@@ -88,7 +88,7 @@ fn reflect_lines<O: Sink>(
     requires few { length script.now.lines ≤ most_script_lines }
     ensures outcome { OutcomeIs (Some (reflect_done topology.now script.now)) result }
     ensures text { ForSome (O.written out.old) (λ before. TextIs (Some (reflect_done topology.now script.now)) before (O.written out.new) result) }
-    ensures cause { CausedBy (0, 0, O.faults out.old) (0, 0, O.faults out.new) result }
+    ensures cause { SinkCausedBy (O.faults out.old) (O.faults out.new) result }
     ensures usage { result ≢ Outcome.Usage }
 {
     match put_all(alloc, topology, script, out) {
@@ -132,7 +132,8 @@ fn load_script<S: Shelf>(
     ensures fits { IfOk result (ScriptFits topology.now) }
     ensures sound { IfOk result IsSound }
     ensures same { S.files shelf.new ≡ S.files shelf.old }
-    ensures reads { Counted (S.read_faults shelf.old) (S.read_faults shelf.new) result }
+    ensures reads { CountedUnless (Absent (S.files shelf.old) name.now)
+        (S.read_faults shelf.old) (S.read_faults shelf.new) result }
     ensures writes { S.write_faults shelf.new ≡ S.write_faults shelf.old }
 {
     match read_all(alloc, shelf, name, MOST_SCRIPT_BYTES)? {
@@ -156,7 +157,8 @@ fn reflect_script<S: Shelf, O: Sink>(
     ensures told { ForSome (S.files shelf.old) (λ files. ForSome (O.written out.old) (λ before.
         IsScriptTold topology.now script.now files before (O.written out.new) result)) }
     ensures same { S.files shelf.new ≡ S.files shelf.old }
-    ensures cause { CausedBy (S.read_faults shelf.old, S.write_faults shelf.old, O.faults out.old)
+    ensures cause { CausedBy (HasNone (λ files. reflect_over files script.now topology.now) (S.files shelf.old))
+        (S.read_faults shelf.old, S.write_faults shelf.old, O.faults out.old)
         (S.read_faults shelf.new, S.write_faults shelf.new, O.faults out.new) result }
     ensures usage { result ≢ Outcome.Usage }
 {
@@ -187,8 +189,10 @@ pub fn reflect<S: Shelf, O: Sink>(
         IsReflectTold topology.now script.now files before (O.written out.new) result)) }
     // No file changes.
     ensures same { S.files shelf.new ≡ S.files shelf.old }
-    // A fault comes only where its count rose; every other count is as before.
-    ensures cause { CausedBy (S.read_faults shelf.old, S.write_faults shelf.old, O.faults out.old)
+    // A fault comes only where its count rose, or a read's over a sound shelf where an input isn't there; every other count is as
+    // before.
+    ensures cause { CausedBy (HasNone (reflect_answer topology.now script.now) (S.files shelf.old))
+        (S.read_faults shelf.old, S.write_faults shelf.old, O.faults out.old)
         (S.read_faults shelf.new, S.write_faults shelf.new, O.faults out.new) result }
     ensures usage { result ≢ Outcome.Usage }
 {

@@ -7,12 +7,12 @@ use Rattle.mn_base.specs.Ordered.{with_one}
 use Rattle.mn_base.proofs.Bools.{two_ways}
 use Rattle.mn_base.proofs.Kept.{fold_in, in_fold}
 use Rattle.mn_base.proofs.Places.{fold_ascends}
-use Rattle.mn_by_key.specs.ByKey.{Goes}
+use Rattle.mn_by_key_laws.specs.ByKey.{Goes}
 use Rattle.mn_offers.specs.Heard.{Heard, place_of}
 use Rattle.mn_offers.proofs.ByName.{heard_order, by_vrf_then_prefix, by_name}
-use Rattle.mn_reflection.specs.Words.{Key, same_key, key_before, in_order}
-use Rattle.mn_reflection.proofs.Mentions.{same_keys}
-use Rattle.mn_reflect_model.proofs.InOrder.{key_order, in_order_is}
+use Rattle.mn_reflection_laws.specs.Words.{Key, same_key, key_before, in_order}
+use Rattle.mn_reflection_laws.proofs.Mentions.{same_keys}
+use Rattle.mn_reflect_laws.proofs.InOrder.{key_order, in_order_is}
 use Rattle.mn_reflect_telling.specs.declared.name.Name.{Name}
 use Rattle.mn_reflect_telling.specs.Names.{key_in, name_before, place_in, with_names}
 

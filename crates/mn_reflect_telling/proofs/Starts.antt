@@ -21,11 +21,11 @@ use Rattle.mn_rib_in.specs.Heard.{Heard}
 use Rattle.mn_vrf.specs.Vrf.{VrfState}
 use Rattle.mn_pe.specs.Edge.{Edge, after_attach}
 use Rattle.mn_pe.specs.Start.{edge_at_start}
-use Rattle.mn_routing_model.specs.Standing.{vrf_in, site_label_now, heard_in}
-use Rattle.mn_routing_model.proofs.Starts.{same_all, given_below}
-use Rattle.mn_routing_model.proofs.Starts as starts
-use Rattle.mn_reflect_model.specs.Labels.{first_labels}
-use Rattle.mn_reflect_model.specs.Edges.{all_live, as_peerings}
+use Rattle.mn_routing_laws.specs.Standing.{vrf_in, site_label_now, heard_in}
+use Rattle.mn_routing_laws.proofs.Starts.{same_all, given_below}
+use Rattle.mn_routing_laws.proofs.Starts as starts
+use Rattle.mn_reflect_laws.specs.Labels.{first_labels}
+use Rattle.mn_reflect_laws.specs.Edges.{all_live, as_peerings}
 use Rattle.mn_reflect_telling.proofs.Posting.{drop_all}
 use Rattle.mn_reflect_telling.specs.Starting.{nothing_decided, first_edge}
 

@@ -15,7 +15,7 @@ pub(crate) struct Names {
 impl Model for Names {
     ghost use Rattle.std.specs.Prelude.{List, map};
     ghost use Rattle.std.specs.BTreeMap.{values};
-    ghost use Rattle.mn_reflection.specs.Words.{Key};
+    ghost use Rattle.mn_reflection_laws.specs.Words.{Key};
     ghost use Rattle.mn_reflect_telling.specs.Names.{key_in, AreByName};
 
     ghost Value = { List Key };
@@ -28,8 +28,8 @@ impl Model for Names {
 ghost use Rattle.std.specs.Prelude.{◌≡◌, [], ◌++◌, length, map, OnOk, IfOk};
 ghost use Rattle.std.specs.List.{flat_map};
 ghost use Rattle.mn_base.specs.Ordered.{with_one};
-ghost use Rattle.mn_reflection.specs.Words.{key_before};
-ghost use Rattle.mn_reflect_model.specs.Choice.{names_in, all_names};
+ghost use Rattle.mn_reflection_laws.specs.Words.{key_before};
+ghost use Rattle.mn_reflect_laws.specs.Choice.{names_in, all_names};
 ghost use Rattle.mn_reflect_telling.specs.Names.{key_in, with_names};
 
 impl Names {

@@ -4,8 +4,8 @@ ghost use Rattle.mn_wiring.specs.Wiring.{nodes_of};
 ghost use Rattle.mn_topo.specs.Network.{wiring_of};
 ghost use Rattle.mn_ledger.specs.Places.{sites_at};
 ghost use Rattle.mn_ledger.specs.Ledger.{first_config};
-ghost use Rattle.mn_routing_model.specs.Routed.{working};
-ghost use Rattle.mn_reflection.specs.Picks.{placed_by, by_address};
+ghost use Rattle.mn_routing_laws.specs.Routed.{working};
+ghost use Rattle.mn_reflection_laws.specs.Picks.{placed_by, by_address};
 ghost use Rattle.mn_reflect_telling.specs.Mentions.{AreNodes, numbers_of};
 ghost use Rattle.mn_reflect_telling.specs.Starting.{first_edge, first_edge_or_none};
 

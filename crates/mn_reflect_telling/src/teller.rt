@@ -24,10 +24,10 @@ ghost use Rattle.mn_bgp_wire.specs.declared.message.BgpMessage.{BgpMessage as Me
 ghost use Rattle.mn_ledger.specs.Places.{loopback, vrf_at};
 ghost use Rattle.mn_offers.specs.Heard.{heard_at};
 ghost use Rattle.mn_pe.specs.Pe.{AreLabelled};
-ghost use Rattle.mn_reflection.specs.Picks.{is_reflector};
-ghost use Rattle.mn_reflect_model.specs.Choice.{Row, offered_of, reflected_to, names_in};
-ghost use Rattle.mn_reflect_model.specs.Letters.{says_same, change_letters, vpn_route_of, next_hop, reflector_news, reflector_offers};
-ghost use Rattle.mn_reflect_model.specs.Goes.{decision_says};
+ghost use Rattle.mn_reflection_laws.specs.Picks.{is_reflector};
+ghost use Rattle.mn_reflect_laws.specs.Choice.{Row, offered_of, reflected_to, names_in};
+ghost use Rattle.mn_reflect_laws.specs.Letters.{says_same, change_letters, vpn_route_of, next_hop, reflector_news, reflector_offers};
+ghost use Rattle.mn_reflect_laws.specs.Goes.{decision_says};
 ghost use Rattle.mn_reflect_telling.specs.Mentions.{numbers_of, Shows, ShowsIn, AreOf, AreKept, AreNodes, row_in, row_with, held_out};
 ghost use Rattle.mn_reflect_telling.specs.Names.{named, key_in};
 ghost use Rattle.mn_reflect_telling.specs.Passing.{IsPassable, IfPassable};

@@ -1,7 +1,7 @@
 //! What is said to peers.
 ghost use Rattle.std.specs.Prelude.{◌≡◌, ◌<◌, ◌≤◌, ◌++◌, ◌∷◌, [], length, if◌then◌else◌, IfOk, OnOk};
 ghost use Rattle.mn_ledger.specs.Places.{loopback};
-ghost use Rattle.mn_routing_model.specs.Sending.{is_steady, peers_from};
+ghost use Rattle.mn_routing_laws.specs.Sending.{is_steady, peers_from};
 ghost use Rattle.mn_reflect_telling.specs.Telling.{posted, letter_of};
 
 use mn_base::NodeNo;

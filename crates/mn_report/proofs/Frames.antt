@@ -9,8 +9,8 @@ use Rattle.mn_stack.specs.Reading.{frame_of}
 use Rattle.mn_lfib.specs.declared.answer.Forwarded.{Forwarded}
 use Rattle.mn_topo.specs.Network.{Network}
 use Rattle.mn_topo.specs.declared.steps.JournalEntry.{JournalEntry}
-use Rattle.mn_shown.specs.Shown.{shown}
-use Rattle.mn_output.specs.Shown.{unread_name, unread_text, outcome_text, read_text, frame_line, said_line}
+use Rattle.mn_shown_laws.specs.Shown.{shown}
+use Rattle.mn_output_laws.specs.Shown.{unread_name, unread_text, outcome_text, read_text, frame_line, said_line}
 use Rattle.mn_tables.specs.Telling.{Stand, Tells}
 use Rattle.mn_tables.proofs.Telling.{Answer, tells_as}
 use Rattle.mn_report.specs.Frames.{packet_of}

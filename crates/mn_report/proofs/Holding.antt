@@ -13,7 +13,7 @@ use Rattle.mn_prefix.proofs.Tables.{same_exact}
 use Rattle.mn_ledger.specs.Exports.{comes_before}
 use Rattle.mn_ledger.specs.Held.{HeldRoute, matching, unbeaten, first_of, is_better}
 use Rattle.mn_ledger.proofs.Choice.{none_matches}
-use Rattle.mn_net.specs.Tables.{prefixes_of, best_for, best_at}
+use Rattle.mn_ledger.specs.Heads.{prefixes_of, best_for, best_at}
 
 all_stay : {A : Type 0} (test : A → Bool) (xs : List A) → ((y : A) → In xs y → test y ≡ true) → filter test xs ≡ xs
 all_stay test [] pass = refl

@@ -12,11 +12,11 @@ use Rattle.mn_ledger.specs.declared.verdict.Verdict.{Verdict}
 use Rattle.mn_ledger.specs.declared.verdict.Verdict.TheVariants.{Delivered, Dropped, Flying}
 use Rattle.mn_ledger.specs.Packets.{Packets}
 use Rattle.mn_ledger.specs.Verdicts.{verdict_on}
-use Rattle.mn_course.specs.Expansion.{SentLine}
+use Rattle.mn_course_laws.specs.Expansion.{SentLine}
 use Rattle.mn_lines.specs.declared.lines.Sent.{Sent}
 use Rattle.mn_lines.specs.Names.{names_of}
 use Rattle.mn_lines.specs.Lines.{packet_line}
-use Rattle.mn_output.specs.Report.{packet_lines, count, is_delivered, is_dropped, is_flying}
+use Rattle.mn_output_laws.specs.Report.{packet_lines, count, is_delivered, is_dropped, is_flying}
 use Rattle.mn_tables.specs.Telling.{Stand, Tells, Told}
 use Rattle.mn_tables.proofs.Telling.{Answer, IsErrOnly, told_nothing, told_more, told_by, tells_as, tells_within}
 use Rattle.mn_report.specs.declared.total.Counts.{Counts}
@@ -54,7 +54,7 @@ row_left topology packets sendings i d below there each =
     drop_more (map sending_of sendings) i (sending_of d) (rw length-map below)
     ∙ ap (λ x. x ∷ drop (i + 1) (map sending_of sendings)) (get_or-map sending_of sendings i d (sending_of d) below) in
     let judged : drop i packets.verdicts ≡ verdict_on packets i ∷ drop (i + 1) packets.verdicts =
-    drop_more packets.verdicts i (Delivered (record { 0 = 0 }) 0 0) there in
+    drop_more packets.verdicts i (Delivered 0 (record { 0 = 0 }) 0) there in
     let gone : drop i packets.paths ≡ slice_index_or packets.paths i [] ∷ drop (i + 1) packets.paths = drop_more packets.paths i [] here in
     ap (λ xs. packet_lines topology (i + 1) xs (drop i packets.verdicts) (drop i packets.paths)) sent
     ∙ ap (λ vs. packet_lines topology (i + 1) (sending_of (get_or sendings i d) ∷ drop (i + 1) (map sending_of sendings)) vs (drop i packets.paths)) judged
@@ -156,9 +156,9 @@ is_counted : (test : Verdict → Bool) (verdicts : List Verdict) (verdict : Verd
 is_counted test verdicts verdict one = let more = counted_more test verdicts verdict in omega arith
 
 with_one : (verdicts : List Verdict) (verdict : Verdict) → with_verdict (counts_of verdicts) verdict ≡ counts_of (verdicts ++ verdict ∷ [])
-with_one verdicts (Delivered site ttl copy) =
-    same_counts _ _ _ _ _ _ (is_counted is_delivered verdicts (Delivered site ttl copy) refl) (not_counted is_dropped verdicts (Delivered site ttl copy) refl)
-    (not_counted is_flying verdicts (Delivered site ttl copy) refl)
+with_one verdicts (Delivered ttl site copy) =
+    same_counts _ _ _ _ _ _ (is_counted is_delivered verdicts (Delivered ttl site copy) refl) (not_counted is_dropped verdicts (Delivered ttl site copy) refl)
+    (not_counted is_flying verdicts (Delivered ttl site copy) refl)
 with_one verdicts (Dropped rule node) =
     same_counts _ _ _ _ _ _ (not_counted is_delivered verdicts (Dropped rule node) refl) (is_counted is_dropped verdicts (Dropped rule node) refl)
     (not_counted is_flying verdicts (Dropped rule node) refl)
@@ -167,11 +167,11 @@ with_one verdicts (Flying link dir) =
     (is_counted is_flying verdicts (Flying link dir) refl)
 
 pub counted_next : (verdicts : List Verdict) (i : ℕ) (verdict : Verdict) (counts : Counts) → i < length verdicts →
-    verdict ≡ slice_index_or verdicts i (Delivered (record { 0 = 0 }) 0 0)
+    verdict ≡ slice_index_or verdicts i (Delivered 0 (record { 0 = 0 }) 0)
     → counts ≡ counts_of (take i verdicts) → with_verdict counts verdict ≡ counts_of (take (i + 1) verdicts)
 counted_next verdicts i verdict counts below is_verdict is_counts =
     ap (λ (c : Counts). with_verdict c verdict) is_counts ∙ with_one (take i verdicts) verdict
-    ∙ ap counts_of (ap (λ v. take i verdicts ++ v ∷ []) is_verdict ∙ sym (take_more verdicts i (Delivered (record { 0 = 0 }) 0 0) below))
+    ∙ ap counts_of (ap (λ v. take i verdicts ++ v ∷ []) is_verdict ∙ sym (take_more verdicts i (Delivered 0 (record { 0 = 0 }) 0) below))
 
 -- each is at most the number of verdicts
 pub record AreWithin (counts : Counts) (n : ℕ) : Type 0 where
@@ -180,7 +180,7 @@ pub record AreWithin (counts : Counts) (n : ℕ) : Type 0 where
   pub flying : counts.flying ≤ n
 
 within_next : (counts : Counts) (verdict : Verdict) (n : ℕ) → AreWithin counts n → AreWithin (with_verdict counts verdict) (n + 1)
-within_next counts (Delivered site ttl copy) n h = record { delivered = omega arith; dropped = omega arith; flying = omega arith }
+within_next counts (Delivered ttl site copy) n h = record { delivered = omega arith; dropped = omega arith; flying = omega arith }
 within_next counts (Dropped rule node) n h = record { delivered = omega arith; dropped = omega arith; flying = omega arith }
 within_next counts (Flying link dir) n h = record { delivered = omega arith; dropped = omega arith; flying = omega arith }
 

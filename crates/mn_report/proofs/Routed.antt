@@ -6,17 +6,17 @@ use Rattle.mn_vrf.specs.declared.source.Source.{Source}
 use Rattle.mn_vrf.specs.declared.source.Source.TheVariants as from
 use Rattle.mn_ledger.specs.Held.{HeldRoute}
 use Rattle.mn_ledger.specs.Held as ledger_held
-use Rattle.mn_frames.specs.Given.{Labelling, label_at}
+use Rattle.mn_frame_laws.specs.Given.{Labelling, label_at}
 use Rattle.mn_base.specs.declared.numbers.SiteNo.{SiteNo}
 use Rattle.mn_base.specs.declared.numbers.VrfNo.{VrfNo}
 use Rattle.mn_base.specs.declared.numbers.NodeNo.{NodeNo}
 use Rattle.mn_base.specs.declared.numbers.Rd.{Rd}
 use Rattle.mn_pe.specs.Entries.{as_held, source_of}
-use Rattle.mn_net.specs.Tables.{prefixes_of, best_for, best_at, held_at}
+use Rattle.mn_ledger.specs.Heads.{prefixes_of, best_for, best_at, held_at}
 use Rattle.mn_topo.specs.Network.{Network}
 use Rattle.mn_ledger.specs.World.{World}
 use Rattle.mn_ledger.specs.Places.{edge_of}
-use Rattle.mn_output.specs.Tables.{vrf_name, source_text, mark_text, route_line, marked_line, shown_among, shown_line}
+use Rattle.mn_output_laws.specs.Tables.{vrf_name, source_text, mark_text, route_line, marked_line, shown_among, shown_line}
 use Rattle.mn_text.specs.Addresses.{prefix_text}
 use Rattle.mn_lines.specs.Lines.{text}
 use Rattle.mn_report.specs.Routes.{IsShown}

@@ -9,7 +9,7 @@ use Rattle.mn_topo.specs.VrfTable.{is_edge}
 use Rattle.mn_ledger.specs.World.{World}
 use Rattle.mn_ledger.specs.Transport.{view_of}
 use Rattle.mn_ledger.specs.Places.{edges}
-use Rattle.mn_output.specs.Tables.{tree_line, tree_lines, bgp_line, bgp_lines}
+use Rattle.mn_output_laws.specs.Tables.{tree_line, tree_lines, bgp_line, bgp_lines}
 use Rattle.mn_tables.proofs.Telling.{flat_filter}
 use Rattle.mn_report.specs.Rows.{walk_row, pair_row, edge_rows}
 

@@ -12,10 +12,10 @@ use Rattle.mn_ledger.specs.World.{World}
 use Rattle.mn_ledger.specs.Held.{HeldRoute}
 use Rattle.mn_ledger.specs.Eligible.{is_resolved, only_if}
 use Rattle.mn_ledger.proofs.OneKind.{one_passes}
-use Rattle.mn_frames.specs.Given.{Labelling}
+use Rattle.mn_frame_laws.specs.Given.{Labelling}
 use Rattle.mn_vrf.specs.declared.source.Source.{Source}
 use Rattle.mn_pe.specs.Entries.{source_of}
-use Rattle.mn_output.specs.Tables.{best_for}
+use Rattle.mn_ledger.specs.Heads.{best_for}
 use Rattle.mn_report.specs.Routes.{IsShown}
 use Rattle.mn_report.proofs.Holding.{none_best, best_has, same_as_itself}
 

@@ -3,7 +3,7 @@ use Rattle.std.proofs.Common.{◌≡◌, ℕ, List, Option, Ok, Err, OnOk, OnErr
 use Rattle.mn_topo.specs.Network.{Network}
 use Rattle.mn_topo.specs.declared.steps.JournalEntry.{JournalEntry}
 use Rattle.mn_script.specs.declared.command.Show.{Show}
-use Rattle.mn_output.specs.Tables.{table_text}
+use Rattle.mn_output_laws.specs.Tables.{table_text}
 use Rattle.mn_lines.specs.Putting.{Puts, PutsPart}
 use Rattle.mn_tables.specs.Telling.{Stand, Tells}
 use Rattle.mn_tables.proofs.Telling.{Answer}

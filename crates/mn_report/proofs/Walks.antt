@@ -7,7 +7,7 @@ use Rattle.mn_linkdb.specs.PathTable.{PathTable, dist_at, next_at}
 use Rattle.mn_linkdb.specs.Trees.{IsTree, hop_alone}
 use Rattle.mn_topo.specs.Network.{Network, wiring_of}
 use Rattle.mn_topo.specs.Lawful.{IsLawful}
-use Rattle.mn_output.specs.Tables.{tree_line}
+use Rattle.mn_output_laws.specs.Tables.{tree_line}
 use Rattle.mn_tables.specs.Telling.{Stand, Tells}
 use Rattle.mn_tables.proofs.Telling.{Answer}
 

@@ -8,7 +8,7 @@ use Rattle.mn_ledger.specs.Verdicts.{verdict_on}
 use Rattle.mn_lines.specs.declared.lines.Sent.{Sent}
 use Rattle.mn_lines.specs.Names.{names_of}
 use Rattle.mn_lines.specs.Lines.{packet_line}
-use Rattle.mn_output.specs.Report.{count, is_delivered, is_dropped, is_flying}
+use Rattle.mn_output_laws.specs.Report.{count, is_delivered, is_dropped, is_flying}
 use Rattle.mn_report.specs.declared.total.Counts.{Counts}
 
 -- the packet of a number from 0, which this injection sent
@@ -22,6 +22,6 @@ counts_of verdicts = record { delivered = count is_delivered verdicts; dropped =
 
 -- with one verdict more
 abbrev pub with_verdict : Counts → Verdict → Counts
-with_verdict counts (Delivered site ttl copy) = record { delivered = counts.delivered + 1; dropped = counts.dropped; flying = counts.flying }
+with_verdict counts (Delivered ttl site copy) = record { delivered = counts.delivered + 1; dropped = counts.dropped; flying = counts.flying }
 with_verdict counts (Dropped rule node) = record { delivered = counts.delivered; dropped = counts.dropped + 1; flying = counts.flying }
 with_verdict counts (Flying link dir) = record { delivered = counts.delivered; dropped = counts.dropped; flying = counts.flying + 1 }

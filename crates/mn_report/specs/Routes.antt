@@ -5,10 +5,11 @@ use Rattle.mn_topo.specs.Network.{Network}
 use Rattle.mn_ledger.specs.Places.{edge_of}
 use Rattle.mn_ledger.specs.World.{World}
 use Rattle.mn_ledger.specs.Held.{HeldRoute}
-use Rattle.mn_frames.specs.Given.{Labelling}
+use Rattle.mn_frame_laws.specs.Given.{Labelling}
 use Rattle.mn_pe.specs.Entries.{source_of}
 use Rattle.mn_vrf.specs.declared.source.Source.{Source}
-use Rattle.mn_output.specs.Tables.{best_for, is_unresolved, shown_among}
+use Rattle.mn_ledger.specs.Heads.{best_for}
+use Rattle.mn_output_laws.specs.Tables.{is_unresolved, shown_among}
 
 -- the route of a prefix whose line is put, by its source and whether it isn't resolved
 pub record IsShown (topology : Network) (world : World) (given : Labelling) (v : ℕ) (routes : List HeldRoute) (prefix : AddressBlock) (source : Source)

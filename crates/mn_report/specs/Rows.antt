@@ -4,7 +4,7 @@ use Rattle.mn_topo.specs.Network.{Network, wiring_of}
 use Rattle.mn_topo.specs.VrfTable.{is_edge}
 use Rattle.mn_ledger.specs.World.{World}
 use Rattle.mn_ledger.specs.Transport.{view_of}
-use Rattle.mn_output.specs.Tables.{bgp_line, bgp_lines, tree_line}
+use Rattle.mn_output_laws.specs.Tables.{bgp_line, bgp_lines, tree_line}
 
 -- towards another node, and none towards the node itself
 abbrev pub walk_row : Network → World → ℕ → ℕ → List ℕ

@@ -2,12 +2,12 @@
 use Rattle.std.specs.Prelude.{ℕ, List, length, codes}
 use Rattle.mn_topo.specs.Network.{Network}
 use Rattle.mn_ledger.specs.declared.verdict.Verdict.{Verdict}
-use Rattle.mn_course.specs.Expansion.{SentLine}
+use Rattle.mn_course_laws.specs.Expansion.{SentLine}
 use Rattle.mn_lines.specs.declared.lines.Sent.{Sent}
 use Rattle.mn_lines.specs.declared.lines.Totals.{Totals}
 use Rattle.mn_lines.specs.Lines.{refused_line, cause_text}
 use Rattle.mn_net.specs.Now.{NetNow}
-use Rattle.mn_output.specs.Report.{count, is_delivered, is_dropped, is_flying}
+use Rattle.mn_output_laws.specs.Report.{count, is_delivered, is_dropped, is_flying}
 use Rattle.mn_report.specs.declared.refused.Shown.{Shown}
 use Rattle.mn_report.specs.declared.refused.Shown.TheVariants.{Step, NoRecord}
 

@@ -6,12 +6,12 @@ ghost use Rattle.mn_edge.specs.Faults.{Counted};
 ghost use Rattle.mn_topo.specs.Network.{wiring_of};
 ghost use Rattle.mn_ledger.specs.Items.{flight_of};
 ghost use Rattle.mn_net.specs.Now.{StandsFor};
-ghost use Rattle.mn_output.specs.Tables.{frames_lines, flight_lines};
+ghost use Rattle.mn_output_laws.specs.Tables.{frames_lines, flight_lines};
 ghost use Rattle.mn_tables.specs.Telling.{standing, Tells};
 
 use crate::counts::link_count;
 use mn_base::LinkNo;
-use mn_course::Kind;
+use mn_course_laws::Kind;
 use mn_edge::{DeviceBad, Sink};
 use mn_lines::Page;
 use mn_net::Net;

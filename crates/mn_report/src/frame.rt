@@ -1,6 +1,6 @@
 //! What a node would do with a frame.
 ghost use Rattle.std.specs.Prelude.{◌≡◌, ◌<◌, false, length, Ok};
-ghost use Rattle.mn_output.specs.Shown.{frame_line, read_text, said_line};
+ghost use Rattle.mn_output_laws.specs.Shown.{frame_line, read_text, said_line};
 ghost use Rattle.mn_tables.specs.Telling.{standing, Tells};
 ghost use Rattle.mn_report.specs.Frames.{packet_of};
 
@@ -8,7 +8,7 @@ use mn_base::NodeNo;
 use mn_edge::{DeviceBad, Sink};
 use mn_lines::Page;
 use mn_net::Net;
-use mn_shown::a_table_is_told;
+use mn_shown_laws::a_table_is_told;
 use mn_stack::{Frame, FrameBad};
 use mn_tables::{put_outcome, put_unread};
 use std::alloc::Global;

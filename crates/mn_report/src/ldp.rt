@@ -4,7 +4,7 @@ ghost use Rattle.std.specs.List.{flat_map};
 ghost use Rattle.mn_wiring.specs.Wiring.{links_of};
 ghost use Rattle.mn_topo.specs.Network.{wiring_of};
 ghost use Rattle.mn_ledger.specs.Ledger.{world_of};
-ghost use Rattle.mn_output.specs.Tables.{ldp_line};
+ghost use Rattle.mn_output_laws.specs.Tables.{ldp_line};
 ghost use Rattle.mn_tables.specs.Telling.{standing, Tells};
 
 use crate::counts::link_count;

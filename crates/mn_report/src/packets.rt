@@ -6,7 +6,7 @@ ghost use Rattle.mn_edge.specs.Faults.{Counted};
 ghost use Rattle.mn_ledger.specs.Ledger.{packets_of};
 ghost use Rattle.mn_lines.specs.Putting.{Puts, PutsPart};
 ghost use Rattle.mn_net.specs.Now.{StandsFor};
-ghost use Rattle.mn_output.specs.Report.{packet_lines};
+ghost use Rattle.mn_output_laws.specs.Report.{packet_lines};
 ghost use Rattle.mn_tables.specs.Telling.{standing, Tells};
 ghost use Rattle.mn_report.specs.Packets.{packet_row};
 ghost use Rattle.mn_report.specs.Shown.{sending_of};

@@ -3,11 +3,12 @@ ghost use Rattle.std.specs.Prelude.{◌≡◌, ◌<◌, false, length, ℕ, Some
 ghost use Rattle.mn_text.specs.Addresses.{prefix_text};
 ghost use Rattle.mn_ledger.specs.Held.{HeldRoute};
 ghost use Rattle.mn_ledger.specs.Ledger.{world_of};
-ghost use Rattle.mn_frames.specs.Given.{Labelling, given};
+ghost use Rattle.mn_frame_laws.specs.Given.{Labelling, given};
 ghost use Rattle.mn_pe.specs.Entries.{source_of};
 ghost use Rattle.mn_ledger.specs.Places.{edge_of};
-ghost use Rattle.mn_frames.specs.Entries.{AreWays};
-ghost use Rattle.mn_output.specs.Tables.{best_for, marked_line, shown_lines, held_in};
+ghost use Rattle.mn_frame_laws.specs.Entries.{AreWays};
+ghost use Rattle.mn_ledger.specs.Heads.{best_for};
+ghost use Rattle.mn_output_laws.specs.Tables.{marked_line, shown_lines, held_in};
 ghost use Rattle.mn_report.specs.Routes.{IsShown};
 ghost use Rattle.mn_tables.specs.Telling.{standing, Tells};
 

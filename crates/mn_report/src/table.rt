@@ -6,7 +6,7 @@ ghost use Rattle.mn_script.specs.Lines.{command_fits, show_fits};
 ghost use Rattle.mn_script.specs.declared.command.Command.TheVariants as command;
 ghost use Rattle.mn_lines.specs.Putting.{Puts, PutsPart};
 ghost use Rattle.mn_net.specs.Now.{StandsFor};
-ghost use Rattle.mn_output.specs.Tables.{table_text};
+ghost use Rattle.mn_output_laws.specs.Tables.{table_text};
 ghost use Rattle.mn_tables.specs.Telling.{standing, Tells};
 ghost use Rattle.mn_report.specs.Frames.{packet_of};
 

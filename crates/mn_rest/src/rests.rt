@@ -134,7 +134,8 @@ impl Rests {
 
     /// Whether the tick is late enough that frames which were sent before a FEC's rest may have ended.
     pub fn may_have_rested(&self, tick: u64) -> bool
-        ensures { result ≡ false → (fec : ℕ) → nat_lt (slice_index_or self.now.rested fec 0 + self.now.life) tick ≡ false }
+        ensures exact { result ≡ nat_lt self.now.life tick }
+        ensures none { result ≡ false → (fec : ℕ) → nat_lt (slice_index_or self.now.rested fec 0 + self.now.life) tick ≡ false }
     {
         u64::from(self.life) < tick
     }

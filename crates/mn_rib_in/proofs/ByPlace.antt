@@ -5,7 +5,7 @@ use Rattle.std.specs.declared.cmp.Ordering.TheVariants.{Less, Equal, Greater}
 use Rattle.std.specs.Ordering.{nat_cmp, ordering_then}
 use Rattle.std.proofs.lemmas.Bool.Decides.{nat_tests}
 use Rattle.mn_base.specs.declared.numbers.Rd.{Rd}
-use Rattle.mn_by_key.specs.ByKey.{Goes}
+use Rattle.mn_by_key_laws.specs.ByKey.{Goes}
 use Rattle.mn_prefix.specs.Prefix.{AddressBlock, by_address_then_length}
 use Rattle.mn_rib_in.specs.Heard.{Heard, heard_before}
 use Rattle.mn_rib_in.specs.Kept.{key_of}

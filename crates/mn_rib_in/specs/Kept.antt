@@ -1,7 +1,7 @@
 -- How heard routes are kept: each in an ordered map, at its distinguisher and prefix.
 use Rattle.std.specs.Prelude.{List}
 use Rattle.mn_base.specs.declared.numbers.Rd.{Rd}
-use Rattle.mn_by_key.specs.ByKey.{AreByKey}
+use Rattle.mn_by_key_laws.specs.ByKey.{AreByKey}
 use Rattle.mn_prefix.specs.Prefix.{AddressBlock}
 use Rattle.mn_rib_in.specs.Heard.{Heard, heard_before}
 

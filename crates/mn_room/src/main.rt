@@ -7,11 +7,11 @@
 
 ghost use Rattle.std.specs.Prelude.{◌≡◌, true, IsErrOf};
 ghost use Rattle.mn_ledger.specs.declared.refused.Refused.TheVariants as why;
-ghost use Rattle.mn_net_now.specs.Now.{HasRoom};
-ghost use Rattle.mn_net_now.specs.Done.{TakesOne, is_of_frames};
+ghost use Rattle.mn_net_laws.specs.Now.{HasRoom};
+ghost use Rattle.mn_net_laws.specs.Done.{TakesOne, is_of_frames};
 
 use mn_base::{LinkNo, NodeNo, SiteNo};
-use mn_course::Kind;
+use mn_course_laws::Kind;
 use mn_ledger::Refused;
 use mn_net::Net;
 use mn_test_nets::row;

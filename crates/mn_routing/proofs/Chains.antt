@@ -15,11 +15,11 @@ use Rattle.mn_ledger.specs.Places.{loopback}
 use Rattle.mn_pe.specs.Edge.{Edge, after_message}
 use Rattle.mn_pe.specs.Held.{exports_of}
 use Rattle.mn_pe.specs.Pe.{PeNow}
-use Rattle.mn_routing_model.specs.Whole.{update_of}
-use Rattle.mn_routing_model.specs.Routed.{Routed, working}
-use Rattle.mn_routing_model.specs.Doing.{HasEdge, AreSayable, AreLabelledIn, Puts, edge_at, edge_or_blank, with_edge, with_end, next_on, taken}
-use Rattle.mn_routing_model.specs.Doing.{channel_from, heard_in, answers_in, IsAnswered, MayHear, Hears}
-use Rattle.mn_routing_model.proofs.Opening.{taken_below}
+use Rattle.mn_routing_laws.specs.Whole.{update_of}
+use Rattle.mn_routing_laws.specs.Routed.{Routed, working}
+use Rattle.mn_routing_laws.specs.Doing.{HasEdge, AreSayable, AreLabelledIn, Puts, edge_at, edge_or_blank, with_edge, with_end, next_on, taken}
+use Rattle.mn_routing_laws.specs.Doing.{channel_from, heard_in, answers_in, IsAnswered, MayHear, Hears}
+use Rattle.mn_routing_laws.proofs.Opening.{taken_below}
 
 index_set : {A : Type 0} (xs : List A) (k : ℕ) (x d : A) → k < length xs → slice_index_or (slice_set xs k x) k d ≡ x
 index_set [] k x d h = absurd (let none : k < 0 → ⊥ = (λ p. omega (arith, p)) in none h)

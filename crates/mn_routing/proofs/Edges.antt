@@ -7,12 +7,12 @@ use Rattle.mn_topo.specs.Lawful.{IsLawful}
 use Rattle.mn_topo.specs.declared.steps.JournalEntry.{JournalEntry}
 use Rattle.mn_ledger.specs.Places.{edge_of}
 use Rattle.mn_ledger.specs.Ledger.{world_of}
-use Rattle.mn_laws.proofs.There as there
-use Rattle.mn_frames.specs.Numbers.{labels_of}
+use Rattle.mn_ledger_laws.proofs.There as there
+use Rattle.mn_frame_laws.specs.Numbers.{labels_of}
 use Rattle.mn_pe.specs.Pe.{PeNow}
-use Rattle.mn_routing_model.specs.Routed.{Routed, IsRoutes}
-use Rattle.mn_routing_model.proofs.Home.{is_edge_of}
-use Rattle.mn_routing_model.proofs.Placed.{edge_there}
+use Rattle.mn_routing_laws.specs.Routed.{Routed, IsRoutes}
+use Rattle.mn_routing_laws.proofs.Home.{is_edge_of}
+use Rattle.mn_routing_laws.proofs.Placed.{edge_there}
 
 -- contracts see the edges as `routed` has them, the code as `edges`
 pub within : (t : Network) → IsLawful t → (routed : Routed) (v : ℕ) → v < length t.vrfs → (es : List JournalEntry) → IsRoutes t es routed →

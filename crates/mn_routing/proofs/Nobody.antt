@@ -3,7 +3,7 @@ use Rattle.std.proofs.Common.{◌≡◌, ℕ, suc, true, List, [], ◌∷◌, ar
 use Rattle.std.specs.Prelude.{◌==◌}
 use Rattle.mn_base.proofs.Bools.{same_numbers}
 use Rattle.mn_base.specs.declared.numbers.NodeNo.{NodeNo}
-use Rattle.mn_routing_model.specs.Sending.{to_all}
+use Rattle.mn_routing_laws.specs.Sending.{to_all}
 
 some : (n : ℕ) → suc n ≡ 0 → ⊥
 some n h = omega (arith, h)

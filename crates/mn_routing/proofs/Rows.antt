@@ -10,7 +10,7 @@ use Rattle.mn_bgp_wire.specs.declared.message.BgpMessage.{BgpMessage}
 use Rattle.mn_bgp_wire.specs.declared.refusal.BgpWireBad.{BgpWireBad}
 use Rattle.mn_bgp_wire.specs.declared.refusal.BgpWireBad.TheVariants as bads
 use Rattle.mn_bgp_wire.specs.Reading.{Fails}
-use Rattle.mn_routing_model.proofs.Putting.{below_next, get_row}
+use Rattle.mn_routing_laws.proofs.Putting.{below_next, get_row}
 
 map_set : {R B : Type 0} (f : R → B) (rows : List R) (i : ℕ) (x : R) → map f (slice_set rows i x) ≡ slice_set (map f rows) i (f x)
 map_set f [] i x = refl

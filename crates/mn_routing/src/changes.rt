@@ -6,9 +6,9 @@ ghost use Rattle.mn_vrf.specs.Vrf.{VrfState, add_refused, del_refused, set_refus
 ghost use Rattle.mn_pe.specs.Edge.{vrf_of_site, after_attach, after_detach};
 ghost use Rattle.mn_pe.specs.Pe.{found_in};
 ghost use Rattle.mn_pe.specs.Exports.{exports_at, exports_over, export_of};
-ghost use Rattle.mn_routing_model.specs.Routed.{working};
-ghost use Rattle.mn_routing_model.specs.Sending.{news_in};
-ghost use Rattle.mn_routing_model.specs.Doing.{HasEdge, AreSayable, Puts, AreNews, edge_at, with_edge, those_of, export_set, static_added, static_deleted, MaySetImport, SetsImport, MaySetExport, SetsExport, MayAdd, Adds, MayDel, Dels, MayAttach, Attaches, MayDetach, Detaches};
+ghost use Rattle.mn_routing_laws.specs.Routed.{working};
+ghost use Rattle.mn_routing_laws.specs.Sending.{news_in};
+ghost use Rattle.mn_routing_laws.specs.Doing.{HasEdge, AreSayable, Puts, AreNews, edge_at, with_edge, those_of, export_set, static_added, static_deleted, MaySetImport, SetsImport, MaySetExport, SetsExport, MayAdd, Adds, MayDel, Dels, MayAttach, Attaches, MayDetach, Detaches};
 
 use crate::flying::{steady_peers, tell};
 use crate::routes::Routes;
@@ -34,7 +34,8 @@ fn done(answer: Result<(), VrfBad>) -> Result<(), AllocError>
 
 /// What an edge tells, or want of memory.
 fn told(answer: Result<Vec<Export>, NoMemory>) -> Result<Vec<Export>, AllocError>
-    ensures { IfOk result (λ exports. answer ≡ Ok exports) }
+    ensures told { IfOk result (λ exports. answer ≡ Ok exports) }
+    ensures asked { IsOk answer → IsOk result }
 {
     match answer {
         Ok(exports) => Ok(exports),

@@ -8,15 +8,15 @@ ghost use Rattle.mn_ledger.specs.Held.{held, best};
 ghost use Rattle.mn_ledger.specs.Ledger.{world_of};
 ghost use Rattle.mn_ledger.specs.Lawful.{IsLawfulJournal};
 ghost use Rattle.mn_ledger.specs.Eligible.{eligible};
-ghost use Rattle.mn_frames.specs.Given.{Labelling, given};
-ghost use Rattle.mn_frames.specs.Entries.{AreWays};
+ghost use Rattle.mn_frame_laws.specs.Given.{Labelling, given};
+ghost use Rattle.mn_frame_laws.specs.Entries.{AreWays};
 ghost use Rattle.mn_pe.specs.Header.{destination_of};
-ghost use Rattle.mn_frames.specs.Numbers.{labels_of};
+ghost use Rattle.mn_frame_laws.specs.Numbers.{labels_of};
 ghost use Rattle.mn_pe.specs.Edge.{Edge};
 ghost use Rattle.mn_pe.specs.Entries.{IsItsFate, StandsAtEntry, IsWayOpen, IsBoundBelow, route_for, route_among, entered_at, entered_among};
-ghost use Rattle.mn_routing_model.specs.Sources.{as_held};
-ghost use Rattle.mn_routing_model.specs.Routed.{IsRoutes};
-ghost use Rattle.mn_routing_model.specs.Sending.{bgp_state_by};
+ghost use Rattle.mn_routing_laws.specs.Sources.{as_held};
+ghost use Rattle.mn_routing_laws.specs.Routed.{IsRoutes};
+ghost use Rattle.mn_routing_laws.specs.Sending.{bgp_state_by};
 
 use crate::flying::Messages;
 use mn_base::{NodeNo, SiteNo, VrfNo};
@@ -40,29 +40,18 @@ pub struct Routes {
     /// By node and peer, none where no session lives.
     pub(crate) sessions: Vec<Vec<Option<BgpSession>>>,
     pub(crate) messages: Messages,
-    /// It has wanted memory, and its parts may not fit together any more.
-    pub(crate) failed: bool,
 }
 
 impl Model for Routes {
-    ghost use Rattle.std.specs.Prelude.{map};
-    ghost use Rattle.mn_routing_model.specs.Routed.{Routed, HasChannels};
+    ghost use Rattle.mn_routing_laws.specs.Routed.{Routed, HasChannels};
 
     ghost Value = { Routed };
 
-    ghost view = { λ r. record {
-      edges = r.edges.items;
-      sessions = map (λ row. row.items) r.sessions.items;
-      messages = r.messages.items;
-      failed = r.failed;
-    } };
+    ghost use Rattle.mn_routing.specs.Inside.{routed_in};
 
-    ghost invariant = { λ r. HasChannels (record {
-      edges = r.edges.items;
-      sessions = map (λ row. row.items) r.sessions.items;
-      messages = r.messages.items;
-      failed = r.failed;
-    }) r.messages.channels };
+    ghost view = { routed_in };
+
+    ghost invariant = { λ r. HasChannels (routed_in r) r.messages.channels };
 }
 
 /// What becomes of a packet that a site of an edge sends.

@@ -11,9 +11,9 @@ ghost use Rattle.mn_bgp_session.specs.Table as table;
 ghost use Rattle.mn_ledger.specs.Places.{loopback};
 ghost use Rattle.mn_pe.specs.Edge.{after_message};
 ghost use Rattle.mn_pe.specs.Held.{exports_of};
-ghost use Rattle.mn_routing_model.specs.Whole.{opened, update_of};
-ghost use Rattle.mn_routing_model.specs.Routed.{working};
-ghost use Rattle.mn_routing_model.specs.Doing.{HasEdge, AreSayable, AreLabelledIn, Puts, edge_at, with_edge, with_end, cut as between_cut, open_to, forgotten, next_on, taken, channel_from, MayTurn, Opens, Ends, IsAnswered, MayHear, CanHear, Hears, answers_in};
+ghost use Rattle.mn_routing_laws.specs.Whole.{opened, update_of};
+ghost use Rattle.mn_routing_laws.specs.Routed.{working};
+ghost use Rattle.mn_routing_laws.specs.Doing.{HasEdge, AreSayable, AreLabelledIn, Puts, edge_at, with_edge, with_end, cut as between_cut, open_to, forgotten, next_on, taken, channel_from, MayTurn, Opens, Ends, IsAnswered, MayHear, CanHear, Hears, answers_in};
 
 use crate::flying::{channel_to, cut, loopback_of, send, tell};
 use crate::routes::Routes;
@@ -161,7 +161,7 @@ impl Routes {
     }
 
     /// An edge takes what a message of a peer says of routes.
-    #[tactic(auto, using(mn_routing_model::proofs::Opening::set_same))]
+    #[tactic(auto, using(mn_routing_laws::proofs::Opening::set_same))]
     fn hear_routes(
         &mut self,
         topology: &Topology,

@@ -2,10 +2,10 @@
 ghost use Rattle.std.specs.Prelude.{◌≡◌, ◌<◌, [], None, length, map, replicate, option_map, IfOk};
 ghost use Rattle.mn_topo.specs.Network.{Network};
 ghost use Rattle.mn_ledger.specs.Ledger.{first_config, start as first_world};
-ghost use Rattle.mn_frames.specs.Numbers.{labels_of};
-ghost use Rattle.mn_routing_model.specs.Routed.{IsRoutes, working};
-ghost use Rattle.mn_routing_model.specs.Standing.{edge_in};
-ghost use Rattle.mn_routing_model.specs.Whole.{edge_or_none, routes_in};
+ghost use Rattle.mn_frame_laws.specs.Numbers.{labels_of};
+ghost use Rattle.mn_routing_laws.specs.Routed.{IsRoutes, working};
+ghost use Rattle.mn_routing_laws.specs.Standing.{edge_in};
+ghost use Rattle.mn_routing_laws.specs.Whole.{edge_or_none, routes_in};
 
 use crate::flying::Messages;
 use crate::routes::Routes;
@@ -106,7 +106,6 @@ impl Routes {
             edges,
             sessions,
             messages,
-            failed: false,
         })
     }
 }

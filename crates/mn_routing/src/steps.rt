@@ -2,7 +2,7 @@
 ghost use Rattle.std.specs.Prelude.{◌≡◌, ◌<◌, ◌≤◌, ◌^◌, true, false, IfOk, OnErr, IsErr};
 ghost use Rattle.std.specs.List.{All};
 ghost use Rattle.mn_topo.specs.declared.steps.Step.TheVariants as step;
-ghost use Rattle.mn_routing_model.specs.Steps.{MayDo, Did, MayGive, DidAttach};
+ghost use Rattle.mn_routing_laws.specs.Steps.{MayDo, Did, MayGive, DidAttach};
 
 use crate::routes::Routes;
 use mn_base::{NodeNo, Rt, SiteNo, VrfNo};
@@ -14,8 +14,8 @@ use std::alloc::AllocError;
 impl Routes {
     /// The session of two edges opens, and each says OPEN to the other.
     ///
-    /// It answers how many messages that made, of which the first has the clock's number. After want of memory this and each later
-    /// step answer so.
+    /// It answers how many messages that made, of which the first has the clock's number. After want of memory nothing
+    /// is said of the routes.
     pub fn bgp_up(
         &mut self,
         topology: &Topology,
@@ -26,28 +26,18 @@ impl Routes {
         requires tick { clock.tick ≤ 2 ^ 63 }
         requires numbers { clock.number ≤ 2 ^ 62 }
         requires messages { All (λ item. item.number < clock.number) self.old.messages }
-        requires may { self.old.failed ≡ false → MayDo topology.now (step.BgpUp a b) self.old }
+        requires may { MayDo topology.now (step.BgpUp a b) self.old }
         ensures did { IfOk result (λ made. Did topology.now clock.tick clock.number (step.BgpUp a b) self.old self.new made) }
-        ensures no_memory { OnErr result (self.new.failed ≡ true) }
-        ensures for_good { self.old.failed ≡ true → IsErr result }
     {
         topology.laws();
-        if self.failed {
-            return Err(AllocError);
-        }
-        match self.open(topology, a, b, clock) {
-            Ok(next) => Ok(next - clock.number),
-            Err(_) => {
-                self.failed = true;
-                Err(AllocError)
-            }
-        }
+        let next = self.open(topology, a, b, clock)?;
+        Ok(next - clock.number)
     }
 
     /// It ends: nothing flies between them any more, and each forgets what it heard of the other.
     ///
-    /// It answers how many messages that made, of which the first has the clock's number. After want of memory this and each later
-    /// step answer so.
+    /// It answers how many messages that made, of which the first has the clock's number. After want of memory nothing
+    /// is said of the routes.
     pub fn bgp_down(
         &mut self,
         topology: &Topology,
@@ -57,28 +47,18 @@ impl Routes {
     ) -> Result<u64, AllocError>
         requires tick { clock.tick ≤ 2 ^ 63 }
         requires messages { All (λ item. item.number < clock.number) self.old.messages }
-        requires may { self.old.failed ≡ false → MayDo topology.now (step.BgpDown a b) self.old }
+        requires may { MayDo topology.now (step.BgpDown a b) self.old }
         ensures did { IfOk result (λ made. Did topology.now clock.tick clock.number (step.BgpDown a b) self.old self.new made) }
-        ensures no_memory { OnErr result (self.new.failed ≡ true) }
-        ensures for_good { self.old.failed ≡ true → IsErr result }
     {
         topology.laws();
-        if self.failed {
-            return Err(AllocError);
-        }
-        match self.end(topology, a, b) {
-            Ok(()) => Ok(0),
-            Err(_) => {
-                self.failed = true;
-                Err(AllocError)
-            }
-        }
+        self.end(topology, a, b)?;
+        Ok(0)
     }
 
     /// The second edge hears the next message of the first. It is never refused.
     ///
-    /// It answers how many messages that made, of which the first has the clock's number. After want of memory this and each later
-    /// step answer so.
+    /// It answers how many messages that made, of which the first has the clock's number. After want of memory nothing
+    /// is said of the routes.
     pub fn hear_bgp(
         &mut self,
         topology: &Topology,
@@ -89,28 +69,18 @@ impl Routes {
         requires tick { clock.tick ≤ 2 ^ 63 }
         requires numbers { clock.number ≤ 2 ^ 62 }
         requires messages { All (λ item. item.number < clock.number) self.old.messages }
-        requires may { self.old.failed ≡ false → MayDo topology.now (step.HearBgp a b) self.old }
+        requires may { MayDo topology.now (step.HearBgp a b) self.old }
         ensures did { IfOk result (λ made. Did topology.now clock.tick clock.number (step.HearBgp a b) self.old self.new made) }
-        ensures no_memory { OnErr result (self.new.failed ≡ true) }
-        ensures for_good { self.old.failed ≡ true → IsErr result }
     {
         topology.laws();
-        if self.failed {
-            return Err(AllocError);
-        }
-        match self.hear_next(topology, a, b, clock) {
-            Ok(next) => Ok(next - clock.number),
-            Err(_) => {
-                self.failed = true;
-                Err(AllocError)
-            }
-        }
+        let next = self.hear_next(topology, a, b, clock)?;
+        Ok(next - clock.number)
     }
 
     /// A site's VRF has a prefix over the site, which its edge announces.
     ///
-    /// It answers how many messages that made, of which the first has the clock's number. After want of memory this and each later
-    /// step answer so.
+    /// It answers how many messages that made, of which the first has the clock's number. After want of memory nothing
+    /// is said of the routes.
     pub fn add_route(
         &mut self,
         topology: &Topology,
@@ -121,28 +91,18 @@ impl Routes {
         requires tick { clock.tick ≤ 2 ^ 63 }
         requires numbers { clock.number ≤ 2 ^ 62 }
         requires messages { All (λ item. item.number < clock.number) self.old.messages }
-        requires may { self.old.failed ≡ false → MayDo topology.now (step.AddRoute site prefix) self.old }
+        requires may { MayDo topology.now (step.AddRoute site prefix) self.old }
         ensures did { IfOk result (λ made. Did topology.now clock.tick clock.number (step.AddRoute site prefix) self.old self.new made) }
-        ensures no_memory { OnErr result (self.new.failed ≡ true) }
-        ensures for_good { self.old.failed ≡ true → IsErr result }
     {
         topology.laws();
-        if self.failed {
-            return Err(AllocError);
-        }
-        match self.add_at(topology, site, prefix, clock) {
-            Ok(next) => Ok(next - clock.number),
-            Err(_) => {
-                self.failed = true;
-                Err(AllocError)
-            }
-        }
+        let next = self.add_at(topology, site, prefix, clock)?;
+        Ok(next - clock.number)
     }
 
     /// It has it no longer, and its edge withdraws it.
     ///
-    /// It answers how many messages that made, of which the first has the clock's number. After want of memory this and each later
-    /// step answer so.
+    /// It answers how many messages that made, of which the first has the clock's number. After want of memory nothing
+    /// is said of the routes.
     pub fn del_route(
         &mut self,
         topology: &Topology,
@@ -153,28 +113,18 @@ impl Routes {
         requires tick { clock.tick ≤ 2 ^ 63 }
         requires numbers { clock.number ≤ 2 ^ 62 }
         requires messages { All (λ item. item.number < clock.number) self.old.messages }
-        requires may { self.old.failed ≡ false → MayDo topology.now (step.DelRoute site prefix) self.old }
+        requires may { MayDo topology.now (step.DelRoute site prefix) self.old }
         ensures did { IfOk result (λ made. Did topology.now clock.tick clock.number (step.DelRoute site prefix) self.old self.new made) }
-        ensures no_memory { OnErr result (self.new.failed ≡ true) }
-        ensures for_good { self.old.failed ≡ true → IsErr result }
     {
         topology.laws();
-        if self.failed {
-            return Err(AllocError);
-        }
-        match self.del_at(topology, site, prefix, clock) {
-            Ok(next) => Ok(next - clock.number),
-            Err(_) => {
-                self.failed = true;
-                Err(AllocError)
-            }
-        }
+        let next = self.del_at(topology, site, prefix, clock)?;
+        Ok(next - clock.number)
     }
 
     /// A VRF imports routes that have a target, or no longer does.
     ///
-    /// It answers how many messages that made, of which the first has the clock's number. After want of memory this and each later
-    /// step answer so.
+    /// It answers how many messages that made, of which the first has the clock's number. After want of memory nothing
+    /// is said of the routes.
     pub fn import(
         &mut self,
         topology: &Topology,
@@ -186,28 +136,18 @@ impl Routes {
         requires tick { clock.tick ≤ 2 ^ 63 }
         requires numbers { clock.number ≤ 2 ^ 62 }
         requires messages { All (λ item. item.number < clock.number) self.old.messages }
-        requires may { self.old.failed ≡ false → MayDo topology.now (step.Import vrf target on) self.old }
-        ensures did { IfOk result (λ made. Did topology.now clock.tick clock.number (step.Import vrf target on) self.old self.new made) }
-        ensures no_memory { OnErr result (self.new.failed ≡ true) }
-        ensures for_good { self.old.failed ≡ true → IsErr result }
+        requires may { MayDo topology.now (step.Import vrf on target) self.old }
+        ensures did { IfOk result (λ made. Did topology.now clock.tick clock.number (step.Import vrf on target) self.old self.new made) }
     {
         topology.laws();
-        if self.failed {
-            return Err(AllocError);
-        }
-        match self.set_import(topology, vrf, target, on) {
-            Ok(()) => Ok(0),
-            Err(_) => {
-                self.failed = true;
-                Err(AllocError)
-            }
-        }
+        self.set_import(topology, vrf, target, on)?;
+        Ok(0)
     }
 
     /// A VRF exports its routes with a target, or no longer does. Its edge announces what changes by that, or withdraws it where no target is left.
     ///
-    /// It answers how many messages that made, of which the first has the clock's number. After want of memory this and each later
-    /// step answer so.
+    /// It answers how many messages that made, of which the first has the clock's number. After want of memory nothing
+    /// is said of the routes.
     pub fn export(
         &mut self,
         topology: &Topology,
@@ -219,28 +159,18 @@ impl Routes {
         requires tick { clock.tick ≤ 2 ^ 63 }
         requires numbers { clock.number ≤ 2 ^ 62 }
         requires messages { All (λ item. item.number < clock.number) self.old.messages }
-        requires may { self.old.failed ≡ false → MayDo topology.now (step.Export vrf target on) self.old }
-        ensures did { IfOk result (λ made. Did topology.now clock.tick clock.number (step.Export vrf target on) self.old self.new made) }
-        ensures no_memory { OnErr result (self.new.failed ≡ true) }
-        ensures for_good { self.old.failed ≡ true → IsErr result }
+        requires may { MayDo topology.now (step.Export vrf on target) self.old }
+        ensures did { IfOk result (λ made. Did topology.now clock.tick clock.number (step.Export vrf on target) self.old self.new made) }
     {
         topology.laws();
-        if self.failed {
-            return Err(AllocError);
-        }
-        match self.set_export(topology, vrf, target, on, clock) {
-            Ok(next) => Ok(next - clock.number),
-            Err(_) => {
-                self.failed = true;
-                Err(AllocError)
-            }
-        }
+        let next = self.set_export(topology, vrf, target, on, clock)?;
+        Ok(next - clock.number)
     }
 
     /// A site is detached, and its edge withdraws the routes over it.
     ///
-    /// It answers how many messages that made, of which the first has the clock's number. After want of memory this and each later
-    /// step answer so.
+    /// It answers how many messages that made, of which the first has the clock's number. After want of memory nothing
+    /// is said of the routes.
     pub fn detach(
         &mut self,
         topology: &Topology,
@@ -250,28 +180,18 @@ impl Routes {
         requires tick { clock.tick ≤ 2 ^ 63 }
         requires numbers { clock.number ≤ 2 ^ 62 }
         requires messages { All (λ item. item.number < clock.number) self.old.messages }
-        requires may { self.old.failed ≡ false → MayDo topology.now (step.Detach site) self.old }
+        requires may { MayDo topology.now (step.Detach site) self.old }
         ensures did { IfOk result (λ made. Did topology.now clock.tick clock.number (step.Detach site) self.old self.new made) }
-        ensures no_memory { OnErr result (self.new.failed ≡ true) }
-        ensures for_good { self.old.failed ≡ true → IsErr result }
     {
         topology.laws();
-        if self.failed {
-            return Err(AllocError);
-        }
-        match self.detach_at(topology, site, clock) {
-            Ok(next) => Ok(next - clock.number),
-            Err(_) => {
-                self.failed = true;
-                Err(AllocError)
-            }
-        }
+        let next = self.detach_at(topology, site, clock)?;
+        Ok(next - clock.number)
     }
 
     /// A site is attached anew with a label, which is the next one of its edge, and the edge announces the routes over it.
     ///
-    /// It answers how many messages that made, of which the first has the clock's number. After want of memory this and each later
-    /// step answer so.
+    /// It answers how many messages that made, of which the first has the clock's number. After want of memory nothing
+    /// is said of the routes.
     pub fn attach(
         &mut self,
         topology: &Topology,
@@ -282,21 +202,11 @@ impl Routes {
         requires tick { clock.tick ≤ 2 ^ 63 }
         requires numbers { clock.number ≤ 2 ^ 62 }
         requires messages { All (λ item. item.number < clock.number) self.old.messages }
-        requires may { self.old.failed ≡ false → MayGive topology.now site label self.old }
+        requires may { MayGive topology.now site label self.old }
         ensures did { IfOk result (λ made. DidAttach topology.now clock.tick clock.number site label self.old self.new made) }
-        ensures no_memory { OnErr result (self.new.failed ≡ true) }
-        ensures for_good { self.old.failed ≡ true → IsErr result }
     {
         topology.laws();
-        if self.failed {
-            return Err(AllocError);
-        }
-        match self.attach_at(topology, site, label, clock) {
-            Ok(next) => Ok(next - clock.number),
-            Err(_) => {
-                self.failed = true;
-                Err(AllocError)
-            }
-        }
+        let next = self.attach_at(topology, site, label, clock)?;
+        Ok(next - clock.number)
     }
 }

@@ -5,8 +5,8 @@ use Rattle.std.specs.Prelude.{cond, codes}
 use Rattle.mn_base.specs.Limits.{most_script_lines}
 use Rattle.mn_ledger.specs.Ledger.{packets_of}
 use Rattle.mn_lines.specs.Lines.{total_line}
-use Rattle.mn_output.specs.Report.{totals_of}
-use Rattle.mn_output.proofs.Sendings.{each_packet_has_its_line}
+use Rattle.mn_output_laws.specs.Report.{totals_of}
+use Rattle.mn_output_laws.proofs.Sendings.{each_packet_has_its_line}
 use Rattle.mn_join_run.specs.Memory.{packets_at}
 use Rattle.mn_edge.specs.Files.{Files, file}
 use Rattle.mn_edge.specs.Written.{laid}
@@ -15,9 +15,9 @@ use Rattle.mn_topo.specs.Lawful.{IsLawful}
 use Rattle.mn_topo.specs.Network.{Network}
 use Rattle.mn_topo_toml.specs.Topology.{topology_of}
 use Rattle.mn_script.specs.Script.{AllFit}
-use Rattle.mn_course.specs.Course.{inputs_of}
-use Rattle.mn_course.specs.Expansion.{Expansion, expanded}
-use Rattle.mn_course.specs.Lawful.{IsLawfulRun}
+use Rattle.mn_course_laws.specs.Course.{inputs_of}
+use Rattle.mn_course_laws.specs.Expansion.{Expansion, expanded}
+use Rattle.mn_course_laws.specs.Lawful.{IsLawfulRun}
 use Rattle.mn_answer.specs.declared.outcome.Limit.TheVariants.{Steps}
 use Rattle.mn_answer.specs.declared.outcome.Outcome.{Outcome}
 use Rattle.mn_answer.specs.declared.outcome.Outcome.TheVariants.{Done, Usage, BadTopology, BadScript, BadCapture, BadSecond, BadJoints, TooLarge, ReadFault, WriteFault, NoMemory}
@@ -26,10 +26,10 @@ use Rattle.mn_run.specs.declared.words.Job.TheVariants.{Run, Check, Flood, Refle
 use Rattle.mn_run.specs.Words.{word}
 use Rattle.mn_run.specs.Answer.{run_done, checked}
 use Rattle.mn_answer.specs.Endings.{OutcomeIs, FilesAre, TextIs}
-use Rattle.mn_laws.proofs.Accounted.{accounts}
-use Rattle.mn_course.proofs.Entered.{lawful_run}
-use Rattle.mn_arrival.proofs.Arriving.{it_arrives}
-use Rattle.mn_arrival.proofs.Resolving.{arrives_where_it_can}
+use Rattle.mn_ledger_laws.proofs.Accounted.{accounts}
+use Rattle.mn_course_laws.proofs.Entered.{lawful_run}
+use Rattle.mn_arrival_laws.proofs.Arriving.{it_arrives}
+use Rattle.mn_arrival_laws.proofs.Resolving.{arrives_where_it_can}
 use Rattle.mn_capture.specs.Packets.{packets_in}
 use Rattle.mn_run.specs.declared.load.Inputs.{Inputs}
 use Rattle.mn_run.specs.Jobs.{AreRead, AreMade}

@@ -10,7 +10,7 @@ use Rattle.mn_capture.specs.Packets.{packets_in}
 use Rattle.mn_answer.specs.declared.outcome.Outcome.{Outcome}
 use Rattle.mn_answer.specs.declared.outcome.Outcome.TheVariants.{Done, Usage, ReadFault, NoMemory}
 use Rattle.mn_answer.specs.Answer.{refusal_of}
-use Rattle.mn_answer.specs.Endings.{Answers, OutcomeIs, TextIs, CausedBy}
+use Rattle.mn_answer.specs.Endings.{Answers, OutcomeIs, TextIs, SinkCausedBy}
 use Rattle.mn_answer.specs.Inputs.{TopologyIs}
 use Rattle.mn_answer.proofs.Ending.{sink_answers, fault_answers, memory_answers}
 use Rattle.mn_flood_run.specs.Answer.{flood_answer}
@@ -66,9 +66,9 @@ run_ends words inputs files after before written o read named is_lawful fits few
     done m is = played m is (read m is).over.bytes (ap (file m) named ∙ (read m is).over.there)
 
 -- the topology was told
-pub check_ends : (words : List (List ℕ)) (t : Network) (files after : Option Files) (before written : Option (List ℕ)) (old new : ℕ) (o : Outcome) →
+pub check_ends : (words : List (List ℕ)) (t : Network) (files after : Option Files) (before written : Option (List ℕ)) (old new : Option ℕ) (o : Outcome) →
     ((m : Files) → files ≡ Some m → TopologyIs (file m (word words 1)) (Ok t)) → after ≡ files →
-    OutcomeIs (Some (checked t)) o → ForSome before (λ text. TextIs (Some (checked t)) text written o) → CausedBy (0, 0, old) (0, 0, new) o →
+    OutcomeIs (Some (checked t)) o → ForSome before (λ text. TextIs (Some (checked t)) text written o) → SinkCausedBy old new o →
     Ends Check words files after before written o
 check_ends words t files after before written old new o read same outcome text cause = record {
   answers = λ m is.
@@ -113,8 +113,8 @@ join_ends words files after before written o answers told = record {
 }
 
 -- the generator's run was played
-pub generate_ends : (words : List (List ℕ)) (number : ℕ) (files : Option Files) (before written : Option (List ℕ)) (old new : ℕ) (o : Outcome) →
-    OutcomeIs (generated number) o → ForSome before (λ text. TextIs (generated number) text written o) → CausedBy (0, 0, old) (0, 0, new) o →
+pub generate_ends : (words : List (List ℕ)) (number : ℕ) (files : Option Files) (before written : Option (List ℕ)) (old new : Option ℕ) (o : Outcome) →
+    OutcomeIs (generated number) o → ForSome before (λ text. TextIs (generated number) text written o) → SinkCausedBy old new o →
     ForSome before (λ text. IsGenerated number text written o) → Ends (Generate number) words files files before written o
 generate_ends words number files before written old new o outcome text cause told = record {
   answers = λ m is. sink_answers (generated number) m files before written old new o (generated_writes number) is outcome text cause;
@@ -126,10 +126,10 @@ generate_ends words number files before written old new o outcome text cause tol
     same_number n k e = cc
 
 -- an input was refused
-pub refusal_ends : (job : Job) (words : List (List ℕ)) (refused : Outcome) (files after : Option Files) (before written : Option (List ℕ)) (old new : ℕ)
+pub refusal_ends : (job : Job) (words : List (List ℕ)) (refused : Outcome) (files after : Option Files) (before written : Option (List ℕ)) (old new : Option ℕ)
     (o : Outcome) → ((number : ℕ) → job ≡ Generate number → ⊥) → ((m : Files) → files ≡ Some m → job_answer job words m ≡ Some (refusal_of refused)) →
     after ≡ files → OutcomeIs (Some (refusal_of refused)) o → ForSome before (λ text. TextIs (Some (refusal_of refused)) text written o) →
-    CausedBy (0, 0, old) (0, 0, new) o → (o ≡ Done → ⊥) → Ends job words files after before written o
+    SinkCausedBy old new o → (o ≡ Done → ⊥) → Ends job words files after before written o
 refusal_ends job words refused files after before written old new o none is_refused same outcome text cause not = record {
   answers = λ m is.
       subst (λ a. Answers a m after before written o) (sym (is_refused m is))
@@ -139,8 +139,8 @@ refusal_ends job words refused files after before written old new o none is_refu
 }
 
 -- the words ask for nothing that the program does
-pub usage_ends : (words : List (List ℕ)) (files : Option Files) (before written : Option (List ℕ)) (old new : ℕ) (o : Outcome) →
-    OutcomeIs (Some (refusal_of Usage)) o → ForSome before (λ text. TextIs (Some (refusal_of Usage)) text written o) → CausedBy (0, 0, old) (0, 0, new) o →
+pub usage_ends : (words : List (List ℕ)) (files : Option Files) (before written : Option (List ℕ)) (old new : Option ℕ) (o : Outcome) →
+    OutcomeIs (Some (refusal_of Usage)) o → ForSome before (λ text. TextIs (Some (refusal_of Usage)) text written o) → SinkCausedBy old new o →
     (o ≡ Done → ⊥) → Ends Nothing words files files before written o
 usage_ends words files before written old new o outcome text cause not =
     refusal_ends Nothing words Usage files files before written old new o nothing_makes_none (λ m is. refl) refl outcome text cause not

@@ -1,24 +1,21 @@
 -- Each drain of a script is bounded, and settles the network.
-use Rattle.std.proofs.Common.{◌≡◌, ◌≤◌, ◌+◌, ◌*◌, ◌^◌, ℕ, suc, true, false, List, [], ◌∷◌, ◌++◌, length, length-append, sym, ◌∙◌, ap, subst, arith, Option, None}
+use Rattle.std.proofs.Common.{◌≡◌, ◌≤◌, ◌+◌, ◌*◌, ◌^◌, ℕ, suc, true, List, [], ◌∷◌, ◌++◌, length, length-append, sym, ◌∙◌, ap, subst, arith}
 use Rattle.std.proofs.lemmas.List.Elements.{All-nil, All-cons, All-head, All-tail}
-use Rattle.std.specs.List.{All}
 use Rattle.mn_base.specs.Limits.{most_script_lines}
 use Rattle.mn_topo.specs.Lawful.{IsLawful}
 use Rattle.mn_topo.specs.Network.{Network}
-use Rattle.mn_script.specs.declared.command.Command.{Command}
-use Rattle.mn_script.specs.declared.command.Command.TheVariants.{Drain}
 use Rattle.mn_script.specs.declared.command.Line.{Line}
 use Rattle.mn_script.specs.Lines.{command_fits}
 use Rattle.mn_script.specs.Script.{AllFit}
 use Rattle.mn_ledger.proofs.Refusals.{few_entries}
-use Rattle.mn_course.specs.Course.{Past, inputs_of, played}
-use Rattle.mn_course.specs.Drains.{DrainsAll}
-use Rattle.mn_course.specs.Expansion.{expanded}
-use Rattle.mn_course.specs.Lawful.{IsLawfulRun}
-use Rattle.mn_course.specs.Paced.{IsPaced}
-use Rattle.mn_course.proofs.Draining.{drains_all}
-use Rattle.mn_course.proofs.Entered.{lawful_run}
-use Rattle.mn_course.proofs.Pace.{expanded_paced}
+use Rattle.mn_course_laws.specs.Course.{Past, inputs_of, played}
+use Rattle.mn_course_laws.specs.Drains.{DrainsAll}
+use Rattle.mn_course_laws.specs.Expansion.{expanded}
+use Rattle.mn_course_laws.specs.Lawful.{IsLawfulRun}
+use Rattle.mn_course_laws.specs.Paced.{IsPaced}
+use Rattle.mn_course_laws.proofs.Draining.{drains_all}
+use Rattle.mn_course_laws.proofs.Entered.{lawful_run}
+use Rattle.mn_course_laws.proofs.Pace.{expanded_paced}
 use Rattle.mn_run.specs.Headline.{DrainsEach}
 
 -- over as many lines and steps as there may be, the clock comes nowhere near its end

@@ -11,7 +11,7 @@ use Rattle.mn_pcap.specs.Reading as pcap
 use Rattle.mn_pcap.specs.Reading.{count_of}
 use Rattle.mn_pcap.specs.declared.refusal.PcapBad.{PcapBad}
 use Rattle.mn_pcap.specs.declared.refusal.PcapBad.TheVariants as bad
-use Rattle.mn_course.specs.Expansion.{expanded}
+use Rattle.mn_course_laws.specs.Expansion.{expanded}
 use Rattle.mn_gen.specs.Topology.{topology_text}
 use Rattle.mn_gen.specs.Script.{script_text}
 use Rattle.mn_gen.specs.Capture.{capture_bytes}
@@ -32,7 +32,7 @@ use Rattle.mn_answer.specs.Answer.{if_captured, with_capture_bytes, most_capture
 use Rattle.mn_answer.specs.Inputs.{TopologyIs}
 use Rattle.mn_run.specs.Answer.{generated_line, generated_done, generated_over, generated}
 use Rattle.mn_base.specs.Limits.{most_script_lines}
-use Rattle.mn_answer.specs.Endings.{OutcomeIs, TextIs, CausedBy}
+use Rattle.mn_answer.specs.Endings.{OutcomeIs, TextIs, SinkCausedBy}
 use Rattle.mn_run.specs.Jobs.{ScriptIs, ScriptFits, HeldIs, AreMadeOver, MadeOverIs, MadeIs, outcome_of}
 use Rattle.mn_answer.proofs.Ending.{WritesNone, topology_bytes_write, script_bytes_write}
 
@@ -116,7 +116,7 @@ module _ (number : ℕ) (t : Network) (lines : List Line) (packets : List (List 
   tells before after (Err fault.Write) h = h
   tells before after (Err fault.NoMemory) h = h
 
-pub sink_blames : (old new : ℕ) (result : Result Ended Fault) → SinkBlamed old new result → CausedBy (0, 0, old) (0, 0, new) (outcome_of result)
+pub sink_blames : (old new : Option ℕ) (result : Result Ended Fault) → SinkBlamed old new result → SinkCausedBy old new (outcome_of result)
 sink_blames old new (Ok ended.All) h = (refl, refl, h)
 sink_blames old new (Ok ended.TooManySteps) h = (refl, refl, h)
 sink_blames old new (Err fault.Read) h = absurd h

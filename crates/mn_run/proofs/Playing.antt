@@ -1,12 +1,14 @@
 -- The end of a played script as the end of the call.
 use Rattle.std.proofs.Common.{◌≡◌, ℕ, cond, List, [], ◌∷◌, Option, Some, Ok, Err, Result, inl, inr, ap}
+use Rattle.std.specs.Prelude.{None, IsSome}
 use Rattle.std.specs.Option.{ForSome}
+use Rattle.mn_edge.specs.FaultLaws.{grew_told}
 use Rattle.mn_edge.specs.Files.{Files, file}
 use Rattle.mn_topo.specs.Network.{Network}
 use Rattle.mn_script.specs.declared.command.Line.{Line}
 use Rattle.mn_capture.specs.Packets.{CaptureView, packets_in}
-use Rattle.mn_course.specs.Expansion.{expanded}
-use Rattle.mn_output.specs.Report as output
+use Rattle.mn_course_laws.specs.Expansion.{expanded}
+use Rattle.mn_output_laws.specs.Report as output
 use Rattle.mn_join_run.specs.Ended.{Ended}
 use Rattle.mn_join_run.specs.Ended.TheVariants as ended
 use Rattle.mn_join_run.specs.Fault.{Fault}
@@ -63,12 +65,14 @@ module _ (folder : List ℕ) (t : Network) (lines : List Line) (packets : List (
   unread m after before written (Err fault.Write) h put = tt
   unread m after before written (Err fault.NoMemory) h put = tt
 
-pub blames : (old new : Counts) (result : Result Ended Fault) → Blamed old new result → CausedBy old new (outcome_of result)
-blames old new (Ok ended.All) h = h
-blames old new (Ok ended.TooManySteps) h = h
-blames old new (Err fault.Read) h = h
-blames old new (Err fault.Write) h = h
-blames old new (Err fault.NoMemory) h = h
+pub blames : (files : Option Files) (excuse : Type 0) (old new : Counts) (result : Result Ended Fault) → (files ≡ None → IsSome old.0 × IsSome old.1) →
+    ((m : Files) → files ≡ Some m → excuse → ⊥) → Blamed excuse excuse old new result → CausedBy ⊥ old new (outcome_of result)
+blames files excuse old new (Ok ended.All) told none h = h
+blames files excuse old new (Ok ended.TooManySteps) told none h = h
+blames files excuse old new (Err fault.Read) told none h = (grew_told files excuse old.0 new.0 (λ is. (told is).0) none h.0, h.1, h.2)
+blames files excuse old new (Err fault.Write) told none h =
+    (h.0, elim h.1 [ inl p ↦ inl (grew_told files excuse old.1 new.1 (λ is. (told is).1) none p.0, p.1) | inr p ↦ inr p ])
+blames files excuse old new (Err fault.NoMemory) told none h = h
 
 pub no_usage : (result : Result Ended Fault) → outcome_of result ≡ Usage → ⊥
 no_usage (Ok ended.All) h = cc

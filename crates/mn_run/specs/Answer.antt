@@ -3,13 +3,13 @@ use Rattle.std.specs.Prelude.{ℕ, cond, List, [], ◌∷◌, length, Option, So
 use Rattle.std.specs.Fmt.{decimal}
 use Rattle.mn_base.specs.Limits.{most_steps}
 use Rattle.mn_edge.specs.Files.{Files, file}
-use Rattle.mn_course.specs.Expansion.{Expansion, expanded}
+use Rattle.mn_course_laws.specs.Expansion.{Expansion, expanded}
 use Rattle.mn_gen.specs.Topology.{topology_text}
 use Rattle.mn_gen.specs.Script.{script_text}
 use Rattle.mn_gen.specs.Capture.{capture_bytes}
 use Rattle.mn_lines.specs.Lines.{text}
-use Rattle.mn_output.specs.Report.{RunAnswer}
-use Rattle.mn_output.specs.Report as output
+use Rattle.mn_output_laws.specs.Report.{RunAnswer}
+use Rattle.mn_output_laws.specs.Report as output
 use Rattle.mn_join_run.specs.Running.{notes_text}
 use Rattle.mn_join_run.specs.Whole.{running}
 use Rattle.mn_join_run.specs.Total.{total_text}

@@ -9,15 +9,15 @@ use Rattle.mn_script.specs.declared.command.Line.{Line}
 use Rattle.mn_script.specs.Script.{script_of}
 use Rattle.mn_topo.specs.Network.{Network}
 use Rattle.mn_topo_toml.specs.Topology.{topology_of}
-use Rattle.mn_laws.specs.Accounts.{Accounts}
-use Rattle.mn_arrival.specs.Arrival.{ItArrives, ArrivesWhereItCan}
-use Rattle.mn_course.specs.Course.{inputs_of, played}
-use Rattle.mn_course.specs.Drains.{DrainsAll}
-use Rattle.mn_course.specs.Expansion.{Expansion, expanded}
-use Rattle.mn_course.specs.Lawful.{IsLawfulRun}
-use Rattle.mn_output.specs.Contents.{output}
-use Rattle.mn_output.specs.Report.{totals_of, report}
-use Rattle.mn_output.specs.Sendings.{AreSentBy}
+use Rattle.mn_ledger_laws.specs.Accounts.{Accounts}
+use Rattle.mn_arrival_laws.specs.Arrival.{ItArrives, ArrivesWhereItCan}
+use Rattle.mn_course_laws.specs.Course.{inputs_of, played}
+use Rattle.mn_course_laws.specs.Drains.{DrainsAll}
+use Rattle.mn_course_laws.specs.Expansion.{Expansion, expanded}
+use Rattle.mn_course_laws.specs.Lawful.{IsLawfulRun}
+use Rattle.mn_output_laws.specs.Contents.{output}
+use Rattle.mn_output_laws.specs.Report.{totals_of, report}
+use Rattle.mn_output_laws.specs.Sendings.{AreSentBy}
 use Rattle.mn_ledger.specs.Ledger.{packets_of}
 use Rattle.mn_lines.specs.Lines.{total_line}
 use Rattle.mn_gen.specs.Topology.{topology_text}

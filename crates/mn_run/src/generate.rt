@@ -5,7 +5,7 @@ ghost use Rattle.mn_base.specs.Limits.{most_script_lines};
 ghost use Rattle.mn_script.specs.Script.{AllFit};
 ghost use Rattle.mn_join_run.specs.Memory.{packets_at};
 ghost use Rattle.mn_run.specs.Answer.{generated_line, generated_done, generated};
-ghost use Rattle.mn_answer.specs.Endings.{OutcomeIs, TextIs, CausedBy};
+ghost use Rattle.mn_answer.specs.Endings.{OutcomeIs, TextIs, SinkCausedBy};
 ghost use Rattle.mn_run.specs.Headline.{IsGenerated};
 
 use crate::parse::parse_capture;
@@ -34,7 +34,7 @@ pub(crate) fn generate<O: Sink>(alloc: Global, number: u32, out: &mut O) -> Outc
     requires { number ≤ 99 }
     ensures outcome { OutcomeIs (generated number) result }
     ensures text { ForSome (O.written out.old) (λ before. TextIs (generated number) before (O.written out.new) result) }
-    ensures cause { CausedBy (0, 0, O.faults out.old) (0, 0, O.faults out.new) result }
+    ensures cause { SinkCausedBy (O.faults out.old) (O.faults out.new) result }
     ensures usage { result ≢ Outcome.Usage }
     ensures told { ForSome (O.written out.old) (λ before. IsGenerated number before (O.written out.new) result) }
 {
@@ -99,7 +99,7 @@ fn run_made<O: Sink>(alloc: Global, number: u32, made: Made, out: &mut O) -> Out
     ensures outcome { OutcomeIs (Some (generated_done number made.topology made.lines.items (packets_at made.capture))) result }
     ensures text { ForSome (O.written out.old) (λ before.
         TextIs (Some (generated_done number made.topology made.lines.items (packets_at made.capture))) before (O.written out.new) result) }
-    ensures cause { CausedBy (0, 0, O.faults out.old) (0, 0, O.faults out.new) result }
+    ensures cause { SinkCausedBy (O.faults out.old) (O.faults out.new) result }
     ensures usage { result ≢ Outcome.Usage }
 {
     let Made {

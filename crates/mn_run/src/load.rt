@@ -1,7 +1,7 @@
 //! The inputs of a run from their files.
-ghost use Rattle.std.specs.Prelude.{◌≡◌, IfOk};
+ghost use Rattle.std.specs.Prelude.{◌≡◌, List, ℕ, IfOk};
 ghost use Rattle.std.specs.Option.{ForSome};
-ghost use Rattle.mn_edge.specs.Faults.{Counted};
+ghost use Rattle.mn_edge.specs.Faults.{CountedUnless};
 
 use mn_answer::{Outcome, load_capture, load_lines, load_topology};
 use mn_capture::Capture;
@@ -18,7 +18,9 @@ pub(crate) struct Inputs {
     pub capture: Capture,
 }
 
+ghost use Rattle.mn_answer.specs.Endings.{HasNone};
 ghost use Rattle.mn_answer.specs.Inputs.{IsSound};
+ghost use Rattle.mn_run.specs.Answer.{answer_over, run_over};
 ghost use Rattle.mn_run.specs.Jobs.{OverIs, LoadedIs, InputsFit};
 
 /// Reads the inputs of a run, the topology first and the capture last, or the first refusal.
@@ -33,7 +35,8 @@ pub(crate) fn load<S: Shelf>(
     ensures fits { IfOk result (InputsFit capture.now) }
     ensures sound { IfOk result IsSound }
     ensures same { S.files shelf.new ≡ S.files shelf.old }
-    ensures reads { Counted (S.read_faults shelf.old) (S.read_faults shelf.new) result }
+    ensures reads { CountedUnless ((folder : List ℕ) → HasNone (run_over topology.now script.now capture.now folder) (S.files shelf.old))
+        (S.read_faults shelf.old) (S.read_faults shelf.new) result }
     ensures writes { S.write_faults shelf.new ≡ S.write_faults shelf.old }
 {
     match load_topology(alloc, topology, shelf)? {
@@ -54,7 +57,8 @@ fn load_over<S: Shelf>(
     ensures fits { IfOk result (InputsFit capture.now) }
     ensures sound { IfOk result IsSound }
     ensures same { S.files shelf.new ≡ S.files shelf.old }
-    ensures reads { Counted (S.read_faults shelf.old) (S.read_faults shelf.new) result }
+    ensures reads { CountedUnless ((folder : List ℕ) → HasNone (λ files. answer_over folder files script.now capture.now topology) (S.files shelf.old))
+        (S.read_faults shelf.old) (S.read_faults shelf.new) result }
     ensures writes { S.write_faults shelf.new ≡ S.write_faults shelf.old }
 {
     let lines = match load_lines(alloc, script, shelf, &Commands(&topology))? {

@@ -1,13 +1,14 @@
 //! The one call that does all that the program does.
-ghost use Rattle.std.specs.Prelude.{◌≡◌, ◌≢◌, ℕ, ◌≤◌, true, false, length, Some};
+ghost use Rattle.std.specs.Prelude.{◌≡◌, ◌≢◌, ℕ, ◌≤◌, true, false, length, Some, IsSome};
 ghost use Rattle.std.specs.Option.{ForSome};
 ghost use Rattle.mn_base.specs.Limits.{most_script_lines};
+ghost use Rattle.mn_edge.specs.Files.{file};
 ghost use Rattle.mn_edge.specs.Written.{texts};
 ghost use Rattle.mn_join_run.specs.Inside.{is_inside};
 ghost use Rattle.mn_script.specs.Script.{AllFit};
-ghost use Rattle.mn_answer.specs.Endings.{Answers, OutcomeIs, FilesAre, TextIs, CausedBy, UsageIff, Completes, IsLate, IsUnread};
+ghost use Rattle.mn_answer.specs.Endings.{Answers, OutcomeIs, FilesAre, TextIs, CausedBy, SinkCausedBy, HasNone, UsageIff, Completes, EndsSoundly, IsLate, IsUnread};
 ghost use Rattle.mn_run.specs.Words.{is_run, is_check, is_flood, is_reflect, is_join, is_command, generator_number, job_of};
-ghost use Rattle.mn_run.specs.Answer.{answer_of, checked};
+ghost use Rattle.mn_run.specs.Answer.{answer_of, job_answer, checked};
 ghost use Rattle.mn_run.specs.Headline.{IsGenerated, HeadlineIs, Ends};
 ghost use Rattle.mn_run.specs.Jobs.{ForDone, outcome_of};
 
@@ -46,15 +47,21 @@ pub fn command<S: Shelf, O: Sink>(
     // among the lines of a run: every file was begun, no label is written, and nothing is told of a packet, and no total.
     ensures unread { ForSome (S.files shelf.old) (λ files. ForSome (O.written out.old) (λ before.
         IsUnread (answer_of (texts words.now) files) files (S.files shelf.new) before (O.written out.new) result)) }
-    // A fault comes only where its count rose; every other count is as before, and no count falls.
-    ensures cause { CausedBy (S.read_faults shelf.old, S.write_faults shelf.old, O.faults out.old)
+    // A fault comes only where its count rose, or a read's over a sound shelf where an input isn't there; every other count is as
+    // before, and no count falls.
+    ensures cause { CausedBy (HasNone (answer_of (texts words.now)) (S.files shelf.old))
+        (S.read_faults shelf.old, S.write_faults shelf.old, O.faults out.old)
         (S.read_faults shelf.new, S.write_faults shelf.new, O.faults out.new) result }
     // `Usage` is answered exactly where the words are no command line; a failed write or want of memory may come instead.
     ensures usage { UsageIff (is_command (texts words.now)) result }
-    // Where the inputs are there and no count of faults rises, the answer comes, or want of memory.
+    // Where the inputs are there and no count of faults rises, the answer comes, or want of memory: so always over sound devices.
     ensures complete { ForSome (S.files shelf.old) (λ files. Completes (answer_of (texts words.now) files)
         (S.read_faults shelf.old, S.write_faults shelf.old, O.faults out.old)
         (S.read_faults shelf.new, S.write_faults shelf.new, O.faults out.new) result) }
+    // Over sound devices, which fail by themselves at no call, the answer comes, and a read's fault only where an input isn't there;
+    // or want of memory.
+    ensures sound { ForSome (S.files shelf.old) (λ files. EndsSoundly (answer_of (texts words.now) files)
+        (S.read_faults shelf.old, S.write_faults shelf.old, O.faults out.old) result) }
     // Where all was done by `run`, each packet that was sent has one line and is accounted for: it reached only the
     // site of the best route that its VRF held (of those that took part, where the topology resolves next hops), unchanged but
     // for TTL and checksum, or it fell to the first rule that
@@ -80,7 +87,8 @@ pub fn command<S: Shelf, O: Sink>(
 /// Does the job for which the words ask.
 fn answer<S: Shelf, O: Sink>(alloc: Global, words: &[String], shelf: &mut S, out: &mut O) -> Outcome
     ensures ends { Ends (job_of (texts words.now)) (texts words.now) (S.files shelf.old) (S.files shelf.new) (O.written out.old) (O.written out.new) result }
-    ensures cause { CausedBy (S.read_faults shelf.old, S.write_faults shelf.old, O.faults out.old)
+    ensures cause { CausedBy (HasNone (job_answer (job_of (texts words.now)) (texts words.now)) (S.files shelf.old))
+        (S.read_faults shelf.old, S.write_faults shelf.old, O.faults out.old)
         (S.read_faults shelf.new, S.write_faults shelf.new, O.faults out.new) result }
     ensures usage { UsageIff (is_command (texts words.now)) result }
 {
@@ -99,7 +107,8 @@ fn answer<S: Shelf, O: Sink>(alloc: Global, words: &[String], shelf: &mut S, out
 fn run<S: Shelf, O: Sink>(alloc: Global, words: &[String], shelf: &mut S, out: &mut O) -> Outcome
     requires { is_run (texts words.now) ≡ true }
     ensures ends { Ends Job.Run (texts words.now) (S.files shelf.old) (S.files shelf.new) (O.written out.old) (O.written out.new) result }
-    ensures cause { CausedBy (S.read_faults shelf.old, S.write_faults shelf.old, O.faults out.old)
+    ensures cause { CausedBy (HasNone (job_answer Job.Run (texts words.now)) (S.files shelf.old))
+        (S.read_faults shelf.old, S.write_faults shelf.old, O.faults out.old)
         (S.read_faults shelf.new, S.write_faults shelf.new, O.faults out.new) result }
     ensures usage { result ≢ Outcome.Usage }
 {
@@ -148,9 +157,11 @@ fn run_inputs<S: Shelf, O: Sink>(
     requires fit { AllFit inputs.topology inputs.lines.items }
     requires few { length inputs.lines.items ≤ most_script_lines }
     requires apart { is_inside inputs.capture.name folder.now ≡ false }
+    requires there { ForSome (S.files shelf.old) (λ files. IsSome (file files inputs.capture.name)) }
     ensures answers { ForDone (λ answer m. Answers answer m (S.files shelf.new) (O.written out.old) (O.written out.new) result)
         folder.now inputs.topology inputs.lines.items inputs.capture (S.files shelf.old) }
-    ensures cause { CausedBy (S.read_faults shelf.old, S.write_faults shelf.old, O.faults out.old)
+    ensures cause { CausedBy ⊥
+        (S.read_faults shelf.old, S.write_faults shelf.old, O.faults out.old)
         (S.read_faults shelf.new, S.write_faults shelf.new, O.faults out.new) result }
     ensures usage { result ≢ Outcome.Usage }
 {
@@ -175,7 +186,8 @@ fn run_inputs<S: Shelf, O: Sink>(
 fn check<S: Shelf, O: Sink>(alloc: Global, words: &[String], shelf: &mut S, out: &mut O) -> Outcome
     requires { is_check (texts words.now) ≡ true }
     ensures ends { Ends Job.Check (texts words.now) (S.files shelf.old) (S.files shelf.new) (O.written out.old) (O.written out.new) result }
-    ensures cause { CausedBy (S.read_faults shelf.old, S.write_faults shelf.old, O.faults out.old)
+    ensures cause { CausedBy (HasNone (job_answer Job.Check (texts words.now)) (S.files shelf.old))
+        (S.read_faults shelf.old, S.write_faults shelf.old, O.faults out.old)
         (S.read_faults shelf.new, S.write_faults shelf.new, O.faults out.new) result }
     ensures usage { result ≢ Outcome.Usage }
 {
@@ -191,7 +203,7 @@ fn check<S: Shelf, O: Sink>(alloc: Global, words: &[String], shelf: &mut S, out:
 fn tell<O: Sink>(alloc: Global, topology: &Topology, out: &mut O) -> Outcome
     ensures outcome { OutcomeIs (Some (checked topology.now)) result }
     ensures text { ForSome (O.written out.old) (λ before. TextIs (Some (checked topology.now)) before (O.written out.new) result) }
-    ensures cause { CausedBy (0, 0, O.faults out.old) (0, 0, O.faults out.new) result }
+    ensures cause { SinkCausedBy (O.faults out.old) (O.faults out.new) result }
     ensures usage { result ≢ Outcome.Usage }
 {
     let Ok(line) = check_line(alloc, topology) else {
@@ -208,7 +220,8 @@ fn tell<O: Sink>(alloc: Global, topology: &Topology, out: &mut O) -> Outcome
 fn flood<S: Shelf, O: Sink>(alloc: Global, words: &[String], shelf: &mut S, out: &mut O) -> Outcome
     requires { is_flood (texts words.now) ≡ true }
     ensures ends { Ends Job.Flood (texts words.now) (S.files shelf.old) (S.files shelf.new) (O.written out.old) (O.written out.new) result }
-    ensures cause { CausedBy (S.read_faults shelf.old, S.write_faults shelf.old, O.faults out.old)
+    ensures cause { CausedBy (HasNone (job_answer Job.Flood (texts words.now)) (S.files shelf.old))
+        (S.read_faults shelf.old, S.write_faults shelf.old, O.faults out.old)
         (S.read_faults shelf.new, S.write_faults shelf.new, O.faults out.new) result }
     ensures usage { result ≢ Outcome.Usage }
 {
@@ -224,7 +237,8 @@ fn reflect<S: Shelf, O: Sink>(
 ) -> Outcome
     requires { is_reflect (texts words.now) ≡ true }
     ensures ends { Ends Job.Reflect (texts words.now) (S.files shelf.old) (S.files shelf.new) (O.written out.old) (O.written out.new) result }
-    ensures cause { CausedBy (S.read_faults shelf.old, S.write_faults shelf.old, O.faults out.old)
+    ensures cause { CausedBy (HasNone (job_answer Job.Reflect (texts words.now)) (S.files shelf.old))
+        (S.read_faults shelf.old, S.write_faults shelf.old, O.faults out.old)
         (S.read_faults shelf.new, S.write_faults shelf.new, O.faults out.new) result }
     ensures usage { result ≢ Outcome.Usage }
 {
@@ -235,7 +249,8 @@ fn reflect<S: Shelf, O: Sink>(
 fn join<S: Shelf, O: Sink>(alloc: Global, words: &[String], shelf: &mut S, out: &mut O) -> Outcome
     requires { is_join (texts words.now) ≡ true }
     ensures ends { Ends Job.Join (texts words.now) (S.files shelf.old) (S.files shelf.new) (O.written out.old) (O.written out.new) result }
-    ensures cause { CausedBy (S.read_faults shelf.old, S.write_faults shelf.old, O.faults out.old)
+    ensures cause { CausedBy (HasNone (job_answer Job.Join (texts words.now)) (S.files shelf.old))
+        (S.read_faults shelf.old, S.write_faults shelf.old, O.faults out.old)
         (S.read_faults shelf.new, S.write_faults shelf.new, O.faults out.new) result }
     ensures usage { result ≢ Outcome.Usage }
 {

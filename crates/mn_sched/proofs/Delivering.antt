@@ -4,12 +4,12 @@ use Rattle.std.proofs.Common.{append_assoc}
 use Rattle.std.proofs.lemmas.List.{append-nil}
 use Rattle.mn_topo.specs.Network.{Network}
 use Rattle.mn_topo.specs.declared.steps.JournalEntry.{JournalEntry}
-use Rattle.mn_course.specs.declared.coming.Arrivals.{Arrivals}
-use Rattle.mn_course.specs.declared.coming.Arrivals.TheVariants.{DueBy, News, AllFrames}
-use Rattle.mn_course.specs.declared.coming.Coming.{Coming}
-use Rattle.mn_course.specs.declared.coming.Ending.TheVariants as ending
-use Rattle.mn_course.specs.Coming.{next_arrival}
-use Rattle.mn_course.specs.Course.{Past, Course, ends, arrived, one_by_one, is_journal_full, inputs_of, next_now, deliver}
+use Rattle.mn_course_laws.specs.declared.coming.Arrivals.{Arrivals}
+use Rattle.mn_course_laws.specs.declared.coming.Arrivals.TheVariants.{DueBy, News, AllFrames}
+use Rattle.mn_course_laws.specs.declared.coming.Coming.{Coming}
+use Rattle.mn_course_laws.specs.declared.coming.Ending.TheVariants as ending
+use Rattle.mn_course_laws.specs.Coming.{next_arrival}
+use Rattle.mn_course_laws.specs.Course.{Past, Course, ends, arrived, one_by_one, is_journal_full, inputs_of, next_now, deliver}
 use Rattle.mn_net.specs.Now.{NetNow, StandsFor}
 use Rattle.mn_sched.specs.declared.line.Stopped.{Stopped}
 use Rattle.mn_sched.specs.declared.line.Stopped.TheVariants.{TooManySteps, Read, Write, NoMemory}
@@ -85,3 +85,7 @@ keeps kept was stands all past same on h = (
   subst (λ t. stands t kept.journal (inputs_of all kept.journal)) (sym same)
       (subst (λ (p : Past). stands was.topology p.entries (inputs_of all p.entries)) (sym past) h.1),
 )
+
+pub stands_on : (kept was : NetNow) (all : List (List ℕ)) → past_of kept ≡ past_of was → ((inputs : List (List ℕ)) → StandsFor was inputs → StandsFor kept inputs) →
+    StandsFor was (inputs_of all was.journal) → StandsFor kept (inputs_of all kept.journal)
+stands_on kept was all past on h = subst (λ (p : Past). StandsFor kept (inputs_of all p.entries)) (sym past) (on _ h)

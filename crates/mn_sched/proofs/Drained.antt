@@ -10,15 +10,15 @@ use Rattle.mn_ledger.specs.Lawful.{GoesForward}
 use Rattle.mn_ledger.specs.Items.{flight_of}
 use Rattle.mn_ledger.specs.Settled.{IsSettled}
 use Rattle.mn_ledger.specs.OneMore.{tick_from}
-use Rattle.mn_drain.specs.Drain.{drain_bound}
-use Rattle.mn_course.specs.declared.coming.Arrivals.TheVariants.{News}
-use Rattle.mn_course.specs.declared.coming.Ending.TheVariants as ending
-use Rattle.mn_course.specs.Course.{Past, Course, ends, inputs_of, deliver, all, most_of}
-use Rattle.mn_course.specs.Drains.{DrainsOn, DrainsAll}
-use Rattle.mn_course.specs.Lawful.{IsLawfulPast}
-use Rattle.mn_course.specs.Paced.{HaveArrived}
-use Rattle.mn_course.proofs.Draining.{drains_all}
-use Rattle.mn_course.proofs.Emptied.{all_have_arrived}
+use Rattle.mn_drain_laws.specs.Drain.{drain_bound}
+use Rattle.mn_course_laws.specs.declared.coming.Arrivals.TheVariants.{News}
+use Rattle.mn_course_laws.specs.declared.coming.Ending.TheVariants as ending
+use Rattle.mn_course_laws.specs.Course.{Past, Course, ends, inputs_of, deliver, all, most_of}
+use Rattle.mn_course_laws.specs.Drains.{DrainsOn, DrainsAll}
+use Rattle.mn_course_laws.specs.Lawful.{IsLawfulPast}
+use Rattle.mn_course_laws.specs.Paced.{HaveArrived}
+use Rattle.mn_course_laws.proofs.Draining.{drains_all}
+use Rattle.mn_course_laws.proofs.Emptied.{all_have_arrived}
 use Rattle.mn_net.specs.Now.{NetNow, StandsFor}
 use Rattle.mn_sched.specs.declared.line.Played.{Played}
 use Rattle.mn_sched.specs.declared.line.Stopped.{Stopped}

@@ -13,7 +13,7 @@ use Rattle.mn_topo.specs.declared.steps.JournalEntry.{JournalEntry}
 use Rattle.mn_ledger.specs.declared.refused.Refused.{Refused}
 use Rattle.mn_ledger.specs.declared.refused.Refused.TheVariants as cause
 use Rattle.mn_ledger.specs.Time.{ticks_in}
-use Rattle.mn_course.specs.Course.{Past, inputs_of, input_before, unless_refused}
+use Rattle.mn_course_laws.specs.Course.{Past, inputs_of, input_before, unless_refused}
 use Rattle.mn_entry.specs.Damages.{entry_for}
 use Rattle.mn_entry.specs.Entries.{entry_fits}
 use Rattle.mn_net.specs.declared.net.Done.{Done}
@@ -107,7 +107,7 @@ stood_by (Ok made) mid new entry clock given packets stands together named long 
     )
 
 -- the net stands for the packets that its journal's steps name, once a step is done
-standing_by : (mid new : NetNow) (entry : JournalEntry) (clock : ℕ) (given : List (List ℕ) → List (List ℕ)) (all : List (List ℕ)) →
+pub standing_by : (mid new : NetNow) (entry : JournalEntry) (clock : ℕ) (given : List (List ℕ) → List (List ℕ)) (all : List (List ℕ)) →
     given (inputs_of all mid.journal) ≡ inputs_of all (mid.journal ++ entry ∷ []) → IsMore mid new entry clock → Moves given mid new →
     StandsFor mid (inputs_of all mid.journal) → StandsFor new (inputs_of all new.journal)
 standing_by mid new entry clock given all named long moves before =

@@ -2,13 +2,13 @@
 use Rattle.std.proofs.Common.{◌≡◌, ◌≤◌, ◌<◌, ◌+◌, ℕ, false, max, arith, refl, subst, Option, Some, None, IfSome}
 use Rattle.std.specs.List.{All as Each}
 use Rattle.std.proofs.lemmas.List.Elements.{All-weaker}
-use Rattle.mn_course.specs.declared.coming.Arrivals.{Arrivals}
-use Rattle.mn_course.specs.declared.coming.Arrivals.TheVariants.{DueBy, News, AllFrames}
-use Rattle.mn_course.specs.declared.coming.Coming.{Coming}
-use Rattle.mn_course.specs.Coming.{earlier}
-use Rattle.mn_course.specs.Next.{first_due}
-use Rattle.mn_course.proofs.Going.{Has, NoLater, earliest, no_later_first, no_later_last}
-use Rattle.mn_course.proofs.Nexts.{neither_comes}
+use Rattle.mn_course_laws.specs.declared.coming.Arrivals.{Arrivals}
+use Rattle.mn_course_laws.specs.declared.coming.Arrivals.TheVariants.{DueBy, News, AllFrames}
+use Rattle.mn_course_laws.specs.declared.coming.Coming.{Coming}
+use Rattle.mn_course_laws.specs.Coming.{earlier}
+use Rattle.mn_course_laws.specs.Next.{first_due}
+use Rattle.mn_course_laws.proofs.Going.{Has, NoLater, earliest, no_later_first, no_later_last}
+use Rattle.mn_course_laws.proofs.Nexts.{neither_comes}
 use Rattle.mn_net.specs.Now.{NetNow}
 use Rattle.mn_sched.specs.Playing.{MayGoTo, GoesTo}
 use Rattle.mn_sched.proofs.Telling.{earlier_has}

@@ -17,22 +17,24 @@ use Rattle.mn_ledger.specs.declared.refused.Refused.TheVariants as cause
 use Rattle.mn_ledger.specs.Refusal.{refusal, where_holds}
 use Rattle.mn_ledger.specs.Ledger.{injects}
 use Rattle.mn_ledger.specs.Time.{ticks_in}
-use Rattle.mn_course.specs.declared.coming.Arrivals.{Arrivals}
-use Rattle.mn_course.specs.declared.coming.Arrivals.TheVariants.{DueBy, News, AllFrames}
-use Rattle.mn_course.specs.declared.coming.Coming.{Coming}
-use Rattle.mn_course.specs.declared.coming.Ending.{Ending}
-use Rattle.mn_course.specs.declared.coming.Ending.TheVariants as ending
+use Rattle.mn_course_laws.specs.declared.coming.Arrivals.{Arrivals}
+use Rattle.mn_course_laws.specs.declared.coming.Arrivals.TheVariants.{DueBy, News, AllFrames}
+use Rattle.mn_course_laws.specs.declared.coming.Coming.{Coming}
+use Rattle.mn_course_laws.specs.declared.coming.Ending.{Ending}
+use Rattle.mn_course_laws.specs.declared.coming.Ending.TheVariants as ending
 use Rattle.mn_script.specs.declared.command.Command.TheVariants.{Do}
 use Rattle.mn_base.specs.declared.numbers.SiteNo.{SiteNo}
-use Rattle.mn_course.specs.Coming.{delivery, earlier, is_due_before, next_arrival}
+use Rattle.mn_course_laws.specs.Coming.{delivery, earlier, is_due_before, next_arrival}
+use Rattle.mn_edge.specs.Faults.{GrewUnless}
+use Rattle.mn_edge.specs.FaultLaws.{grew_by}
 use Rattle.mn_sched.specs.Arriving.{ArrivesNext}
-use Rattle.mn_course.specs.Course.{Past, Course, ends, as_due, arrived, with_step, one_by_one, is_journal_full, inputs_of, input_before, bytes_of, record_of}
-use Rattle.mn_course.specs.Course.{injected, tried, unless_refused, stepped, with_damage, damage_refused_by, damaged, refusal_now, until, on_to}
+use Rattle.mn_course_laws.specs.Course.{Past, Course, ends, as_due, arrived, with_step, one_by_one, is_journal_full, inputs_of, input_before, bytes_of, record_of}
+use Rattle.mn_course_laws.specs.Course.{injected, tried, unless_refused, stepped, with_damage, damage_refused_by, damaged, refusal_now, until, on_to}
 use Rattle.mn_entry.specs.Damages.{number_of}
 use Rattle.mn_topo.specs.declared.steps.Damage.{Damage}
 use Rattle.mn_net.specs.declared.net.Done.{Done}
 use Rattle.mn_ledger.specs.OneMore.{added, with_packet}
-use Rattle.mn_laws.specs.Flight.{IsOpen}
+use Rattle.mn_ledger_laws.specs.Flight.{IsOpen}
 use Rattle.mn_net.specs.Now.{NetNow, StandsFor}
 use Rattle.std.specs.Prelude.{IsErrOf}
 use Rattle.mn_net.specs.Done.{IsLonger, HasFailed, Leaves, Answers}
@@ -42,11 +44,11 @@ use Rattle.mn_sched.specs.declared.line.Stopped.{Stopped}
 use Rattle.mn_sched.specs.declared.line.Stopped.TheVariants.{TooManySteps, Read, Write, NoMemory}
 use Rattle.mn_sched.specs.declared.watch.WatchBad.{WatchBad}
 use Rattle.mn_sched.specs.declared.watch.WatchBad.TheVariants as bad
-use Rattle.mn_sched.specs.Watching.{Together, Stood, Begun, MadeLast, LastFits}
+use Rattle.mn_sched.specs.Watching.{Counts, Together, Stood, Begun, MadeLast, LastFits}
 use Rattle.mn_sched.specs.Playing.{past_of, IsFirstPart, Arrives, Takes, After, Caused, Finished, MissingIff, names_no_record, arrived_by, stopped_by, IsOwnCause}
-use Rattle.mn_sched.specs.Playing.{as_played, IsPaced, IsOneLonger}
+use Rattle.mn_sched.specs.Playing.{as_played, IsPaced, IsOneLonger, GoesOnFor}
 use Rattle.mn_sched.proofs.Delivering.{first_part_refl, one_more}
-use Rattle.mn_sched.proofs.Growing.{ok_then, IsMore, plain, by_step, inputs_of-push, Names, Moves, stood_by, made_by, fits_by, tried_more, takes_by, entry_paced, grown_by}
+use Rattle.mn_sched.proofs.Growing.{ok_then, IsMore, plain, by_step, inputs_of-push, Names, Moves, stood_by, standing_by, on_ok, made_by, fits_by, tried_more, takes_by, entry_paced, grown_by}
 
 -- what holds of two holds of the earlier
 pub earlier_has : (P : Coming → Type 0) (one other : Option Coming) → IfSome one P → IfSome other P → IfSome (earlier one other) P
@@ -214,6 +216,35 @@ after_one (Err why) ended mid new packets stands stands_then begins_then togethe
     subst (λ n. StandsFor n (inputs_of all n.journal) × stands_then n.topology n.journal (inputs_of all n.journal)) (sym left)
     ((together all told).0, s mid.topology mid.journal (inputs_of all mid.journal) (together all told).1))
 
+-- the net stands for the packets that its journal names, in any capture
+standing_then : (all : List (List ℕ)) (mid new : NetNow) (step : Step) → injects step ≡ false → IsLonger mid new step → Moves (with_packet step []) mid new →
+    StandsFor mid (inputs_of all mid.journal) → StandsFor new (inputs_of all new.journal)
+standing_then all mid new step free long moves before =
+    standing_by mid new (plain mid.tick step) (mid.tick + ticks_in step) (with_packet step []) all (takes_no_input all mid.journal mid.tick step [] free)
+    (by_step mid new step long) moves before
+
+pub one_goes_on : (stepped : Result Done Refused) (ended : Result Played Stopped) (old mid new : NetNow) (step : Step) → mid.journal ≡ old.journal →
+    ((inputs : List (List ℕ)) → StandsFor old inputs → StandsFor mid inputs) → injects step ≡ false → OnOk stepped (IsLonger mid new step) →
+    OnOk stepped (Moves (with_packet step []) mid new) → Finished stepped ended → OnOk (arrived_by ended) (GoesOnFor old new)
+one_goes_on (Ok made) ended old mid new step journal on free long moves finished = on_ok (arrived_by ended) (GoesOnFor old new) (λ all before.
+    standing_then all mid new step free long moves (subst (λ j. StandsFor mid (inputs_of all j)) (sym journal) (on (inputs_of all old.journal) before)))
+one_goes_on (Err cause.TooManySteps) ended old mid new step journal on free long moves finished =
+    subst (λ e. OnOk (arrived_by e) (GoesOnFor old new)) (sym finished) tt
+one_goes_on (Err cause.NoMemory) ended old mid new step journal on free long moves finished =
+    subst (λ e. OnOk (arrived_by e) (GoesOnFor old new)) (sym finished) tt
+one_goes_on (Err why) ended old mid new step journal on free long moves finished =
+    subst (λ e. OnOk (arrived_by e) (GoesOnFor old new)) (sym finished) tt
+
+pub step_goes_on : (stepped : Result Done Refused) (ended : Result Played Stopped) (old new : NetNow) (step : Step) → injects step ≡ false →
+    OnOk stepped (IsLonger old new step) → Leaves old new stepped → OnOk stepped (Moves (with_packet step []) old new) → Finished stepped ended →
+    OnOk ended (GoesOnFor old new)
+step_goes_on (Ok made) ended old new step free long left moves finished = on_ok ended (GoesOnFor old new) (λ all before.
+    standing_then all old new step free long moves before)
+step_goes_on (Err cause.TooManySteps) ended old new step free long left moves finished = subst (λ e. OnOk e (GoesOnFor old new)) (sym finished) tt
+step_goes_on (Err cause.NoMemory) ended old new step free long left moves finished = subst (λ e. OnOk e (GoesOnFor old new)) (sym finished) tt
+step_goes_on (Err why) ended old new step free long left moves finished = subst (λ e. OnOk e (GoesOnFor old new)) (sym finished)
+    (λ all before. subst (λ n. StandsFor n (inputs_of all n.journal)) (sym left) before)
+
 -- what refuses an item's step once the clock is set on
 pub opens_then : (old mid : NetNow) (inputs : List (List ℕ)) (step item_step : Step) (stepped : Result Done Refused) → mid.journal ≡ old.journal →
     mid.topology ≡ old.topology → step ≡ item_step → IsOpen old.topology old.journal inputs item_step →
@@ -326,12 +357,23 @@ arrived_missing (Err Read) = tt
 arrived_missing (Err Write) = tt
 arrived_missing (Err NoMemory) = tt
 
-pub arrived_cause : (old new : ℕ × ℕ) (r : Result (Unit {0}) Stopped) → Caused old new r → Caused old new (as_played r)
-arrived_cause old new (Ok x) h = h
-arrived_cause old new (Err TooManySteps) h = h
-arrived_cause old new (Err Read) h = h
-arrived_cause old new (Err Write) h = h
-arrived_cause old new (Err NoMemory) h = h
+pub arrived_cause : (excuse : Type 0) (old new : Counts) (r : Result (Unit {0}) Stopped) → Caused excuse old new r → Caused excuse old new (as_played r)
+arrived_cause excuse old new (Ok x) h = h
+arrived_cause excuse old new (Err TooManySteps) h = h
+arrived_cause excuse old new (Err Read) h = h
+arrived_cause excuse old new (Err Write) h = h
+arrived_cause excuse old new (Err NoMemory) h = h
+
+-- a call comes after others that left the counts, and its excuse is one for all
+pub caused_after : {T : Type 0} (one other : Type 0) (first before now : Counts) (r : Result T Stopped) → before.0 ≡ first.0 → before.1 ≡ first.1 →
+    (one → other) → Caused one before now r → Caused other first now r
+caused_after one other first before now (Ok x) reads writes so h = (h.0 ∙ reads, h.1 ∙ writes)
+caused_after one other first before now (Err TooManySteps) reads writes so h = (h.0 ∙ reads, h.1 ∙ writes)
+caused_after one other first before now (Err Read) reads writes so h =
+    (subst (λ n. GrewUnless other n now.0) reads (grew_by one other before.0 now.0 so h.0), h.1 ∙ writes)
+caused_after one other first before now (Err Write) reads writes so h =
+    (subst (λ n. GrewUnless other n now.1) writes (grew_by one other before.1 now.1 so h.0), h.1 ∙ reads)
+caused_after one other first before now (Err NoMemory) reads writes so h = (h.0 ∙ reads, h.1 ∙ writes)
 
 -- ticks pass after all that was due has arrived
 pub run_takes : (end : ℕ) (course : Course) (mid new : NetNow) → Arrives course mid (Ok tt) → past_of new ≡ on_to end (past_of mid) →

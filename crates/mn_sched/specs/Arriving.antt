@@ -1,9 +1,9 @@
 -- One item arrives, with any packets: what a line does step by step.
 use Rattle.std.specs.Prelude.{◌≡◌, ℕ, true, false, List, Option, Some, None, Result, Ok, Err}
-use Rattle.mn_course.specs.declared.coming.Arrivals.{Arrivals}
-use Rattle.mn_course.specs.declared.coming.Coming.{Coming}
-use Rattle.mn_course.specs.Coming.{next_arrival}
-use Rattle.mn_course.specs.Course.{arrived, is_journal_full}
+use Rattle.mn_course_laws.specs.declared.coming.Arrivals.{Arrivals}
+use Rattle.mn_course_laws.specs.declared.coming.Coming.{Coming}
+use Rattle.mn_course_laws.specs.Coming.{next_arrival}
+use Rattle.mn_course_laws.specs.Course.{arrived, is_journal_full}
 use Rattle.mn_ledger.specs.declared.refused.Refused as why
 use Rattle.mn_ledger.specs.declared.refused.Refused.TheVariants as cause
 use Rattle.mn_net.specs.declared.net.Done.{Done}

@@ -6,12 +6,12 @@ use Rattle.mn_script.specs.declared.command.Command.TheVariants.{Drain}
 use Rattle.mn_ledger.specs.Ledger.{world_of}
 use Rattle.mn_ledger.specs.Items.{flight_of}
 use Rattle.mn_ledger.specs.Settled.{IsSettled}
-use Rattle.mn_drain.specs.Drain.{IsSwitchedOn, drain_bound}
-use Rattle.mn_course.specs.declared.coming.Arrivals.TheVariants.{News}
-use Rattle.mn_course.specs.declared.coming.Ending.TheVariants as ending
-use Rattle.mn_course.specs.Course.{ends, inputs_of}
-use Rattle.mn_course.specs.Drains.{DrainsOn}
-use Rattle.mn_course.specs.Paced.{HaveArrived}
+use Rattle.mn_drain_laws.specs.Drain.{IsSwitchedOn, drain_bound}
+use Rattle.mn_course_laws.specs.declared.coming.Arrivals.TheVariants.{News}
+use Rattle.mn_course_laws.specs.declared.coming.Ending.TheVariants as ending
+use Rattle.mn_course_laws.specs.Course.{ends, inputs_of}
+use Rattle.mn_course_laws.specs.Drains.{DrainsOn}
+use Rattle.mn_course_laws.specs.Paced.{HaveArrived}
 use Rattle.mn_net.specs.Now.{NetNow}
 use Rattle.mn_sched.specs.declared.line.Played.{Played}
 use Rattle.mn_sched.specs.declared.line.Played.TheVariants.{All}

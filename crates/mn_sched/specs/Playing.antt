@@ -8,11 +8,11 @@ use Rattle.mn_topo.specs.declared.steps.JournalEntry.{JournalEntry}
 use Rattle.mn_entry.specs.Damages.{number_of}
 use Rattle.mn_script.specs.declared.command.Command.{Command}
 use Rattle.mn_script.specs.declared.command.Command.TheVariants.{Do, Damage, Show}
-use Rattle.mn_course.specs.declared.coming.Ending.TheVariants as ending
-use Rattle.mn_course.specs.declared.coming.Arrivals.{Arrivals}
-use Rattle.mn_course.specs.declared.coming.Arrivals.TheVariants.{DueBy, News, AllFrames}
-use Rattle.mn_course.specs.Coming.{ever}
-use Rattle.mn_course.specs.Course.{Past, Course, inputs_of}
+use Rattle.mn_course_laws.specs.declared.coming.Ending.TheVariants as ending
+use Rattle.mn_course_laws.specs.declared.coming.Arrivals.{Arrivals}
+use Rattle.mn_course_laws.specs.declared.coming.Arrivals.TheVariants.{DueBy, News, AllFrames}
+use Rattle.mn_course_laws.specs.Coming.{ever}
+use Rattle.mn_course_laws.specs.Course.{Past, Course, inputs_of}
 use Rattle.mn_ledger.specs.Ledger.{injects}
 use Rattle.mn_ledger.specs.Time.{ticks_in}
 use Rattle.mn_ledger.specs.declared.refused.Refused as why
@@ -25,8 +25,8 @@ use Rattle.mn_sched.specs.declared.line.Stopped.{Stopped}
 use Rattle.mn_sched.specs.declared.line.Stopped.TheVariants.{TooManySteps, Read, Write, NoMemory}
 use Rattle.mn_sched.specs.declared.watch.WatchBad.{WatchBad}
 use Rattle.mn_sched.specs.declared.watch.WatchBad.TheVariants as bad
-use Rattle.mn_edge.specs.Faults.{Grew}
-use Rattle.mn_sched.specs.Watching.{is_record, Together, Begun}
+use Rattle.mn_edge.specs.Faults.{GrewUnless}
+use Rattle.mn_sched.specs.Watching.{Counts, is_record, Together, Begun}
 use Rattle.std.specs.List.{All as Each}
 use Rattle.mn_base.specs.Limits.{most_steps}
 
@@ -64,11 +64,11 @@ After net packets stands begins (Err NoMemory) = Begun net packets begins
 After net packets stands begins (Err why) =
     ForSome packets (λ all. StandsFor net (inputs_of all net.journal) × begins net.topology net.journal (inputs_of all net.journal))
 
--- each fault comes only where its own count rose, and all else leaves both
-abbrev pub Caused : {T : Type 0} → ℕ × ℕ → ℕ × ℕ → Result T Stopped → Type 0
-Caused old new (Err Read) = Grew old.0 new.0 × (new.1 ≡ old.1)
-Caused old new (Err Write) = Grew old.1 new.1 × (new.0 ≡ old.0)
-Caused old new result = (new.0 ≡ old.0) × (new.1 ≡ old.1)
+-- each fault comes only where its own count rose, or by this excuse, and all else leaves both
+abbrev pub Caused : {T : Type 0} → Type 0 → Counts → Counts → Result T Stopped → Type 0
+Caused excuse old new (Err Read) = GrewUnless excuse old.0 new.0 × (new.1 ≡ old.1)
+Caused excuse old new (Err Write) = GrewUnless excuse old.1 new.1 × (new.0 ≡ old.0)
+Caused excuse old new result = (new.0 ≡ old.0) × (new.1 ≡ old.1)
 
 -- a line is refused neither for a full journal nor for want of memory
 abbrev pub IsOwnCause : Played → Type 0
@@ -89,6 +89,16 @@ MissingIff missing (Err Read) = ⊤
 MissingIff missing (Err Write) = ⊤
 MissingIff missing (Err NoMemory) = ⊤
 MissingIff missing result = missing ≡ false
+
+-- the line looks at no record of a capture: it injects nothing, and damages no message
+abbrev pub looks_at_none : Command → Bool
+looks_at_none (Do (Inject s number)) = false
+looks_at_none (Damage damage) = false
+looks_at_none command = true
+
+-- a network that stood for the packets that its journal names in a capture stands for them still
+abbrev pub GoesOnFor : NetNow → NetNow → Type 0
+GoesOnFor old new = (capture : List (List ℕ)) → StandsFor old (inputs_of capture old.journal) → StandsFor new (inputs_of capture new.journal)
 
 abbrev pub is_show : Command → Bool
 is_show (Show table) = true

@@ -2,23 +2,27 @@
 use Rattle.std.specs.Prelude.{◌≡◌, ◌-◌, ℕ, Bool, true, false, ◌&&◌, nat_le, List, length, take, slice_get, IfSome, Option, Some, None, Result, Ok, Err}
 use Rattle.std.specs.Option.{ForSome}
 use Rattle.std.specs.Borrow.{Bor}
-use Rattle.mn_edge.specs.Faults.{Grew}
+use Rattle.mn_edge.specs.Faults.{GrewUnless}
 use Rattle.mn_topo.specs.Network.{Network}
 use Rattle.mn_entry.specs.Entries.{entry_fits}
 use Rattle.mn_topo.specs.declared.steps.JournalEntry.{JournalEntry}
-use Rattle.mn_course.specs.Course.{record_of, inputs_of}
+use Rattle.mn_course_laws.specs.Course.{record_of, inputs_of}
 use Rattle.mn_ledger.specs.Items.{flight_of}
 use Rattle.mn_net.specs.declared.net.Done.{Done}
 use Rattle.mn_net.specs.Now.{NetNow, StandsFor}
 use Rattle.mn_sched.specs.declared.watch.WatchBad.{WatchBad}
 use Rattle.mn_sched.specs.declared.watch.WatchBad.TheVariants.{Read, Write, NoMemory}
 
--- the counts of failed reads and of failed writes: each fault comes only where its own rose, and all else leaves both
-abbrev pub Counted : {T : Type 0} → ℕ × ℕ → ℕ × ℕ → Result T WatchBad → Type 0
-Counted old new (Ok x) = (new.0 ≡ old.0) × (new.1 ≡ old.1)
-Counted old new (Err Read) = Grew old.0 new.0 × (new.1 ≡ old.1)
-Counted old new (Err Write) = Grew old.1 new.1 × (new.0 ≡ old.0)
-Counted old new (Err NoMemory) = (new.0 ≡ old.0) × (new.1 ≡ old.1)
+-- the counts of failed reads and of failed writes, none where it is sound
+abbrev pub Counts : Type 0
+Counts = Option ℕ × Option ℕ
+
+-- each fault comes only where its own count rose, or by this excuse, and all else leaves both
+abbrev pub Counted : {T : Type 0} → Type 0 → Counts → Counts → Result T WatchBad → Type 0
+Counted excuse old new (Ok x) = (new.0 ≡ old.0) × (new.1 ≡ old.1)
+Counted excuse old new (Err Read) = GrewUnless excuse old.0 new.0 × (new.1 ≡ old.1)
+Counted excuse old new (Err Write) = GrewUnless excuse old.1 new.1 × (new.0 ≡ old.0)
+Counted excuse old new (Err NoMemory) = (new.0 ≡ old.0) × (new.1 ≡ old.1)
 
 -- records are numbered from 1
 abbrev pub is_record : ℕ → ℕ → Bool

@@ -1,13 +1,13 @@
-ghost use Rattle.std.specs.Prelude.{◌≡◌, ◌≢◌, ◌≤◌, ◌<◌, ◌+◌, ◌^◌, ℕ, List, [], true, false, Some, IfOk, IfErr, OnOk, OnErr};
+ghost use Rattle.std.specs.Prelude.{◌≡◌, ◌≢◌, ◌≤◌, ◌<◌, ◌+◌, ◌^◌, ℕ, List, [], true, false, None, Some, IfOk, IfErr, OnOk, OnErr};
 ghost use Rattle.std.specs.Option.{ForSome};
 ghost use Rattle.mn_entry.specs.Damages.{damage_fits};
 ghost use Rattle.mn_script.specs.Lines.{command_fits};
-ghost use Rattle.mn_course.specs.Coming.{delivery, next_arrival};
-ghost use Rattle.mn_course.specs.Course.{ends, one_by_one, is_journal_full, deliver, played, stepped, all, most_of};
+ghost use Rattle.mn_course_laws.specs.Coming.{delivery, next_arrival};
+ghost use Rattle.mn_course_laws.specs.Course.{ends, one_by_one, is_journal_full, deliver, played, stepped, all, most_of, inputs_of};
 ghost use Rattle.mn_ledger.specs.Ledger.{injects};
 ghost use Rattle.mn_topo.specs.Steps.{fits};
-ghost use Rattle.mn_course.specs.declared.coming.Ending.TheVariants as ending;
-ghost use Rattle.mn_laws.specs.Flight.{IsOpen};
+ghost use Rattle.mn_course_laws.specs.declared.coming.Ending.TheVariants as ending;
+ghost use Rattle.mn_ledger_laws.specs.Flight.{IsOpen};
 ghost use Rattle.mn_net.specs.Now.{StandsFor};
 ghost use Rattle.mn_sched.specs.Draining.{DrainsBy};
 ghost use Rattle.mn_sched.specs.Watching.{Together, Stood, MadeLast, LastFits};
@@ -16,7 +16,7 @@ ghost use Rattle.mn_sched.specs.declared.line.Stopped.TheVariants as stopped;
 
 use crate::arrivals::{delivery, next_arrival, set_clock};
 use crate::watch::{Watch, WatchBad};
-use mn_course::{Arrivals, Coming, Kind};
+use mn_course_laws::{Arrivals, Coming, Kind};
 use mn_entry::number_of;
 use mn_ledger::Refused;
 use mn_net::{Done, Net};
@@ -47,7 +47,7 @@ pub enum Stopped {
     NoMemory,
 }
 
-ghost use Rattle.mn_sched.specs.Playing.{past_of, IsDelivery, IsFirstPart, Takes, Arrives, After, Caused, Finished, limit_of, stopped_by, arrived_by, as_played, IsPaced, IsOneLonger, GoesTo, IsGone, names_no_record, MissingIff, is_show, IsOwnCause};
+ghost use Rattle.mn_sched.specs.Playing.{past_of, IsDelivery, IsFirstPart, Takes, Arrives, After, Caused, Finished, limit_of, stopped_by, arrived_by, as_played, IsPaced, IsOneLonger, GoesTo, IsGone, names_no_record, MissingIff, is_show, looks_at_none, GoesOnFor, IsOwnCause};
 
 fn stopped_by(bad: WatchBad) -> Stopped
     ensures { result ≡ stopped_by bad }
@@ -85,7 +85,8 @@ fn finish<W: Watch>(
     ensures records { W.records watch.new ≡ W.records watch.old }
     ensures packets { W.packets watch.new ≡ W.packets watch.old }
     ensures goes_on { W.goes_on watch.old watch.new }
-    ensures cause { Caused (W.reads watch.old, W.writes watch.old) (W.reads watch.new, W.writes watch.new) result }
+    ensures cause { Caused (W.packets watch.old ≡ None)
+        (W.reads watch.old, W.writes watch.old) (W.reads watch.new, W.writes watch.new) result }
 {
     match stepped {
         Ok(made) => match watch.done(net, made) {
@@ -112,7 +113,9 @@ fn deliver_one<W: Watch>(
     requires fits { IsDelivery net.old.topology (delivery item) }
     requires opens { (inputs : List (List ℕ)) → StandsFor net.old inputs → IsOpen net.old.topology net.old.journal inputs (delivery item) }
     requires together { Together net.old (W.packets watch.old) (W.stands watch.old) }
-    ensures course { ForSome (W.packets watch.old) (λ capture. Arrives (one_by_one arrivals (ends ending.All) (past_of net.old) (is_journal_full (past_of net.old)) (Some item)) net.new result) }
+    // Over any capture with whose packets the network stands for the ledger.
+    ensures course { (capture : List (List ℕ)) → StandsFor net.old (inputs_of capture net.old.journal) → Arrives (one_by_one arrivals (ends ending.All) (past_of net.old) (is_journal_full (past_of net.old)) (Some item)) net.new result }
+    ensures standing { OnOk result (GoesOnFor net.old net.new) }
     ensures after { After net.new (W.packets watch.old) (W.stands watch.new) (W.begins watch.new) result }
     ensures longer { OnOk result (IsOneLonger net.old net.new) }
     ensures topology { net.new.topology ≡ net.old.topology }
@@ -122,7 +125,8 @@ fn deliver_one<W: Watch>(
     ensures records { W.records watch.new ≡ W.records watch.old }
     ensures packets { W.packets watch.new ≡ W.packets watch.old }
     ensures goes_on { W.goes_on watch.old watch.new }
-    ensures cause { Caused (W.reads watch.old, W.writes watch.old) (W.reads watch.new, W.writes watch.new) result }
+    ensures cause { Caused (W.packets watch.old ≡ None)
+        (W.reads watch.old, W.writes watch.old) (W.reads watch.new, W.writes watch.new) result }
 {
     set_clock(net, arrivals, item.due);
     let step = delivery(item);
@@ -165,7 +169,9 @@ fn deliver<W: Watch>(
     requires early { net.old.tick ≤ 2 ^ 62 }
     requires within { limit_of arrivals ≤ 2 ^ 62 }
     requires together { Together net.old (W.packets watch.old) (W.stands watch.old) }
-    ensures course { ForSome (W.packets watch.old) (λ capture. Arrives (deliver net.old.topology capture arrivals most (past_of net.old)) net.new result) }
+    // Over any capture with whose packets the network stands for the ledger.
+    ensures course { (capture : List (List ℕ)) → StandsFor net.old (inputs_of capture net.old.journal) → Arrives (deliver net.old.topology capture arrivals most (past_of net.old)) net.new result }
+    ensures standing { OnOk result (GoesOnFor net.old net.new) }
     ensures after { After net.new (W.packets watch.old) (W.stands watch.new) (W.begins watch.new) result }
     // Where it may take more turns than a journal has steps, nothing is left that was to arrive.
     ensures gone { OnOk result (4000000 < most → IsGone arrivals net.new) }
@@ -176,7 +182,8 @@ fn deliver<W: Watch>(
     ensures records { W.records watch.new ≡ W.records watch.old }
     ensures packets { W.packets watch.new ≡ W.packets watch.old }
     ensures goes_on { W.goes_on watch.old watch.new }
-    ensures cause { Caused (W.reads watch.old, W.writes watch.old) (W.reads watch.new, W.writes watch.new) result }
+    ensures cause { Caused (W.packets watch.old ≡ None)
+        (W.reads watch.old, W.writes watch.old) (W.reads watch.new, W.writes watch.new) result }
 {
     let mut left = 0;
     for turn in 0..most {
@@ -233,7 +240,8 @@ fn inject<W: Watch>(
     ensures records { W.records watch.new ≡ W.records watch.old }
     ensures packets { W.packets watch.new ≡ W.packets watch.old }
     ensures goes_on { W.goes_on watch.old watch.new }
-    ensures cause { Caused (W.reads watch.old, W.writes watch.old) (W.reads watch.new, W.writes watch.new) result }
+    ensures cause { Caused (W.packets watch.old ≡ None)
+        (W.reads watch.old, W.writes watch.old) (W.reads watch.new, W.writes watch.new) result }
 {
     let stepped = match watch.packet(number) {
         Ok(Some(bytes)) => net.step(step, bytes),
@@ -248,7 +256,9 @@ fn step_plainly<W: Watch>(net: &mut Net, step: Step, watch: &mut W) -> Result<Pl
     requires fits { fits net.old.topology step ≡ true }
     requires plain { injects step ≡ false }
     requires together { Together net.old (W.packets watch.old) (W.stands watch.old) }
-    ensures course { ForSome (W.packets watch.old) (λ capture. Takes (stepped net.old.topology capture (past_of net.old) step) net.new result) }
+    // Over any capture with whose packets the network stands for the ledger.
+    ensures course { (capture : List (List ℕ)) → StandsFor net.old (inputs_of capture net.old.journal) → Takes (stepped net.old.topology capture (past_of net.old) step) net.new result }
+    ensures standing { OnOk result (GoesOnFor net.old net.new) }
     ensures after { After net.new (W.packets watch.old) (W.stands watch.new) (W.begins watch.new) result }
     ensures missing { MissingIff (names_no_record (W.records watch.old) (Command.Do step)) result }
     ensures topology { net.new.topology ≡ net.old.topology }
@@ -259,7 +269,8 @@ fn step_plainly<W: Watch>(net: &mut Net, step: Step, watch: &mut W) -> Result<Pl
     ensures records { W.records watch.new ≡ W.records watch.old }
     ensures packets { W.packets watch.new ≡ W.packets watch.old }
     ensures goes_on { W.goes_on watch.old watch.new }
-    ensures cause { Caused (W.reads watch.old, W.writes watch.old) (W.reads watch.new, W.writes watch.new) result }
+    ensures cause { Caused (W.packets watch.old ≡ None)
+        (W.reads watch.old, W.writes watch.old) (W.reads watch.new, W.writes watch.new) result }
 {
     let stepped = net.step(step, &[]);
     finish(net, stepped, watch)
@@ -280,7 +291,8 @@ fn damage<W: Watch>(net: &mut Net, damage: Damage, watch: &mut W) -> Result<Play
     ensures records { W.records watch.new ≡ W.records watch.old }
     ensures packets { W.packets watch.new ≡ W.packets watch.old }
     ensures goes_on { W.goes_on watch.old watch.new }
-    ensures cause { Caused (W.reads watch.old, W.writes watch.old) (W.reads watch.new, W.writes watch.new) result }
+    ensures cause { Caused (W.packets watch.old ≡ None)
+        (W.reads watch.old, W.writes watch.old) (W.reads watch.new, W.writes watch.new) result }
 {
     let stepped = match watch.packet(number_of(&damage)) {
         Ok(Some(bytes)) => net.damage(damage, bytes),
@@ -295,7 +307,9 @@ fn pass_ticks<W: Watch>(net: &mut Net, ticks: u32, watch: &mut W) -> Result<Play
     requires few { ticks ≤ 1000000 }
     requires early { net.old.tick ≤ 2 ^ 61 }
     requires together { Together net.old (W.packets watch.old) (W.stands watch.old) }
-    ensures course { ForSome (W.packets watch.old) (λ capture. Takes (played net.old.topology capture (past_of net.old) (Command.Run ticks)) net.new result) }
+    // Over any capture with whose packets the network stands for the ledger.
+    ensures course { (capture : List (List ℕ)) → StandsFor net.old (inputs_of capture net.old.journal) → Takes (played net.old.topology capture (past_of net.old) (Command.Run ticks)) net.new result }
+    ensures standing { OnOk result (GoesOnFor net.old net.new) }
     ensures after { After net.new (W.packets watch.old) (W.stands watch.new) (W.begins watch.new) result }
     ensures missing { MissingIff false result }
     ensures topology { net.new.topology ≡ net.old.topology }
@@ -306,7 +320,8 @@ fn pass_ticks<W: Watch>(net: &mut Net, ticks: u32, watch: &mut W) -> Result<Play
     ensures records { W.records watch.new ≡ W.records watch.old }
     ensures packets { W.packets watch.new ≡ W.packets watch.old }
     ensures goes_on { W.goes_on watch.old watch.new }
-    ensures cause { Caused (W.reads watch.old, W.writes watch.old) (W.reads watch.new, W.writes watch.new) result }
+    ensures cause { Caused (W.packets watch.old ≡ None)
+        (W.reads watch.old, W.writes watch.old) (W.reads watch.new, W.writes watch.new) result }
 {
     let end = net.tick() + u64::from(ticks);
     deliver(net, Arrivals::DueBy(end), all_items(), watch)?;
@@ -318,7 +333,9 @@ fn pass_ticks<W: Watch>(net: &mut Net, ticks: u32, watch: &mut W) -> Result<Play
 fn drain<W: Watch>(net: &mut Net, most: Option<u32>, watch: &mut W) -> Result<Played, Stopped>
     requires early { net.old.tick ≤ 2 ^ 61 }
     requires together { Together net.old (W.packets watch.old) (W.stands watch.old) }
-    ensures course { ForSome (W.packets watch.old) (λ capture. Takes (played net.old.topology capture (past_of net.old) (Command.Drain most)) net.new result) }
+    // Over any capture with whose packets the network stands for the ledger.
+    ensures course { (capture : List (List ℕ)) → StandsFor net.old (inputs_of capture net.old.journal) → Takes (played net.old.topology capture (past_of net.old) (Command.Drain most)) net.new result }
+    ensures standing { OnOk result (GoesOnFor net.old net.new) }
     ensures drained { ForSome (W.packets watch.old) (λ capture. DrainsBy (Command.Drain most) capture net.old net.new result) }
     ensures after { After net.new (W.packets watch.old) (W.stands watch.new) (W.begins watch.new) result }
     ensures missing { MissingIff false result }
@@ -330,7 +347,8 @@ fn drain<W: Watch>(net: &mut Net, most: Option<u32>, watch: &mut W) -> Result<Pl
     ensures records { W.records watch.new ≡ W.records watch.old }
     ensures packets { W.packets watch.new ≡ W.packets watch.old }
     ensures goes_on { W.goes_on watch.old watch.new }
-    ensures cause { Caused (W.reads watch.old, W.writes watch.old) (W.reads watch.new, W.writes watch.new) result }
+    ensures cause { Caused (W.packets watch.old ≡ None)
+        (W.reads watch.old, W.writes watch.old) (W.reads watch.new, W.writes watch.new) result }
 {
     net.laws();
     net.topology().laws();
@@ -345,7 +363,12 @@ pub fn play<W: Watch>(net: &mut Net, command: &Command, watch: &mut W) -> Result
     requires together { Together net.old (W.packets watch.old) (W.stands watch.old) }
     // Where the watch tells its packets, the journal grows by exactly what the line's course says, or by a first part of it.
     ensures course { ForSome (W.packets watch.old) (λ capture. Takes (played net.old.topology capture (past_of net.old) command.now) net.new result) }
-    // And there `drain` without a number takes no more steps than its bound, leaves no notice and no message in flight, and settles
+    // For every watch: a line that looks at no record takes its course over any capture with whose packets the network stands for the ledger,
+    // and, unless it is stopped, the network stands for these still.
+    ensures plain { looks_at_none command.now ≡ true → (capture : List (List ℕ)) → StandsFor net.old (inputs_of capture net.old.journal) →
+        Takes (played net.old.topology capture (past_of net.old) command.now) net.new result }
+    ensures standing { looks_at_none command.now ≡ true → OnOk result (GoesOnFor net.old net.new) }
+    // Where it tells them, `drain` without a number takes no more steps than its bound, leaves no notice and no message in flight, and settles
     // the network where LDP is switched on for each link that is up and BGP between all edges.
     ensures drained { ForSome (W.packets watch.old) (λ capture. DrainsBy command.now capture net.old net.new result) }
     // And there net and watch stand together afterwards; after a fault or want of memory the watch begins the journal.
@@ -362,7 +385,8 @@ pub fn play<W: Watch>(net: &mut Net, command: &Command, watch: &mut W) -> Result
     ensures records { W.records watch.new ≡ W.records watch.old }
     ensures packets { W.packets watch.new ≡ W.packets watch.old }
     ensures goes_on { W.goes_on watch.old watch.new }
-    ensures cause { Caused (W.reads watch.old, W.writes watch.old) (W.reads watch.new, W.writes watch.new) result }
+    ensures cause { Caused (W.packets watch.old ≡ None)
+        (W.reads watch.old, W.writes watch.old) (W.reads watch.new, W.writes watch.new) result }
 {
     match *command {
         Command::Do(step) => match step {

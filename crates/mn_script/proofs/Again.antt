@@ -238,16 +238,16 @@ target_again network first vrf target false lawful there form =
     ∙ ap (λ found. found >>= (λ it. Ok (it, target, false))) (vrf_again network vrf lawful there)
 
 imports : (network : Network) (vrf : VrfNo) (target : Rt) (on : Bool) → IsLawful network → vrf.0 < length network.vrfs → has_rt_form target.0 ≡ true →
-    step_line network (step_words network (Import vrf target on)) ≡ Ok (Import vrf target on)
+    step_line network (step_words network (Import vrf on target)) ≡ Ok (Import vrf on target)
 unfolding step_line import_line
 imports network vrf target on lawful there form =
-    ap (λ found. found >>= (λ it. Ok (Import it.0 it.1 it.2))) (target_again network (codes "import") vrf target on lawful there form)
+    ap (λ found. found >>= (λ it. Ok (Import it.0 it.2 it.1))) (target_again network (codes "import") vrf target on lawful there form)
 
 exports : (network : Network) (vrf : VrfNo) (target : Rt) (on : Bool) → IsLawful network → vrf.0 < length network.vrfs → has_rt_form target.0 ≡ true →
-    step_line network (step_words network (Export vrf target on)) ≡ Ok (Export vrf target on)
+    step_line network (step_words network (Export vrf on target)) ≡ Ok (Export vrf on target)
 unfolding step_line export_line
 exports network vrf target on lawful there form =
-    ap (λ found. found >>= (λ it. Ok (Export it.0 it.1 it.2))) (target_again network (codes "export") vrf target on lawful there form)
+    ap (λ found. found >>= (λ it. Ok (Export it.0 it.2 it.1))) (target_again network (codes "export") vrf target on lawful there form)
 
 attach : (network : Network) (site : SiteNo) → IsLawful network → site.0 < length network.sites →
     step_line network (step_words network (Attach site)) ≡ Ok (Attach site)
@@ -305,8 +305,8 @@ step_again network (BgpDown a b) lawful fit is = bgp_down network a b lawful fit
 step_again network (HearBgp a b) lawful fit is = hear_bgp network a b lawful fit
 step_again network (AddRoute site prefix) lawful fit is = let both = and_parts _ _ fit in add_route network site prefix lawful (ltb-true _ _ both.0) is
 step_again network (DelRoute site prefix) lawful fit is = let both = and_parts _ _ fit in del_route network site prefix lawful (ltb-true _ _ both.0) is
-step_again network (Import vrf target on) lawful fit is = let both = and_parts _ _ fit in imports network vrf target on lawful (ltb-true _ _ both.0) both.1
-step_again network (Export vrf target on) lawful fit is = let both = and_parts _ _ fit in exports network vrf target on lawful (ltb-true _ _ both.0) both.1
+step_again network (Import vrf on target) lawful fit is = let both = and_parts _ _ fit in imports network vrf target on lawful (ltb-true _ _ both.0) both.1
+step_again network (Export vrf on target) lawful fit is = let both = and_parts _ _ fit in exports network vrf target on lawful (ltb-true _ _ both.0) both.1
 step_again network (Attach site) lawful fit is = attach network site lawful (ltb-true _ _ fit)
 step_again network (Detach site) lawful fit is = detach network site lawful (ltb-true _ _ fit)
 step_again network (Inject site number) lawful fit is = let both = and_parts _ _ fit in
@@ -335,8 +335,8 @@ step_words_are network (BgpDown a b) = record { some = refl; run = refl; drain =
 step_words_are network (HearBgp a b) = record { some = refl; run = refl; drain = refl; flush = refl; show = refl; damage = refl }
 step_words_are network (AddRoute site prefix) = record { some = refl; run = refl; drain = refl; flush = refl; show = refl; damage = refl }
 step_words_are network (DelRoute site prefix) = record { some = refl; run = refl; drain = refl; flush = refl; show = refl; damage = refl }
-step_words_are network (Import vrf target on) = record { some = refl; run = refl; drain = refl; flush = refl; show = refl; damage = refl }
-step_words_are network (Export vrf target on) = record { some = refl; run = refl; drain = refl; flush = refl; show = refl; damage = refl }
+step_words_are network (Import vrf on target) = record { some = refl; run = refl; drain = refl; flush = refl; show = refl; damage = refl }
+step_words_are network (Export vrf on target) = record { some = refl; run = refl; drain = refl; flush = refl; show = refl; damage = refl }
 step_words_are network (Attach site) = record { some = refl; run = refl; drain = refl; flush = refl; show = refl; damage = refl }
 step_words_are network (Detach site) = record { some = refl; run = refl; drain = refl; flush = refl; show = refl; damage = refl }
 step_words_are network (Inject site number) = record { some = refl; run = refl; drain = refl; flush = refl; show = refl; damage = refl }

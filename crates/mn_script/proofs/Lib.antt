@@ -6,3 +6,4 @@ pub mod Again
 pub mod Only
 pub mod Front
 pub mod Sendings
+pub mod Numbered

@@ -382,7 +382,7 @@ route_only network ws step first h =
     (of_four ws (codes "route") _ _ _ (counted_only ws 4 full.0 full.1) first (choice_only ws (codes "add") (codes "del") add.0 add.1)
     (site_only network (word_at ws 2) site.0 site.1) (prefix_in_only (word_at ws 3) prefix.0 prefix.1))
 
-import_asked : (network : Network) (ws : List (List ℕ)) (step : Step) (add : Bool) (vrf : VrfNo) (target : Rt) → Import vrf target add ≡ step →
+import_asked : (network : Network) (ws : List (List ℕ)) (step : Step) (add : Bool) (vrf : VrfNo) (target : Rt) → Import vrf add target ≡ step →
     ws ≡ codes "import" ∷ (if add then codes "add" else codes "del") ∷ vrf_text network vrf ∷ rt_text target ∷ [] → AskForStep network ws step
 import_asked network ws step add vrf target same whole = subst (AskForStep network ws) same (inl whole)
 
@@ -410,7 +410,7 @@ import_only network ws step first h =
     let found = bind_ok (target_operands network ws) _ step h in
     import_asked network ws step found.0.2 found.0.0 found.0.1 (same_Ok _ step found.2) (target_only network ws (codes "import") found.0 first found.1)
 
-export_asked : (network : Network) (ws : List (List ℕ)) (step : Step) (add : Bool) (vrf : VrfNo) (target : Rt) → Export vrf target add ≡ step →
+export_asked : (network : Network) (ws : List (List ℕ)) (step : Step) (add : Bool) (vrf : VrfNo) (target : Rt) → Export vrf add target ≡ step →
     ws ≡ codes "export" ∷ (if add then codes "add" else codes "del") ∷ vrf_text network vrf ∷ rt_text target ∷ [] → AskForStep network ws step
 export_asked network ws step add vrf target same whole = subst (AskForStep network ws) same (inl whole)
 

@@ -1,5 +1,6 @@
 -- The lines of a file, in some language of lines: what each line asks for, and the first that is refused.
-use Rattle.std.specs.Prelude.{ℕ, ◌+◌, min, List, [], ◌∷◌, ◌++◌, Option, Some, None, Result, Ok, Err}
+use Rattle.std.specs.Prelude.{◌≡◌, ◌<◌, ℕ, ◌+◌, min, List, [], ◌∷◌, ◌++◌, length, slice_get, Option, Some, None, IfSome, Result, Ok, Err}
+use Rattle.std.specs.Borrow.{Bor}
 use Rattle.std.specs.Str.Lines.{lines}
 use Rattle.mn_script.specs.declared.refusal.ScriptRule.{ScriptRule}
 use Rattle.mn_script.specs.Words.{line_words}
@@ -35,3 +36,16 @@ gathered says number (text ∷ more) = begun_by number (says number (line_words 
 -- the lines of a file, of which the first has this number
 abbrev pub lines_of : {L : Type 0} → Says L → ℕ → List ℕ → Result (List L) (ScriptRule × ℕ)
 lines_of says first bytes = gathered says first (lines bytes)
+
+-- words that say a line at any number say another one at this number
+abbrev pub SaysAgain : {L : Type 0} → Says L → L → ℕ → L → Type 0
+SaysAgain says line number again = (earlier : ℕ) (words : List (List ℕ)) → says earlier words ≡ Ok (Some line) → says number words ≡ Ok (Some again)
+
+-- a text says the line at a place of some lines, at some number
+abbrev pub IsSaidAt : {L : Type 0} → Says L → List L → List ℕ → ℕ → Type 0
+IsSaidAt says script text place = (place < length script)
+    × ((line : _) → slice_get script place ≡ Some line → (number : ℕ) × (says number (line_words text) ≡ Ok (Some line)))
+
+-- what is remembered, if anything is, is a text that says the line at its place
+abbrev pub IsKnown : {L : Type 0} → Says L → List L → Option (Bor (List ℕ) × ℕ) → Type 0
+IsKnown says script known = IfSome known (λ it. IsSaidAt says script it.0.now it.1)

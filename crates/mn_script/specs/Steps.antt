@@ -86,13 +86,13 @@ target_operands network ws = do
 unfoldable pub import_line : Network → List (List ℕ) → Result Step ScriptRule
 import_line network ws = do
   found ← target_operands network ws
-  Ok (Import found.0 found.1 found.2)
+  Ok (Import found.0 found.2 found.1)
 
 -- export add VRF TARGET, export del VRF TARGET
 unfoldable pub export_line : Network → List (List ℕ) → Result Step ScriptRule
 export_line network ws = do
   found ← target_operands network ws
-  Ok (Export found.0 found.1 found.2)
+  Ok (Export found.0 found.2 found.1)
 
 -- site up SITE, site down SITE
 unfoldable pub site_line : Network → List (List ℕ) → Result Step ScriptRule

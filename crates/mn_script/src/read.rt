@@ -12,10 +12,34 @@ use crate::{Line, ScriptBad, ScriptRule};
 use mn_topo::Topology;
 use std::alloc::Global;
 
+/// As many bytes as a number of eight bits can count: so the compiler counts sixteen of them at a time.
+const PART: usize = 255;
+
+/// The line feeds of a part.
+fn feeds_of_part(part: &[u8]) -> u8
+    requires { length part.now ≤ 255 }
+    ensures { result ≡ count_by (λ byte. byte == 10) part.now }
+{
+    let mut feeds = 0u8;
+    for byte in part {
+        if *byte == b'\n' {
+            feeds += 1;
+        }
+    }
+    feeds
+}
+
 fn feeds(bytes: &[u8]) -> usize
     ensures { result ≡ count_by (λ byte. byte == 10) bytes.now }
 {
-    bytes.iter().filter(|byte| **byte == b'\n').count()
+    let mut feeds = 0;
+    let mut rest = bytes;
+    'parts: while rest.len() > PART {
+        let (part, next) = rest.split_at(PART);
+        feeds += usize::from(feeds_of_part(part));
+        rest = next;
+    }
+    feeds + usize::from(feeds_of_part(rest))
 }
 
 fn ends_open(bytes: &[u8]) -> bool
@@ -47,6 +71,11 @@ impl Language for Commands<'_> {
 
     fn says(&self, number: u32, words: &[&[u8]]) -> Result<Option<Line>, ScriptRule> {
         numbered_line(self.0, number, words)
+    }
+
+    #[tactic(auto, using(crate::proofs::Numbered::says_again))]
+    fn again(&self, line: &Line, number: u32) -> Option<Line> {
+        Some(Line { number, ..*line })
     }
 
     #[tactic(auto, using(crate::proofs::Front::command_says_by_six))]

@@ -1,9 +1,9 @@
 //! The lines of a file, in any language of lines.
-ghost use Rattle.std.specs.Prelude.{◌≡◌, ◌≤◌, ◌++◌, ℕ, Bool, true, List, All, length, take, IfOk, IfSome, OnOk};
+ghost use Rattle.std.specs.Prelude.{◌≡◌, ◌≤◌, ◌<◌, ◌++◌, ℕ, Bool, true, List, All, Some, Ok, length, take, IfOk, IfSome, OnOk};
 ghost use Rattle.std.specs.Str.Lines.{lines};
 ghost use Rattle.mn_script.specs.Words.{texts, line_words};
 ghost use Rattle.mn_script.specs.Rules.{Reads};
-ghost use Rattle.mn_script.specs.Reading.{Says, line_of, lines_of};
+ghost use Rattle.mn_script.specs.Reading.{Says, SaysAgain, IsKnown, line_of, lines_of};
 
 use crate::words::first_words;
 use crate::{ScriptBad, ScriptRule};
@@ -26,6 +26,15 @@ pub trait Language {
     fn says(&self, number: u32, words: &[&[u8]]) -> Result<Option<Self::Line>, ScriptRule>
         ensures value { result ≡ says self.now number (texts words.now) }
         ensures fits { IfOk result (λ said. IfSome said (λ line. fits self.now line ≡ true)) };
+
+    /// What a line asks for that says the same as this one, at another number; none where the language has no quicker way
+    /// than to read it.
+    fn again(&self, line: &Self::Line, number: u32) -> Option<Self::Line>
+        ensures says { IfSome result (λ again. SaysAgain (says self.now) line.now number again) }
+        ensures fits { IfSome result (λ again. fits self.now line.now ≡ true → fits self.now again ≡ true) }
+    {
+        None
+    }
 
     /// A law, which takes no time: no line has a form of more than five words, so six tell what it says.
     fn by_six(&self)
@@ -56,6 +65,65 @@ fn line_says<L: Language>(
     language.says(number, &words[..count])
 }
 
+/// A line that is remembered, and the place of what it asks for among all that was asked for so far.
+type Known<'t> = Option<(&'t [u8], usize)>;
+
+/// Lines that are remembered at a time.
+const SLOTS: usize = 64;
+
+/// Bytes at the end of a line that tell its slot.
+const TOLD_BY: usize = 8;
+
+/// Where a line is remembered. Another of the same slot takes its place: it would be read once more.
+fn slot_of(line: &[u8]) -> usize
+    ensures { result < 64 }
+{
+    let mut sum = line.len();
+    for byte in &line[line.len().saturating_sub(TOLD_BY)..] {
+        sum = sum.wrapping_mul(37).wrapping_add(usize::from(*byte));
+    }
+    sum % SLOTS
+}
+
+/// What the remembered line asked for, at another number, where a line has the same bytes: a script says few things
+/// many times.
+fn known_again<L: Language>(
+    language: &L,
+    script: &[L::Line],
+    known: Known<'_>,
+    number: u32,
+    line: &[u8],
+) -> Option<L::Line>
+    requires known { IsKnown (L.says language.now) script.now known }
+    ensures value { IfSome result (λ again. L.says language.now number (line_words line.now) ≡ Ok (Some again)) }
+    ensures fits { All (λ known. L.fits language.now known ≡ true) script.now → IfSome result (λ again. L.fits language.now again ≡ true) }
+{
+    let (text, place) = known?;
+    if line != text {
+        return None;
+    }
+    language.again(script.get(place)?, number)
+}
+
+/// What a line asks for, by its number and its bytes, or as before where it is the remembered line again.
+fn said<L: Language>(
+    language: &L,
+    script: &[L::Line],
+    known: Known<'_>,
+    number: u32,
+    line: &[u8],
+) -> Result<Option<L::Line>, ScriptRule>
+    requires known { IsKnown (L.says language.now) script.now known }
+    requires fitting { All (λ known. L.fits language.now known ≡ true) script.now }
+    ensures value { result ≡ L.says language.now number (line_words line.now) }
+    ensures fits { IfOk result (λ said. IfSome said (λ line. L.fits language.now line ≡ true)) }
+{
+    match known_again(language, script, known, number, line) {
+        Some(again) => Ok(Some(again)),
+        None => line_says(language, number, line),
+    }
+}
+
 /// The lines of a file in a language, of which the first has the number; lines past 4,294,967,295 have this number
 /// too.
 ///
@@ -73,11 +141,17 @@ pub fn read_lines<L: Language>(
     let mut script = Vec::new(alloc);
     let mut rest = bytes;
     let mut number = first;
+    let mut known: [Known<'_>; SLOTS] = [None; SLOTS];
     'lines: while let Some((line, next)) = first_line(rest) {
-        match line_says(language, number, line) {
-            Ok(said) => put(&mut script, said)?,
+        let slot = slot_of(line);
+        let said = match said(language, &script, known[slot], number, line) {
+            Ok(said) => said,
             Err(rule) => return Err(ScriptBad::Refused { rule, line: number }),
+        };
+        if said.is_some() {
+            known[slot] = Some((line, script.len()));
         }
+        put(&mut script, said)?;
         rest = next;
         number = number.saturating_add(1);
     }

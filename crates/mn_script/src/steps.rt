@@ -149,7 +149,7 @@ pub fn import_line(topology: &Topology, words: &[&[u8]]) -> Result<Step, ScriptR
     ensures fits { IfOk result (λ step. fits topology.now step ≡ true) }
 {
     let (vrf, target, add) = target_operands(topology, words)?;
-    Ok(Step::Import(vrf, target, add))
+    Ok(Step::Import(vrf, add, target))
 }
 
 /// `export add VRF TARGET`, `export del VRF TARGET`.
@@ -159,7 +159,7 @@ pub fn export_line(topology: &Topology, words: &[&[u8]]) -> Result<Step, ScriptR
     ensures fits { IfOk result (λ step. fits topology.now step ≡ true) }
 {
     let (vrf, target, add) = target_operands(topology, words)?;
-    Ok(Step::Export(vrf, target, add))
+    Ok(Step::Export(vrf, add, target))
 }
 
 /// `site up SITE`, `site down SITE`.

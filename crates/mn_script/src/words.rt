@@ -1,5 +1,6 @@
 //! The words of a line, and how many there are.
 ghost use Rattle.std.specs.Prelude.{◌≡◌, ◌≤◌, ◌∷◌, [], OnOk, length, take, take_while, IfOk};
+ghost use Rattle.std.specs.Str.{bytes_eq};
 ghost use Rattle.mn_script.specs.Words.{texts, is_comment, line_words, word_at, is_word, choice, counted};
 
 use crate::ScriptRule;
@@ -55,12 +56,19 @@ pub fn word_at<'a>(words: &[&'a [u8]], k: usize) -> &'a [u8]
     }
 }
 
-/// Whether the word at `k`, from 0, is the text; none is the empty text.
+fn same(word: &[u8], text: &[u8]) -> bool
+    ensures { result ≡ bytes_eq word.now text.now }
+{
+    word == text
+}
+
+/// Whether the word at `k`, from 0, is the text; none is the empty text. Most words differ in length, which is told first.
 #[inline(always)]
 pub fn is_word(words: &[&[u8]], k: usize, text: &str) -> bool
     ensures { result ≡ is_word (texts words.now) k text.now }
 {
-    word_at(words, k) == text.as_bytes()
+    let (word, text) = (word_at(words, k), text.as_bytes());
+    word.len() == text.len() && same(word, text)
 }
 
 /// Whether the second word is the one of two or the other: S2 where it is the only word that there is, and S1 where

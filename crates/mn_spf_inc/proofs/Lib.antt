@@ -10,3 +10,4 @@ pub mod Spared
 pub mod Started
 pub mod Turned
 pub mod Ends
+pub mod Quiet

@@ -198,23 +198,16 @@ module _ (v : Learned) (root : ℕ) (net : IsNetwork v.nodes v.ends) (here : roo
         | inl e ↦
             (let leads : beyond v h.from l ≡ n = ap (beyond v h.from) (sym e.1) ∙ h.leads in
             let low : rank_over v root h.from h.near l ≤ known = subst (λ k. rank_over v root h.from h.near k ≤ known) e.1 h.no_worse in
+            let from : (x : ℕ) → h.from ≡ x → HeldOver down root s.table l x n known =
+            λ x f. (
+              h.near,
+              ap (rank_at s.table) (sym f) ∙ h.is_known,
+              ap (λ y. beyond v y l) (sym f) ∙ leads,
+              subst (λ y. rank_over v root y h.near l ≤ known) f low,
+            ) in
             elim (end_is v h.from l (subst (λ k. goes v h.from k ≡ true) e.1 h.goes_on)) [
-              | inl f ↦ inl
-                  (inl (
-                    h.near,
-                    ap (rank_at s.table) (sym f) ∙ h.is_known,
-                    ap (λ x. beyond v x l) (sym f)
-                        ∙ leads,
-                    subst (λ x. rank_over v root x h.near l ≤ known) f low,
-                  ))
-              | inr f ↦ inl
-                  (inr (
-                    h.near,
-                    ap (rank_at s.table) (sym f) ∙ h.is_known,
-                    ap (λ x. beyond v x l) (sym f)
-                        ∙ leads,
-                    subst (λ x. rank_over v root x h.near l ≤ known) f low,
-                  ))
+              | inl f ↦ inl (inl (from _ f))
+              | inr f ↦ inl (inr (from _ f))
             ])
         | inr e ↦ inr (record {
           from = h.from;

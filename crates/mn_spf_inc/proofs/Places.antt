@@ -1,5 +1,5 @@
 -- The links at a node, one after another, and back over a link.
-use Rattle.std.proofs.Common.{ℕ, ◌≡◌, ◌+◌, ◌^◌, ◌<◌, ◌≤◌, ◌==◌, Bool, true, false, List, [], ◌∷◌, ◌++◌, length, get_or, refl, arith, sym, ◌∙◌, ap, ◌⊎◌, inl}
+use Rattle.std.proofs.Common.{ℕ, ◌≡◌, ◌+◌, ◌*◌, ◌^◌, ◌<◌, ◌≤◌, ◌==◌, Bool, true, false, List, [], ◌∷◌, ◌++◌, length, get_or, refl, arith, sym, ◌∙◌, ap, ◌⊎◌, inl}
 use Rattle.std.proofs.Common.{inr, subst}
 use Rattle.std.specs.Prelude.{◌||◌, if◌then◌else◌, nat_lt, Option, Some, None, All, Contains, MatchOption, IsPermutation}
 use Rattle.std.specs.declared.cmp.Reverse.{Reverse}
@@ -302,22 +302,19 @@ module _ (v : Learned) (root : ℕ) (net : IsNetwork v.nodes v.ends) (here : roo
       (goes_back v at l g) (cut_next v root at i l d links cut e) t
 
   -- sums fit
-  pub sum_fits : (Rest : ℕ → ℕ → Type 0) (s : State) (node cost l : ℕ) → IsGrowing v root Rest s → node < v.nodes → l < length v.ends →
-      dist_at s.table node ≡ Some cost → cost + (link (wiring_of v) l).cost < 2 ^ 32
-  sum_fits Rest s node cost l h p q e =
+  below_all : (cost l : ℕ) → l < length v.ends → cost ≤ 65535 * v.nodes → cost + (link (wiring_of v) l).cost < 2 ^ 32
+  below_all cost l q low =
       omega (
         arith,
-        h.bounded node cost p e,
+        low,
         (net.links l (record { a = record { 0 = 0 }; b = record { 0 = 0 }; cost = 0; delay = 0; loss = 0; life = 0 }) q).bounded,
         net.few_nodes,
       )
 
+  pub sum_fits : (Rest : ℕ → ℕ → Type 0) (s : State) (node cost l : ℕ) → IsGrowing v root Rest s → node < v.nodes → l < length v.ends →
+      dist_at s.table node ≡ Some cost → cost + (link (wiring_of v) l).cost < 2 ^ 32
+  sum_fits Rest s node cost l h p q e = below_all cost l q (omega (arith, h.bounded node cost p e))
+
   pub sum_fits_cut : (Late : ℕ → ℕ → Type 0) (s : State) (node cost l : ℕ) → IsCutting v root Late s → node < v.nodes → l < length v.ends →
       dist_at s.table node ≡ Some cost → cost + (link (wiring_of v) l).cost < 2 ^ 32
-  sum_fits_cut Late s node cost l h p q e =
-      omega (
-        arith,
-        h.small node cost p e,
-        (net.links l (record { a = record { 0 = 0 }; b = record { 0 = 0 }; cost = 0; delay = 0; loss = 0; life = 0 }) q).bounded,
-        net.few_nodes,
-      )
+  sum_fits_cut Late s node cost l h p q e = below_all cost l q (h.small node cost p e)

@@ -29,3 +29,8 @@ pub record IsNet (ends : List LinkEnds) (up : List Bool) (lists : List (List Lin
   pub network : IsNetwork (length lists) ends
   pub one_each : length up ≡ length ends
   pub at : AreLinks (all_up (length lists) ends) lists
+
+-- the lists by node are those of all links of a network
+pub record AreByNode (ends : List LinkEnds) (lists : List (List LinkNo)) : Type 0 where
+  pub network : IsNetwork (length lists) ends
+  pub at : AreLinks (all_up (length lists) ends) lists

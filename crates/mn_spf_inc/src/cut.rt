@@ -1,4 +1,4 @@
-ghost use Rattle.std.specs.Prelude.{◌≡◌, ◌≢◌, ◌+◌, ◌^◌, ◌≤◌, ◌<◌, ℕ, List, [], length, Some, IsTrue, IsOk, OnOk};
+ghost use Rattle.std.specs.Prelude.{◌≡◌, ◌≢◌, ◌+◌, ◌^◌, ◌≤◌, ◌<◌, ℕ, List, [], false, length, Ok, Some, IsTrue, IsOk, OnOk};
 ghost use Rattle.std.specs.BinaryHeap.{heap_items, heap_len};
 ghost use Rattle.mn_linkdb.specs.PathTable.{dist_at};
 
@@ -125,20 +125,21 @@ impl Mend {
         Ok(())
     }
 
-    /// Mends the tree where a link went down.
+    /// Mends the tree where a link went down, and answers whether any node may have lost its way.
     pub(crate) fn part<L: Ledger>(
         &mut self,
         net: &Net,
         root: NodeNo,
         number: LinkNo,
         steps: &mut Steps<L>,
-    ) -> Result<(), AllocError>
+    ) -> Result<bool, AllocError>
         requires root { root.0 < net.now.nodes }
         requires there { number.0 < length net.now.ends }
         requires cutting { let ends = link (wiring_of net.now) number.0 in IsCutting net.now root.0 (HeldOverEither net.now root.0 self.old.tree number.0 ends.a.0 ends.b.0) (state_of self.old) }
         requires no_ways { heap_items self.old.queue ≡ [] }
         requires none_cut { self.old.cut.items ≡ [] }
         ensures mended { OnOk result (IsMended net.now root.0 (state_of self.new)) }
+        ensures same { result ≡ Ok false → self.new.tree ≡ self.old.tree }
         ensures idle { let ends = link (wiring_of net.now) number.0 in IsPassedOver root.0 self.old.tree ends.a.0 ends → IsPassedOver root.0 self.old.tree ends.b.0 ends → IsOk result × (self.new.tree ≡ self.old.tree) × (steps.new ≡ steps.old + 3) }
     {
         let link = net.link(number);
@@ -148,9 +149,10 @@ impl Mend {
         steps.tick();
         self.doubt_beyond(root, link.b, link)?;
         if self.queue.is_empty() {
-            return Ok(());
+            return Ok(false);
         }
         self.cut_all(net, root, steps)?;
-        self.rejoin(net, root, steps)
+        self.rejoin(net, root, steps)?;
+        Ok(true)
     }
 }

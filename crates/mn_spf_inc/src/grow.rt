@@ -1,4 +1,5 @@
-ghost use Rattle.std.specs.Prelude.{◌≡◌, ◌≤◌, ◌<◌, ◌+◌, [], true, List, length, All, OnOk};
+ghost use Rattle.std.specs.Prelude.{◌≡◌, ◌≤◌, ◌<◌, ◌+◌, [], true, false, List, length, All, Ok, OnOk};
+ghost use Rattle.std.specs.BinaryHeap.{heap_items, heap_len};
 ghost use Rattle.mn_wiring.specs.Wiring.{is_up};
 ghost use Rattle.mn_linkdb.specs.Learned.{links_up};
 ghost use Rattle.mn_spf.specs.Ways.{AreLinksAt};
@@ -85,20 +86,21 @@ impl Mend {
         Ok(())
     }
 
-    /// Mends the tree where a link came up.
+    /// Mends the tree where a link came up, and answers whether any way got better.
     pub(crate) fn join<L: Ledger>(
         &mut self,
         net: &Net,
         root: NodeNo,
         number: LinkNo,
         steps: &mut Steps<L>,
-    ) -> Result<(), AllocError>
+    ) -> Result<bool, AllocError>
         requires root { root.0 < net.now.nodes }
         requires there { number.0 < length net.now.ends }
         requires up { is_up (links_up net.now) number.0 ≡ true }
         requires growing { IsGrowing net.now root.0 (OneLink number.0) (state_of self.old) }
         requires none_cut { self.old.cut.items ≡ [] }
-        ensures { OnOk result (IsMended net.now root.0 (state_of self.new)) }
+        ensures mended { OnOk result (IsMended net.now root.0 (state_of self.new)) }
+        ensures same { result ≡ Ok false → self.new.tree ≡ self.old.tree }
     {
         let link = net.link(number);
         steps.tick();
@@ -106,7 +108,11 @@ impl Mend {
         self.offer_beyond(root, link.a, link)?;
         steps.tick();
         self.offer_beyond(root, link.b, link)?;
-        self.spread(net, root, steps)
+        if self.queue.is_empty() {
+            return Ok(false);
+        }
+        self.spread(net, root, steps)?;
+        Ok(true)
     }
 
     /// Offers a node the ways from its neighbours.

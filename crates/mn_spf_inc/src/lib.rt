@@ -17,7 +17,7 @@
 //! few are taken twice; the tree is right in whatever order they are taken.
 //!
 //! - `way`: a way to a node, how it goes on over a link, and which of two is better
-//! - `net`: the links by number and by node, and which are up
+//! - `net`: the links by number and by node, which trees of one network share, and which are up
 //! - `mend`: the tree and the nodes still to be looked at; one way is offered, one node is doubted
 //! - `grow`: ways that get better are followed
 //! - `cut`: nodes that lost their way are cut off
@@ -31,4 +31,5 @@ mod net;
 mod tree;
 mod way;
 
+pub use net::SharedLinks;
 pub use tree::MendTree;

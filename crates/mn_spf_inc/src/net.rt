@@ -6,17 +6,40 @@ ghost use Rattle.mn_spf.specs.Ways.{wiring_of, AreLinks, AreLinksAt};
 ghost use Rattle.mn_spf_inc.specs.Nets.{all_up, all_down, with_link};
 
 use mn_base::{LinkNo, ListOf, NodeNo};
+use mn_linkdb::SharedList;
 use mn_wiring::LinkEnds;
 use std::alloc::{AllocError, Global};
 use std::marker::Model;
 
+/// The links of a network by number and by node, which the trees of all nodes own together.
+///
+/// Contracts see them as links that are all down.
+#[derive(Drop)]
+pub struct SharedLinks {
+    ends: SharedList<LinkEnds>,
+    /// By node, the links at it.
+    at: SharedList<ListOf<LinkNo>>,
+}
+
+impl Model for SharedLinks {
+    ghost use Rattle.std.specs.Prelude.{length};
+    ghost use Rattle.mn_linkdb.specs.Learned.{Learned};
+    ghost use Rattle.mn_spf_inc.specs.Nets.{all_down, AreByNode};
+
+    ghost Value = { Learned };
+
+    ghost view = { λ l. all_down (length l.at) l.ends };
+
+    ghost invariant = { λ l. AreByNode l.ends l.at };
+}
+
 /// The links by number and by node, and which of them are up.
 #[derive(Drop)]
 pub(crate) struct Net {
-    ends: Vec<LinkEnds>,
+    ends: SharedList<LinkEnds>,
     up: Vec<bool>,
     /// By node, the links at it, whether they are up or not.
-    at: Vec<ListOf<LinkNo>>,
+    at: SharedList<ListOf<LinkNo>>,
 }
 
 impl Model for Net {
@@ -26,9 +49,9 @@ impl Model for Net {
 
     ghost Value = { Learned };
 
-    ghost view = { λ n. seen_as (length n.at.items) n.ends.items n.up.items };
+    ghost view = { λ n. seen_as (length n.at) n.ends n.up.items };
 
-    ghost invariant = { λ n. IsNet n.ends.items n.up.items n.at.items };
+    ghost invariant = { λ n. IsNet n.ends n.up.items n.at };
 }
 
 /// An empty list for each node.
@@ -69,15 +92,37 @@ fn links_by_node(
     Ok(lists)
 }
 
-impl Net {
-    /// So many nodes, with links that are all down.
-    pub(crate) fn new(alloc: Global, nodes: u32, ends: &[LinkEnds]) -> Result<Net, AllocError>
+impl SharedLinks {
+    /// The links of so many nodes, in a network that `is_network` accepts.
+    pub fn new(alloc: Global, nodes: u32, ends: &[LinkEnds]) -> Result<SharedLinks, AllocError>
         requires { IsNetwork nodes ends.now }
-        ensures { IfOk result (λ net. net ≡ all_down nodes ends.now) }
+        ensures { IfOk result (λ links. links ≡ all_down nodes ends.now) }
     {
         let at = links_by_node(alloc, nodes, ends)?;
-        let up = vec![in alloc; false; ends.len()]?;
+        let at = SharedList::from_vec(alloc, at)?;
         let ends = Vec::from_slice(alloc, ends)?;
+        let ends = SharedList::from_vec(alloc, ends)?;
+        Ok(SharedLinks { ends, at })
+    }
+
+    /// The ends and figures of each link.
+    pub fn ends(&self) -> &SharedList<LinkEnds>
+        ensures { result.now ≡ self.now.ends }
+    {
+        &self.ends
+    }
+}
+
+impl Net {
+    /// These links, all down.
+    pub(crate) fn over(alloc: Global, links: &SharedLinks) -> Result<Net, AllocError>
+        ensures net { IfOk result (λ net. net ≡ links.now) }
+        ensures form { IsView links.now }
+        ensures down { links.now ≡ all_down links.now.nodes links.now.ends }
+    {
+        let up = vec![in alloc; false; links.ends.as_slice().len()]?;
+        let ends = links.ends.share()?;
+        let at = links.at.share()?;
         Ok(Net { ends, up, at })
     }
 
@@ -85,14 +130,14 @@ impl Net {
     pub(crate) fn nodes(&self) -> u32
         ensures { result ≡ self.now.nodes }
     {
-        self.at.len() as u32
+        self.at.as_slice().len() as u32
     }
 
     /// The ends and figures of each link.
     pub(crate) fn ends(&self) -> &[LinkEnds]
         ensures { result.now ≡ self.now.ends }
     {
-        &self.ends
+        self.ends.as_slice()
     }
 
     /// The ends and figures of a link.
@@ -101,7 +146,7 @@ impl Net {
         ensures value { result ≡ link (wiring_of self.now) number.0 }
         ensures form { IsView self.now }
     {
-        self.ends[usize::from(number.0)]
+        self.ends.as_slice()[usize::from(number.0)]
     }
 
     /// Whether a link is up.
@@ -118,7 +163,7 @@ impl Net {
         ensures links { AreLinksAt (all_up self.now.nodes self.now.ends) node.0 result.now }
         ensures form { IsView self.now }
     {
-        self.at[usize::from(node.0)].as_slice()
+        self.at.as_slice()[usize::from(node.0)].as_slice()
     }
 
     /// Makes a link up or down.

@@ -1,4 +1,4 @@
-ghost use Rattle.std.specs.Prelude.{◌≡◌, ◌≢◌, ◌+◌, ◌<◌, [], length, replicate, slice_set, true, false, IsErr, IsOk, IfOk, OnOk, OnErr};
+ghost use Rattle.std.specs.Prelude.{◌≡◌, ◌≢◌, ◌+◌, ◌<◌, [], length, replicate, slice_set, true, false, Ok, IsErr, IsOk, IfOk, OnOk, OnErr};
 ghost use Rattle.mn_wiring.specs.Wiring.{Wiring, is_up};
 ghost use Rattle.mn_linkdb.specs.Network.{IsNetwork};
 ghost use Rattle.mn_linkdb.specs.PathTable.{IsTable};
@@ -6,7 +6,7 @@ ghost use Rattle.mn_linkdb.specs.Trees.{IsTree};
 ghost use Rattle.mn_spf_inc.specs.Mended.{Mended, IsOver, IsIdle};
 
 use crate::mend::Mend;
-use crate::net::Net;
+use crate::net::{Net, SharedLinks};
 use mn_base::{LinkNo, NodeNo, Steps};
 use mn_linkdb::Tree;
 use mn_wiring::LinkEnds;
@@ -49,8 +49,19 @@ impl MendTree {
         ensures down { IfOk result (λ tree. tree.up ≡ replicate (length ends.now) false) }
         ensures sound { IfOk result (λ tree. tree.failed ≡ false) }
     {
-        let net = Net::new(alloc, nodes, ends)?;
-        let mend = Mend::new(alloc, nodes, root)?;
+        let links = SharedLinks::new(alloc, nodes, ends)?;
+        MendTree::over(alloc, root, &links)
+    }
+
+    /// The same over links that the tree shares with others.
+    pub fn over(alloc: Global, root: NodeNo, links: &SharedLinks) -> Result<MendTree, AllocError>
+        requires root { root.0 < links.now.nodes }
+        ensures of { IfOk result (λ tree. (tree.root ≡ root.0) × (tree.nodes ≡ links.now.nodes) × (tree.ends ≡ links.now.ends)) }
+        ensures down { IfOk result (λ tree. tree.up ≡ replicate (length links.now.ends) false) }
+        ensures sound { IfOk result (λ tree. tree.failed ≡ false) }
+    {
+        let net = Net::over(alloc, links)?;
+        let mend = Mend::new(alloc, net.nodes(), root)?;
         Ok(MendTree {
             root,
             net,
@@ -77,27 +88,47 @@ impl MendTree {
         ensures err { OnErr result (self.new.failed ≡ true) }
         ensures idle { self.old.failed ≡ false → up ≡ false → IsIdle self.old number.0 → IsOk result × (self.new.tree ≡ self.old.tree) × (steps.new ≡ steps.old + 3) }
     {
+        self.mend(number, up, steps)?;
+        Ok(())
+    }
+
+    /// The same; it answers whether the tree may have changed.
+    fn mend<L: Ledger>(
+        &mut self,
+        number: LinkNo,
+        up: bool,
+        steps: &mut Steps<L>,
+    ) -> Result<bool, AllocError>
+        requires there { number.0 < length self.old.ends }
+        requires turns { is_up self.old.up number.0 ≢ up }
+        ensures of { (self.new.root ≡ self.old.root) × (self.new.nodes ≡ self.old.nodes) × (self.new.ends ≡ self.old.ends) }
+        ensures turned { OnOk result (self.new.up ≡ slice_set self.old.up number.0 up) }
+        ensures ok { OnOk result ((self.old.failed ≡ false) × (self.new.failed ≡ false)) }
+        ensures err { OnErr result (self.new.failed ≡ true) }
+        ensures same { result ≡ Ok false → self.new.tree ≡ self.old.tree }
+        ensures idle { self.old.failed ≡ false → up ≡ false → IsIdle self.old number.0 → IsOk result × (self.new.tree ≡ self.old.tree) × (steps.new ≡ steps.old + 3) }
+    {
         if self.failed {
             return Err(AllocError);
         }
         self.failed = true;
         self.net.set(number, up);
-        if up {
-            self.mend.join(&self.net, self.root, number, steps)?;
+        let moved = if up {
+            self.mend.join(&self.net, self.root, number, steps)?
         } else {
-            self.mend.part(&self.net, self.root, number, steps)?;
-        }
+            self.mend.part(&self.net, self.root, number, steps)?
+        };
         self.failed = false;
-        Ok(())
+        Ok(moved)
     }
 
     /// The same over a ledger that is opened on the blank.
-    fn change_over<L: Ledger>(
+    fn mend_over<L: Ledger>(
         &mut self,
         number: LinkNo,
         up: bool,
         blank: Blank,
-    ) -> Result<(), AllocError>
+    ) -> Result<bool, AllocError>
         requires name { blank.name ≡ L.name }
         requires parts { blank.parts ≡ L.parts }
         requires some { 0 < blank.parts }
@@ -107,12 +138,13 @@ impl MendTree {
         ensures turned { OnOk result (self.new.up ≡ slice_set self.old.up number.0 up) }
         ensures ok { OnOk result ((self.old.failed ≡ false) × (self.new.failed ≡ false)) }
         ensures err { OnErr result (self.new.failed ≡ true) }
+        ensures same { result ≡ Ok false → self.new.tree ≡ self.old.tree }
     {
         let mut steps = Steps::<L>::new(blank);
-        self.change(number, up, &mut steps)
+        self.mend(number, up, &mut steps)
     }
 
-    /// The same where nobody asks how many steps it takes.
+    /// The same as `change` where nobody asks how many steps it takes.
     pub fn turn(&mut self, number: LinkNo, up: bool) -> Result<(), AllocError>
         requires there { number.0 < length self.old.ends }
         requires turns { is_up self.old.up number.0 ≢ up }
@@ -121,7 +153,21 @@ impl MendTree {
         ensures ok { OnOk result ((self.old.failed ≡ false) × (self.new.failed ≡ false)) }
         ensures err { OnErr result (self.new.failed ≡ true) }
     {
-        self.change_over::<Brand>(number, up, Blank::new(1))
+        self.turn_telling(number, up)?;
+        Ok(())
+    }
+
+    /// The same; it answers whether the tree may have changed, so that nobody has to look where it hasn't.
+    pub fn turn_telling(&mut self, number: LinkNo, up: bool) -> Result<bool, AllocError>
+        requires there { number.0 < length self.old.ends }
+        requires turns { is_up self.old.up number.0 ≢ up }
+        ensures of { (self.new.root ≡ self.old.root) × (self.new.nodes ≡ self.old.nodes) × (self.new.ends ≡ self.old.ends) }
+        ensures turned { OnOk result (self.new.up ≡ slice_set self.old.up number.0 up) }
+        ensures ok { OnOk result ((self.old.failed ≡ false) × (self.new.failed ≡ false)) }
+        ensures err { OnErr result (self.new.failed ≡ true) }
+        ensures same { result ≡ Ok false → self.new.tree ≡ self.old.tree }
+    {
+        self.mend_over::<Brand>(number, up, Blank::new(1))
     }
 
     /// The least walks from the root, over the links that are up: for each node the least cost,

@@ -250,7 +250,9 @@ fn set_ttl_behind(bytes: &mut [u8], place: usize, ttl: u8)
 fn behind_room(alloc: Global, bytes: &[u8]) -> Result<Vec<u8>, AllocError>
     ensures { IfOk result (λ room. room.items ≡ replicate 8 0 ++ bytes.now) }
 {
-    let mut buffer = Vec::from_slice(alloc, &[0; ENTRY * ROOM as usize])?;
+    let room = [0; ENTRY * ROOM as usize];
+    let mut buffer = Vec::with_capacity(alloc, bytes.len().saturating_add(room.len()))?;
+    buffer.extend_from_slice(&room)?;
     buffer.extend_from_slice(bytes)?;
     Ok(buffer)
 }

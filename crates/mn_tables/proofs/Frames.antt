@@ -8,9 +8,9 @@ use Rattle.mn_lfib.specs.declared.answer.Forwarded.{Forwarded}
 use Rattle.mn_lfib.specs.declared.answer.Forwarded.TheVariants.{Next, Site, Drop}
 use Rattle.mn_topo.specs.Network.{Network}
 use Rattle.mn_lines.specs.Lines.{text, rule_name}
-use Rattle.mn_output.specs.Files.{node_name}
-use Rattle.mn_output.specs.Tables.{site_name}
-use Rattle.mn_output.specs.Shown.{hex_text, unread_text, outcome_text, said_line}
+use Rattle.mn_output_laws.specs.Files.{node_name}
+use Rattle.mn_output_laws.specs.Tables.{site_name}
+use Rattle.mn_output_laws.specs.Shown.{hex_text, unread_text, outcome_text, said_line}
 use Rattle.mn_tables.specs.Frames.{head_text}
 
 pub head_row : (topology : Network) (node number : ℕ) (a d : List ℕ) → a ≡ node_name topology node → d ≡ decimal number

@@ -1,5 +1,5 @@
 -- Text that is put piece by piece.
-use Rattle.std.proofs.Common.{◌≡◌, ◌+◌, ◌<◌, ◌≤◌, ℕ, List, [], ◌∷◌, ◌++◌, length, get_or, take, drop, Result, Ok, Err, IsErr, refl, ap, sym}
+use Rattle.std.proofs.Common.{◌≡◌, ◌+◌, ◌<◌, ◌≤◌, ℕ, List, [], ◌∷◌, ◌++◌, length, get_or, take, drop, Option, Result, Ok, Err, IsErr, refl, ap, sym}
 use Rattle.std.proofs.Common.{◌∙◌, subst, append_assoc, arith, Bool, true, false}
 use Rattle.std.specs.Prelude.{filter, if◌then◌else◌}
 use Rattle.std.specs.Result.{IsErrAnd}
@@ -43,7 +43,7 @@ part_more : (a b more : List ℕ) (s t u : Stand) → Told a s t → PutsPart b 
 part_more a b more s t u x y =
     cut_in_second a (b ++ more) s.waits t.waits s.written t.written u.written x.puts (cut_in_first b more t.waits t.written u.written y)
 
-counted_as : (before other now : ℕ) (e : DeviceBad) → before ≡ other → Counted {T = Unit {0}} before now (Err e) → Counted {T = Unit {0}} other now (Err e)
+counted_as : (before other now : Option ℕ) (e : DeviceBad) → before ≡ other → Counted {T = Unit {0}} before now (Err e) → Counted {T = Unit {0}} other now (Err e)
 counted_as before other now Failed is h = subst (λ n. Counted {T = Unit {0}} n now (Err Failed)) is h
 counted_as before other now NoMemory is h = h ∙ is
 
@@ -89,13 +89,13 @@ tells_within a b more whole s t u e r from before this is = tells_err whole s u 
 })
 
 -- the counts of faults alone
-pub counted_err : (before mid now : ℕ) (e : DeviceBad) (r : Answer) → IsErrOnly r e → mid ≡ before → Counted {T = Unit {0}} mid now (Err e) →
+pub counted_err : (before mid now : Option ℕ) (e : DeviceBad) (r : Answer) → IsErrOnly r e → mid ≡ before → Counted {T = Unit {0}} mid now (Err e) →
     Counted before now r
 counted_err before mid now e (Ok x) from same this = absurd from.1
 counted_err before mid now e (Err other) from same this =
     subst (λ y. Counted {T = Unit {0}} before now (Err y)) (sym from.1) (counted_as mid before now e same this)
 
-pub counted_then : (before mid now : ℕ) (r : Answer) → mid ≡ before → Counted {T = Unit {0}} mid now r → Counted {T = Unit {0}} before now r
+pub counted_then : (before mid now : Option ℕ) (r : Answer) → mid ≡ before → Counted {T = Unit {0}} mid now r → Counted {T = Unit {0}} before now r
 counted_then before mid now r same this = subst (λ n. Counted {T = Unit {0}} n now r) same this
 
 -- memory was wanted before anything was put

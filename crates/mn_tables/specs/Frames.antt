@@ -3,7 +3,7 @@ use Rattle.std.specs.Prelude.{ℕ, List, [], ◌∷◌, codes}
 use Rattle.std.specs.Fmt.{decimal}
 use Rattle.mn_topo.specs.Network.{Network}
 use Rattle.mn_lines.specs.Lines.{text}
-use Rattle.mn_output.specs.Files.{node_name}
+use Rattle.mn_output_laws.specs.Files.{node_name}
 
 -- the node and the record
 abbrev pub head_text : Network → ℕ → ℕ → List ℕ

@@ -4,7 +4,7 @@ use Rattle.mn_states.specs.declared.states.LdpState.{LdpState}
 use Rattle.mn_topo.specs.Network.{Network}
 use Rattle.mn_ledger.specs.World.{World}
 use Rattle.mn_ledger.specs.Transport.{lives, ldp_state_of}
-use Rattle.mn_output.specs.Tables.{ldp_name}
+use Rattle.mn_output_laws.specs.Tables.{ldp_name}
 
 -- the state of an end of a link whose session lives
 abbrev pub state_at : Network → World → ℕ → ℕ → Option LdpState

@@ -4,13 +4,13 @@ use Rattle.mn_edge.specs.declared.device.DeviceBad.{DeviceBad}
 use Rattle.mn_edge.specs.Faults.{Counted}
 use Rattle.mn_lines.specs.Putting.{Puts, PutsPart}
 
--- what waits on the page, what stands in the sink where that is told, and how often the sink has failed
+-- what waits on the page, what stands in the sink where that is told, and how often the sink has failed: none of a sound one
 pub record Stand : Type 0 where
   pub waits : List ℕ
   pub written : Option (List ℕ)
-  pub faults : ℕ
+  pub faults : Option ℕ
 
-abbrev pub standing : List ℕ → Option (List ℕ) → ℕ → Stand
+abbrev pub standing : List ℕ → Option (List ℕ) → Option ℕ → Stand
 standing waits written faults = record { waits = waits; written = written; faults = faults }
 
 -- The text was put, by `Ok`, or a first part of it; `Failed` comes only where the sink failed.

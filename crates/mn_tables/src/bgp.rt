@@ -2,7 +2,7 @@
 ghost use Rattle.std.specs.Prelude.{◌≡◌};
 ghost use Rattle.mn_ledger.specs.World.{World};
 ghost use Rattle.mn_ledger.specs.Bgp.{bgp_state_of};
-ghost use Rattle.mn_output.specs.Tables.{bgp_line, bgp_name};
+ghost use Rattle.mn_output_laws.specs.Tables.{bgp_line, bgp_name};
 ghost use Rattle.mn_tables.specs.Telling.{standing, Tells};
 
 use crate::pieces::put_pieces;

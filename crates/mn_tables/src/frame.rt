@@ -1,7 +1,7 @@
 //! What a node would do with a frame (RFC 3031, sections 3.10 and 3.11).
 ghost use Rattle.std.specs.Prelude.{◌≡◌, ◌<◌, ◌++◌};
 ghost use Rattle.mn_lines.specs.Lines.{pieces_of, text};
-ghost use Rattle.mn_output.specs.Shown.{hex_digit, byte_text, hex_text, unread_text, outcome_text, said_line};
+ghost use Rattle.mn_output_laws.specs.Shown.{hex_digit, byte_text, hex_text, unread_text, outcome_text, said_line};
 ghost use Rattle.mn_tables.specs.Frames.{head_text};
 ghost use Rattle.mn_tables.specs.Telling.{standing, Tells};
 

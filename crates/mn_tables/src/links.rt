@@ -3,7 +3,7 @@ ghost use Rattle.std.specs.Prelude.{◌≡◌, ◌<◌, length};
 ghost use Rattle.mn_wiring.specs.Wiring.{link as link_at};
 ghost use Rattle.mn_topo.specs.Network.{wiring_of};
 ghost use Rattle.mn_ledger.specs.World.{World};
-ghost use Rattle.mn_output.specs.Tables.{link_line, up_or_down};
+ghost use Rattle.mn_output_laws.specs.Tables.{link_line, up_or_down};
 ghost use Rattle.mn_tables.specs.Telling.{standing, Tells};
 
 use crate::names::{digits, end_names};

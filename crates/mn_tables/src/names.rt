@@ -2,8 +2,8 @@
 ghost use Rattle.std.specs.Prelude.{◌≡◌, ◌<◌, length};
 ghost use Rattle.mn_wiring.specs.Wiring.{receiver, sender};
 ghost use Rattle.mn_topo.specs.Network.{wiring_of};
-ghost use Rattle.mn_output.specs.Files.{node_name};
-ghost use Rattle.mn_output.specs.Tables.{vrf_name};
+ghost use Rattle.mn_output_laws.specs.Files.{node_name};
+ghost use Rattle.mn_output_laws.specs.Tables.{vrf_name};
 
 use itoa::{Buffer, Integer};
 use mn_base::{LinkNo, NodeNo, VrfNo};

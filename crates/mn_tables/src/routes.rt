@@ -2,8 +2,8 @@
 ghost use Rattle.std.specs.Prelude.{◌≡◌, ℕ, Bool};
 ghost use Rattle.mn_text.specs.Addresses.{prefix_text};
 ghost use Rattle.mn_ledger.specs.Held.{HeldRoute, Own, Near, Far};
-ghost use Rattle.mn_frames.specs.Given.{Labelling, label_at};
-ghost use Rattle.mn_output.specs.Tables.{mark_text, marked_line, route_line};
+ghost use Rattle.mn_frame_laws.specs.Given.{Labelling, label_at};
+ghost use Rattle.mn_output_laws.specs.Tables.{mark_text, marked_line, route_line};
 ghost use Rattle.mn_tables.specs.Telling.{standing, Tells};
 
 use crate::names::{digits, vrf_name};

@@ -2,3 +2,4 @@ pub mod Numbers
 pub mod Again
 pub mod Only
 pub mod Parts
+mod Feeds

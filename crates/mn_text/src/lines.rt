@@ -3,10 +3,12 @@ ghost use Rattle.std.specs.List.{slice_split};
 ghost use Rattle.std.specs.Str.Lines.{lines, strip_carriage_return};
 ghost use Rattle.mn_text.specs.Words.{is_blank, words, parts_after};
 
+use memchr::memchr;
+
 fn first_feed(text: &[u8]) -> Option<usize>
     ensures { result ≡ position (λ b. b == 10) text.now }
 {
-    text.iter().position(|byte| *byte == b'\n')
+    memchr(b'\n', text)
 }
 
 fn without_return(line: &[u8]) -> &[u8]

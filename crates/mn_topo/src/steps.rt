@@ -26,10 +26,10 @@ pub enum Step {
     AddRoute(SiteNo, Prefix),
     /// It has it no longer.
     DelRoute(SiteNo, Prefix),
-    /// The VRF imports routes that have the target, or no longer does.
-    Import(VrfNo, Rt, bool),
+    /// The VRF imports routes that have the target, or no longer does. The flag stands before the target, so that a step takes 16 bytes.
+    Import(VrfNo, bool, Rt),
     /// The VRF's routes have the target, or no longer do.
-    Export(VrfNo, Rt, bool),
+    Export(VrfNo, bool, Rt),
     /// The site is attached.
     Attach(SiteNo),
     /// The site is detached.
@@ -40,7 +40,7 @@ pub enum Step {
     Carry(LinkNo, Dir, u32),
     /// The frame at a place, from 0, among those in flight in the direction is lost.
     Lose(LinkNo, Dir, u32),
-    /// So many ticks go by, from 1 to 1,000,000. Links have no life yet, so nothing changes.
+    /// So many ticks go by, from 1 to 1,000,000. By it each frame ends that was sent on its link longer ago than the link's life.
     Tick(u32),
 }
 
@@ -55,7 +55,7 @@ pub enum Damage {
 }
 
 /// Whether a damaged message made the step, which ends its session: the packet of the record of this number came in the message's
-/// place. One enum and no `Option`, so that a journal's entry takes 40 bytes.
+/// place. One enum and no `Option`, so that it takes 8 bytes.
 #[derive(Clone, Copy, Debug, PartialEq, Eq)]
 pub enum Damaged {
     /// No message was damaged.
@@ -66,10 +66,12 @@ pub enum Damaged {
     Back(u32),
 }
 
-/// A step that was done, and when; and where a damaged message made it, which one.
+/// A step that was done, and when; and where a damaged message made it, which one. It takes 32 bytes: a journal may have 4,000,000.
 #[derive(Clone, Copy, Debug, PartialEq, Eq)]
 pub struct JournalEntry {
     pub tick: u64,
     pub step: Step,
     pub damaged: Damaged,
 }
+
+const _: () = prove!(size_of::<JournalEntry>() == 32);

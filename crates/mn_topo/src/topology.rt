@@ -328,7 +328,7 @@ impl Topology {
             Step::AddRoute(site, prefix) | Step::DelRoute(site, prefix) => {
                 self.has_site(*site) && is_lawful(prefix)
             }
-            Step::Import(vrf, target, _) | Step::Export(vrf, target, _) => {
+            Step::Import(vrf, _, target) | Step::Export(vrf, _, target) => {
                 self.has_vrf(*vrf) && target.has_form()
             }
             Step::Attach(site) | Step::Detach(site) => self.has_site(*site),

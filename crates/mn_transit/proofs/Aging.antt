@@ -26,9 +26,9 @@ use Rattle.mn_ledger.specs.Packets.{Token, Packets, channel, flying_on, without_
 use Rattle.mn_ledger.specs.Time.{is_overdue, expire_from, expire_on, expire_over, expire}
 use Rattle.mn_ledger.proofs.Directions.{one_channel}
 use Rattle.mn_ledger.proofs.GoingBy.{put_off}
-use Rattle.mn_frames.specs.Given.{Labelling}
-use Rattle.mn_timetable.specs.Keys.{Key, key_of, keys_in, link_on, is_past, FlyInOrder}
-use Rattle.mn_timetable.proofs.Timed.{same_less, channel_there, link_of_channel, keys_kept, order_kept}
+use Rattle.mn_frame_laws.specs.Given.{Labelling}
+use Rattle.mn_timetable_laws.specs.Keys.{Key, key_of, keys_in, link_on, is_past, FlyInOrder}
+use Rattle.mn_timetable_laws.proofs.Timed.{same_less, channel_there, link_of_channel, keys_kept, order_kept}
 use Rattle.mn_transit.specs.declared.flown.Flown.{Flown}
 use Rattle.mn_transit.specs.Moving.{Moving}
 use Rattle.mn_transit.specs.Stands.{StandsFor}

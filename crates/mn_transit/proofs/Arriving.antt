@@ -21,11 +21,11 @@ use Rattle.mn_topo.specs.Lawful.{IsLawful}
 use Rattle.mn_ledger.specs.declared.verdict.Verdict.TheVariants.{Delivered, Dropped, Flying}
 use Rattle.mn_ledger.specs.World.{World}
 use Rattle.mn_ledger.specs.Packets.{Token, Packets, channel, arrive, drop_at, deliver, stamped}
-use Rattle.mn_frames.specs.Given.{Labelling}
-use Rattle.mn_frames.specs.Frames.{IsFrameOf}
-use Rattle.mn_frames.specs.Tables.{AreMapped, TableStands}
-use Rattle.mn_frames.specs.Arrivals.{sent, hopped, Becomes}
-use Rattle.mn_frames.proofs.Forwarding.{forwarded_as_told, top_of}
+use Rattle.mn_frame_laws.specs.Given.{Labelling}
+use Rattle.mn_frame_laws.specs.Frames.{IsFrameOf}
+use Rattle.mn_frame_laws.specs.Tables.{AreMapped, TableStands}
+use Rattle.mn_frame_laws.specs.Arrivals.{sent, hopped, Becomes}
+use Rattle.mn_frame_laws.proofs.Forwarding.{forwarded_as_told, top_of}
 use Rattle.mn_transit.specs.declared.flown.Flown.{Flown}
 use Rattle.mn_transit.specs.Moving.{Moving}
 use Rattle.mn_transit.specs.Stands.{IsFlown, StandsFor}
@@ -74,15 +74,15 @@ stands_dropped t g w m new k token y uses flown cause after lawful there forward
 -- a delivery in both
 pub delivers : (t : Network) (g : Labelling) (m : Moving) (k : Packets) (packet site ttl : ℕ) (bytes : List ℕ) → StandsFor t g m k →
     StandsFor t g (record m {
-      verdicts = slice_set m.verdicts packet (Delivered (record { 0 = site }) ttl (m.copies + 1));
+      verdicts = slice_set m.verdicts packet (Delivered ttl (record { 0 = site }) (m.copies + 1));
       copies =
           m.copies + 1;
       delivered = Some (aged bytes (ttl_of bytes - ttl));
     }) (deliver k packet site ttl bytes)
 delivers t g m k packet site ttl bytes stands = record {
   verdicts =
-      ap (λ vs. slice_set vs packet (Delivered (record { 0 = site }) ttl (m.copies + 1))) stands.verdicts
-      ∙ ap (λ n. slice_set k.verdicts packet (Delivered (record { 0 = site }) ttl (n + 1))) stands.copies;
+      ap (λ vs. slice_set vs packet (Delivered ttl (record { 0 = site }) (m.copies + 1))) stands.verdicts
+      ∙ ap (λ n. slice_set k.verdicts packet (Delivered ttl (record { 0 = site }) (n + 1))) stands.copies;
   paths = stands.paths;
   copies = ap (λ n. n + 1) stands.copies;
   delivered = refl;
@@ -92,7 +92,7 @@ delivers t g m k packet site ttl bytes stands = record {
 pub stands_delivered : (t : Network) (g : Labelling) (w : World) (m new : Moving) (k : Packets) (token : Token) (y : ℕ) (uses : List (ℕ × Use))
     (flown : Flown) (site : SiteNo) (after : Labelled) (top : Entry) (ttl : ℕ) →
     IsLawful t → y < length t.loopbacks → (Site site, after) ≡ forwarded uses flown.frame → slice_get flown.frame.entries 0 ≡ Some top → ttl ≡ top.ttl - 1 →
-    new ≡ record m { verdicts = slice_set m.verdicts flown.packet (Delivered site ttl (m.copies + 1)); copies = m.copies + 1; delivered = Some after.packet } →
+    new ≡ record m { verdicts = slice_set m.verdicts flown.packet (Delivered ttl site (m.copies + 1)); copies = m.copies + 1; delivered = Some after.packet } →
     AreMapped t g w → TableStands t g w y uses → StandsFor t g m k → IsFlown t g y flown token → StandsFor t g new (arrive t w k token y)
 stands_delivered t g w m new k token y uses flown site after top ttl lawful there forwards is_top lower is mapped table stands flies =
     let told =
@@ -110,32 +110,32 @@ stands_delivered t g w m new k token y uses flown site after top ttl lawful ther
     let same : first.0 ≡ top = (let e : Some first.0 ≡ Some top = sym first.1 ∙ is_top in cc) in
     let level : ttl ≡ token.ttl - 1 = lower ∙ ap (λ (e : Entry). e.ttl - 1) (sym same) ∙ ap (λ n. n - 1) first.2 in
     let whole : new ≡ record m {
-      verdicts = slice_set m.verdicts token.packet (Delivered site (token.ttl - 1) (m.copies + 1));
+      verdicts = slice_set m.verdicts token.packet (Delivered (token.ttl - 1) site (m.copies + 1));
       copies =
           m.copies + 1;
       delivered = Some (aged token.bytes (ttl_of token.bytes - (token.ttl - 1)));
     } =
     is ∙ ap (λ n. record m {
-      verdicts = slice_set m.verdicts flown.packet (Delivered site n (m.copies + 1));
+      verdicts = slice_set m.verdicts flown.packet (Delivered n site (m.copies + 1));
       copies = m.copies + 1;
       delivered =
           Some after.packet;
     }) level
     ∙ ap (λ n. record m {
-      verdicts = slice_set m.verdicts n (Delivered site (token.ttl - 1) (m.copies + 1));
+      verdicts = slice_set m.verdicts n (Delivered (token.ttl - 1) site (m.copies + 1));
       copies = m.copies + 1;
       delivered =
           Some after.packet;
     }) flies.packet
     ∙ ap (λ b. record m {
-      verdicts = slice_set m.verdicts token.packet (Delivered site (token.ttl - 1) (m.copies + 1));
+      verdicts = slice_set m.verdicts token.packet (Delivered (token.ttl - 1) site (m.copies + 1));
       copies = m.copies + 1;
       delivered =
           Some b;
     }) told.2 in
     subst (λ n. StandsFor t g n (arrive t w k token y)) (sym whole)
     (subst (λ p. StandsFor t g (record m {
-      verdicts = slice_set m.verdicts token.packet (Delivered site (token.ttl - 1) (m.copies + 1));
+      verdicts = slice_set m.verdicts token.packet (Delivered (token.ttl - 1) site (m.copies + 1));
       copies =
           m.copies + 1;
       delivered = Some (aged token.bytes (ttl_of token.bytes - (token.ttl - 1)));

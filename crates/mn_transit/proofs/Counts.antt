@@ -14,7 +14,6 @@ use Rattle.mn_transit.proofs.Bytes.{bytes_left, bytes_more}
 pub counts_then : (a b c : Moving) (p q k l x y : ℕ) → CountsOn a b p k x → CountsOn b c q l y → CountsOn a c (p + q) (k + l) (x + y)
 counts_then a b c p q k l x y one two = record {
   channels = two.channels ∙ one.channels;
-  failed = two.failed ∙ one.failed;
   verdicts = omega (arith, one.verdicts, two.verdicts);
   copies = omega (arith, one.copies, two.copies);
   bytes = omega (arith, one.bytes, two.bytes);
@@ -23,7 +22,6 @@ counts_then a b c p q k l x y one two = record {
 pub counts_still : (m new : Moving) (copies bytes : ℕ) → new ≡ m → CountsOn m new 0 copies bytes
 counts_still m new copies bytes is = record {
   channels = ap (λ (n : Moving). n.channels) is;
-  failed = ap (λ (n : Moving). n.failed) is;
   verdicts = (let same = ap (λ (n : Moving). length n.verdicts) is in omega (arith, same));
   copies = (let same = ap (λ (n : Moving). n.copies) is in omega (arith, same));
   bytes = (let same = ap (λ (n : Moving). bytes_in n.flying) is in omega (arith, same));
@@ -32,7 +30,6 @@ counts_still m new copies bytes is = record {
 pub counts_begun : (m new : Moving) → new ≡ record m { delivered = None } → CountsOn m new 0 0 0
 counts_begun m new is = record {
   channels = ap (λ (n : Moving). n.channels) is;
-  failed = ap (λ (n : Moving). n.failed) is;
   verdicts = (let same = ap (λ (n : Moving). length n.verdicts) is in omega (arith, same));
   copies = (let same = ap (λ (n : Moving). n.copies) is in omega (arith, same));
   bytes = (let same = ap (λ (n : Moving). bytes_in n.flying) is in omega (arith, same));
@@ -41,7 +38,6 @@ counts_begun m new is = record {
 pub counts_spare : (m new : Moving) (spare : ℕ) → new ≡ record m { spare = spare } → CountsOn m new 0 0 0
 counts_spare m new spare is = record {
   channels = ap (λ (n : Moving). n.channels) is;
-  failed = ap (λ (n : Moving). n.failed) is;
   verdicts = (let same = ap (λ (n : Moving). length n.verdicts) is in omega (arith, same));
   copies = (let same = ap (λ (n : Moving). n.copies) is in omega (arith, same));
   bytes = (let same = ap (λ (n : Moving). bytes_in n.flying) is in omega (arith, same));
@@ -51,7 +47,6 @@ pub counts_judged : (m new : Moving) (packet copies bytes : ℕ) (verdict : Verd
     CountsOn m new 0 copies bytes
 counts_judged m new packet copies bytes verdict is = record {
   channels = ap (λ (n : Moving). n.channels) is;
-  failed = ap (λ (n : Moving). n.failed) is;
   verdicts = (let same = ap (λ (n : Moving). length n.verdicts) is in omega (arith, same, length-set m.verdicts packet verdict));
   copies = (let same = ap (λ (n : Moving). n.copies) is in omega (arith, same));
   bytes = (let same = ap (λ (n : Moving). bytes_in n.flying) is in omega (arith, same));
@@ -61,7 +56,6 @@ pub counts_delivered : (m new : Moving) (packet bytes : ℕ) (verdict : Verdict)
     new ≡ record m { verdicts = slice_set m.verdicts packet verdict; copies = m.copies + 1; delivered = Some packet_bytes } → CountsOn m new 0 1 bytes
 counts_delivered m new packet bytes verdict packet_bytes is = record {
   channels = ap (λ (n : Moving). n.channels) is;
-  failed = ap (λ (n : Moving). n.failed) is;
   verdicts = (let same = ap (λ (n : Moving). length n.verdicts) is in omega (arith, same, length-set m.verdicts packet verdict));
   copies = (let same = ap (λ (n : Moving). n.copies) is in omega (arith, same));
   bytes = (let same = ap (λ (n : Moving). bytes_in n.flying) is in omega (arith, same));
@@ -72,7 +66,6 @@ pub counts_sent : (m new : Moving) (packet spare : ℕ) (verdict : Verdict) (ite
     CountsOn m new 0 0 (length item.item.frame.packet)
 counts_sent m new packet spare verdict item is = record {
   channels = ap (λ (n : Moving). n.channels) is;
-  failed = ap (λ (n : Moving). n.failed) is;
   verdicts = (let same = ap (λ (n : Moving). length n.verdicts) is in omega (arith, same, length-set m.verdicts packet verdict));
   copies = (let same = ap (λ (n : Moving). n.copies) is in omega (arith, same));
   bytes = (let same = ap (λ (n : Moving). bytes_in n.flying) is in omega (arith, same, bytes_more m.flying item));
@@ -82,7 +75,6 @@ pub counts_more : (m new : Moving) (spare : ℕ) (verdict : Verdict) (path : Vis
     new ≡ record m { verdicts = m.verdicts ++ verdict ∷ []; paths = m.paths ++ path ∷ []; spare = spare } → CountsOn m new 1 0 0
 counts_more m new spare verdict path is = record {
   channels = ap (λ (n : Moving). n.channels) is;
-  failed = ap (λ (n : Moving). n.failed) is;
   verdicts = (let same = ap (λ (n : Moving). length n.verdicts) is in omega (arith, same, length_push m.verdicts verdict));
   copies = (let same = ap (λ (n : Moving). n.copies) is in omega (arith, same));
   bytes = (let same = ap (λ (n : Moving). bytes_in n.flying) is in omega (arith, same));
@@ -98,7 +90,6 @@ counts_taken m left channel place item flight found is =
     let less = bytes_left channel place m.flying item flight.ascending found in (
       record {
         channels = ap (λ (n : Moving). n.channels) is;
-        failed = ap (λ (n : Moving). n.failed) is;
         verdicts = (let even = ap (λ (n : Moving). length n.verdicts) is in omega (arith, even));
         copies = (let even = ap (λ (n : Moving). n.copies) is in omega (arith, even));
         bytes = omega (arith, same, less);
@@ -112,7 +103,6 @@ pub counts_back : (m left there new : Moving) (paths : List Visits) (size : ℕ)
     CountsOn there new 0 1 size → CountsOn m new 0 1 0
 counts_back m left there new paths size taken less visits goes = record {
   channels = goes.channels ∙ ap (λ (n : Moving). n.channels) visits ∙ taken.channels;
-  failed = goes.failed ∙ ap (λ (n : Moving). n.failed) visits ∙ taken.failed;
   verdicts = (let same = ap (λ (n : Moving). length n.verdicts) visits in omega (arith, same, goes.verdicts, taken.verdicts));
   copies = (let same = ap (λ (n : Moving). n.copies) visits in omega (arith, same, goes.copies, taken.copies));
   bytes = (let same = ap (λ (n : Moving). bytes_in n.flying) visits in omega (arith, same, goes.bytes, less));

@@ -22,8 +22,8 @@ use Rattle.mn_ledger.specs.Tables.{put}
 use Rattle.mn_ledger.specs.World.{World}
 use Rattle.mn_ledger.specs.Packets.{Token, Packets, channel, flying_on, without_place, taken, visited, arrive, carry, lose, drop_at, cut, cut_each}
 use Rattle.mn_ledger.specs.Packets.{before_step, packets_after}
-use Rattle.mn_frames.specs.Given.{Labelling}
-use Rattle.mn_frames.specs.Tables.{AreMapped, TableStands}
+use Rattle.mn_frame_laws.specs.Given.{Labelling}
+use Rattle.mn_frame_laws.specs.Tables.{AreMapped, TableStands}
 use Rattle.mn_transit.specs.declared.flown.Flown.{Flown}
 use Rattle.mn_paths.specs.Visits.{path_of, further}
 use Rattle.mn_transit.specs.Moving.{Moving}

@@ -16,9 +16,9 @@ use Rattle.mn_ledger.specs.World.{World}
 use Rattle.mn_ledger.specs.Held.{HeldRoute, best}
 use Rattle.mn_ledger.specs.Eligible.{eligible}
 use Rattle.mn_ledger.specs.Packets.{Packets, entry_rules, bound, hop_on, one_more, before_step, packets_after}
-use Rattle.mn_frames.specs.Given.{Labelling}
-use Rattle.mn_frames.specs.Entries.{Fate, Falls, Stays, Leaves, fate_of, fate, entered, IsAged}
-use Rattle.mn_frames.proofs.Entering.{by_fate}
+use Rattle.mn_frame_laws.specs.Given.{Labelling}
+use Rattle.mn_frame_laws.specs.Entries.{Fate, Falls, Stays, Leaves, fate_of, fate, entered, IsAged}
+use Rattle.mn_frame_laws.proofs.Entering.{by_fate}
 use Rattle.mn_paths.specs.Visits.{Visits}
 use Rattle.mn_transit.specs.Moving.{Moving}
 use Rattle.mn_transit.specs.Stands.{StandsFor}
@@ -96,7 +96,7 @@ stands_fallen t g w more new k node packet number site bytes cause is home falls
 pub stands_stayed : (t : Network) (g : Labelling) (w : World) (more new : Moving) (k : Packets) (node : NodeNo) (packet number ttl : ℕ) (site to : SiteNo)
     (bytes : List ℕ) (frame : Labelled) →
     new ≡ record more {
-      verdicts = slice_set more.verdicts packet (Delivered to ttl (more.copies + 1));
+      verdicts = slice_set more.verdicts packet (Delivered ttl to (more.copies + 1));
       copies = more.copies + 1;
       delivered =
           Some frame.packet;
@@ -107,25 +107,25 @@ stands_stayed t g w more new k node packet number ttl site to bytes frame is lev
     let lower : ttl ≡ ttl_of bytes - 1 = level ∙ age.ttl in
     let once : 1 ≡ ttl_of bytes - (ttl_of bytes - 1) = omega (arith, age.alive) in
     let whole : new ≡ record more {
-      verdicts = slice_set more.verdicts (length k.verdicts) (Delivered to (ttl_of bytes - 1) (more.copies + 1));
+      verdicts = slice_set more.verdicts (length k.verdicts) (Delivered (ttl_of bytes - 1) to (more.copies + 1));
       copies =
           more.copies + 1;
       delivered = Some (aged bytes (ttl_of bytes - (ttl_of bytes - 1)));
     } =
     is ∙ ap (λ n. record more {
-      verdicts = slice_set more.verdicts packet (Delivered to n (more.copies + 1));
+      verdicts = slice_set more.verdicts packet (Delivered n to (more.copies + 1));
       copies = more.copies + 1;
       delivered =
           Some frame.packet;
     }) lower
     ∙ ap (λ n. record more {
-      verdicts = slice_set more.verdicts n (Delivered to (ttl_of bytes - 1) (more.copies + 1));
+      verdicts = slice_set more.verdicts n (Delivered (ttl_of bytes - 1) to (more.copies + 1));
       copies = more.copies + 1;
       delivered =
           Some frame.packet;
     }) are.number
     ∙ ap (λ b. record more {
-      verdicts = slice_set more.verdicts (length k.verdicts) (Delivered to (ttl_of bytes - 1) (more.copies + 1));
+      verdicts = slice_set more.verdicts (length k.verdicts) (Delivered (ttl_of bytes - 1) to (more.copies + 1));
       copies =
           more.copies + 1;
       delivered = Some b;

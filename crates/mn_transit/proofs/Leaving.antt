@@ -12,12 +12,12 @@ use Rattle.mn_ledger.specs.declared.verdict.Verdict.TheVariants.{Dropped}
 use Rattle.mn_ledger.specs.World.{World}
 use Rattle.mn_ledger.specs.Held.{HeldRoute}
 use Rattle.mn_ledger.specs.Packets.{Token, Packets, bound, hop_on, stamped}
-use Rattle.mn_frames.specs.Given.{Labelling}
-use Rattle.mn_frames.specs.Tables.{AreMapped}
-use Rattle.mn_frames.specs.Departures.{with_outer, Departs}
-use Rattle.mn_frames.specs.Entries.{IsPushed, outer_for}
-use Rattle.mn_frames.specs.Arrivals.{sent}
-use Rattle.mn_frames.proofs.Leaving.{leaves_as_told}
+use Rattle.mn_frame_laws.specs.Given.{Labelling}
+use Rattle.mn_frame_laws.specs.Tables.{AreMapped}
+use Rattle.mn_frame_laws.specs.Departures.{with_outer, Departs}
+use Rattle.mn_frame_laws.specs.Entries.{IsPushed, outer_for}
+use Rattle.mn_frame_laws.specs.Arrivals.{sent}
+use Rattle.mn_frame_laws.proofs.Leaving.{leaves_as_told}
 use Rattle.mn_transit.specs.Moving.{Moving}
 use Rattle.mn_transit.specs.Stands.{IsFlown, StandsFor}
 use Rattle.mn_transit.proofs.Arriving.{flown_stamped}

@@ -11,4 +11,4 @@ pub mod Counting
 pub mod Labelled
 pub mod Numbers
 pub mod Aging
-pub use Rattle.mn_frames.proofs.Labels
+pub use Rattle.mn_frame_laws.proofs.Labels

@@ -11,8 +11,8 @@ use Rattle.mn_topo.specs.Network.{Network, wiring_of}
 use Rattle.mn_ledger.specs.declared.verdict.Verdict.{Verdict}
 use Rattle.mn_ledger.specs.declared.verdict.Verdict.TheVariants.{Flying}
 use Rattle.mn_ledger.specs.Packets.{Token, Packets, channel, flying_on, judged, visited, without_place, taken, before_step}
-use Rattle.mn_frames.specs.Given.{Labelling}
-use Rattle.mn_frames.specs.Arrivals.{sent}
+use Rattle.mn_frame_laws.specs.Given.{Labelling}
+use Rattle.mn_frame_laws.specs.Arrivals.{sent}
 use Rattle.mn_transit.specs.declared.flown.Flown.{Flown}
 use Rattle.mn_paths.specs.Visits.{Visits, path_of, further}
 use Rattle.mn_transit.specs.Moving.{Moving}

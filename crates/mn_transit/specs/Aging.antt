@@ -6,7 +6,7 @@ use Rattle.mn_flight.specs.declared.Item.{Item}
 use Rattle.mn_flight.specs.Flying.{on_channel}
 use Rattle.mn_topo.specs.Network.{Network, wiring_of}
 use Rattle.mn_ledger.specs.Packets.{Packets, channel, flying_on}
-use Rattle.mn_timetable.specs.Keys.{Key, is_past}
+use Rattle.mn_timetable_laws.specs.Keys.{Key, is_past}
 use Rattle.mn_transit.specs.declared.flown.Flown.{Flown}
 
 -- On each link of the topology the frames in flight are due, in order, its delay after their packets were sent there.

@@ -7,7 +7,7 @@ use Rattle.mn_transit.specs.Moving.{Moving}
 
 -- the site at which a packet was delivered as the copy of this number
 abbrev pub site_as : ℕ → Option Verdict → Option SiteNo
-site_as copies (Some (Delivered site ttl copy)) = cond (copy == copies) (Some site) None
+site_as copies (Some (Delivered ttl site copy)) = cond (copy == copies) (Some site) None
 site_as copies _ = None
 
 -- such a packet and its site, none where there is none

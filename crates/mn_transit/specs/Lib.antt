@@ -3,5 +3,5 @@ pub mod Stands
 pub mod Entering
 pub mod Aging
 pub mod Landed
-pub use Rattle.mn_frames.specs.Given
+pub use Rattle.mn_frame_laws.specs.Given
 pub use Rattle.mn_paths.specs.Visits

@@ -1,5 +1,5 @@
 -- What contracts see of the packets in transit.
-use Rattle.std.specs.Prelude.{◌≡◌, ◌≢◌, ◌+◌, ◌<◌, ◌≤◌, ℕ, Bool, List, [], ◌∷◌, length, Option}
+use Rattle.std.specs.Prelude.{◌≡◌, ◌≢◌, ◌+◌, ◌<◌, ◌≤◌, ℕ, List, [], ◌∷◌, length, Option}
 use Rattle.std.specs.List.{All, AllPairs}
 use Rattle.mn_flight.specs.declared.Item.{Item}
 use Rattle.mn_flight.specs.Flying.{IsFlight}
@@ -17,7 +17,6 @@ pub record Moving : Type 0 where
   pub flying : List (Item Flown)  -- the frames in flight, in the order of their numbers
   pub spare : ℕ  -- how many more can fly without memory
   pub channels : ℕ  -- the directions of links: two for each
-  pub failed : Bool  -- whether memory was wanted
 
 -- the bytes of the packets that fly
 abbrev pub bytes_in : List (Item Flown) → ℕ
@@ -43,7 +42,6 @@ pub record IsMoving (moving : Moving) (counted : ℕ) : Type 0 where
 -- What a step changes of the counts: so many packets more, no more deliveries than so many, and no more bytes in flight.
 pub record CountsOn (before after : Moving) (injected delivered sent : ℕ) : Type 0 where
   pub channels : after.channels ≡ before.channels
-  pub failed : after.failed ≡ before.failed
   pub verdicts : length after.verdicts ≡ length before.verdicts + injected
   pub copies : after.copies ≤ before.copies + delivered
   pub bytes : bytes_in after.flying ≤ bytes_in before.flying + sent

@@ -7,9 +7,9 @@ use Rattle.mn_flight.specs.declared.Item.{Item}
 use Rattle.mn_flight.specs.Flying.{on_channel}
 use Rattle.mn_topo.specs.Network.{Network, wiring_of}
 use Rattle.mn_ledger.specs.Packets.{Token, Packets, channel, flying_on}
-use Rattle.mn_frames.specs.Given.{Labelling}
-use Rattle.mn_frames.specs.Frames.{IsFrameOf, IsSound}
-use Rattle.mn_frames.specs.Laws.{KeepsBoth}
+use Rattle.mn_frame_laws.specs.Given.{Labelling}
+use Rattle.mn_frame_laws.specs.Frames.{IsFrameOf, IsSound}
+use Rattle.mn_frame_laws.specs.Laws.{KeepsBoth}
 use Rattle.mn_transit.specs.declared.flown.Flown.{Flown}
 use Rattle.mn_transit.specs.Moving.{Moving}
 

@@ -11,10 +11,10 @@ ghost use Rattle.mn_ledger.specs.Packets.{Packets, bound, hop_on, packets_after}
 ghost use Rattle.mn_ledger.specs.Places.{home_of};
 ghost use Rattle.mn_ledger.specs.Held.{HeldRoute};
 ghost use Rattle.mn_ledger.specs.World.{World};
-ghost use Rattle.mn_frames.specs.Departures.{with_outer};
-ghost use Rattle.mn_frames.specs.Entries.{IsPushed, outer_for};
-ghost use Rattle.mn_frames.specs.Given.{Labelling};
-ghost use Rattle.mn_frames.specs.Tables.{AreMapped};
+ghost use Rattle.mn_frame_laws.specs.Departures.{with_outer};
+ghost use Rattle.mn_frame_laws.specs.Entries.{IsPushed, outer_for};
+ghost use Rattle.mn_frame_laws.specs.Given.{Labelling};
+ghost use Rattle.mn_frame_laws.specs.Tables.{AreMapped};
 ghost use Rattle.mn_pe.specs.Entries.{IsItsFate};
 ghost use Rattle.mn_transit.specs.Entering.{IsWayOut, HasRoom, IsLabel, OuterFits, IfTunnel, size_of};
 ghost use Rattle.mn_transit.specs.Moving.{bytes_in, HoldsHops, CountsOn};
@@ -112,8 +112,7 @@ impl Transit {
     }
 
     /// A packet enters at a node, by what the edge there says of it and what the node says of the way out. This alone takes
-    /// memory, also for the nodes to which the packet may come later. After an `Err` the packets are as before, and each
-    /// later `inject` answers it too.
+    /// memory, also for the nodes to which the packet may come later. After an `Err` the packets are as before.
     ///
     /// True where the packet flies, with the clock's number.
     pub fn inject(
@@ -139,17 +138,10 @@ impl Transit {
             StandsFor topology.now given self.new (packets_after topology.now world packets (Step.Inject site number) bytes)) }
         ensures made { IfOk result (λ made. Makes topology.now clock.tick clock.number self.old.flying self.new.flying made) }
         ensures counts { OnOk result (CountsOn self.old self.new 1 1 (size_of entered)) }
-        ensures unmoved { OnErr result (self.new ≡ record self.old { failed = true; spare = self.new.spare }) }
-        ensures for_good { self.old.failed ≡ true → IsErr result }
+        ensures unmoved { OnErr result (self.new ≡ record self.old { spare = self.new.spare }) }
     {
-        if self.failed {
-            return Err(AllocError);
-        }
         let room = nodes_ahead(&entered);
-        let Ok(packet) = self.one_more(node, room) else {
-            self.fail();
-            return Err(AllocError);
-        };
+        let packet = self.one_more(node, room)?;
         self.begin();
         match entered {
             Entered::Drop(rule) => {

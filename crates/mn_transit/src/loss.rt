@@ -5,7 +5,7 @@ ghost use Rattle.mn_wiring.specs.declared.links.Dir.TheVariants.{Forth, Back};
 ghost use Rattle.mn_topo.specs.declared.steps.Step.TheVariants as Step;
 ghost use Rattle.mn_ledger.specs.Packets.{channel, Packets, cut, packets_after};
 ghost use Rattle.mn_ledger.specs.World.{World};
-ghost use Rattle.mn_frames.specs.Given.{Labelling};
+ghost use Rattle.mn_frame_laws.specs.Given.{Labelling};
 ghost use Rattle.mn_transit.specs.Moving.{CountsOn};
 ghost use Rattle.mn_transit.specs.Stands.{StandsFor};
 

@@ -7,7 +7,7 @@ ghost use Rattle.mn_topo.specs.Network.{Network};
 ghost use Rattle.mn_ledger.specs.Packets.{channel, Packets, flying_on};
 ghost use Rattle.mn_ledger.specs.Refusal.{bytes_flying};
 ghost use Rattle.mn_ledger.specs.Verdicts.{verdict_on};
-ghost use Rattle.mn_frames.specs.Given.{Labelling};
+ghost use Rattle.mn_frame_laws.specs.Given.{Labelling};
 ghost use Rattle.mn_transit.specs.Moving.{bytes_in};
 ghost use Rattle.mn_transit.specs.Landed.{site_as, IsLast, HasLanded};
 ghost use Rattle.mn_transit.specs.Stands.{StandsFor};
@@ -21,13 +21,6 @@ use mn_ledger::Verdict;
 use mn_wiring::{Dir, channel_of};
 
 impl Transit {
-    /// Whether an `inject` wanted memory.
-    pub fn failed(&self) -> bool
-        ensures { result ≡ self.now.failed }
-    {
-        self.failed
-    }
-
     /// How many packets were injected.
     pub fn packets(&self) -> u32
         requires { length self.now.verdicts < 2 ^ 32 }

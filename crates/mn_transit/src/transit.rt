@@ -12,7 +12,7 @@ ghost use Rattle.mn_ledger.specs.Ledger.{no_packets};
 ghost use Rattle.mn_ledger.specs.Packets.{Packets, channel, packets_after};
 ghost use Rattle.mn_ledger.specs.Parts.{is_moving};
 ghost use Rattle.mn_ledger.specs.World.{World};
-ghost use Rattle.mn_frames.specs.Given.{Labelling};
+ghost use Rattle.mn_frame_laws.specs.Given.{Labelling};
 ghost use Rattle.mn_transit.specs.Moving.{bytes_in, HoldsHops};
 ghost use Rattle.mn_transit.specs.Stands.{StandsFor};
 ghost use Rattle.mn_paths.specs.Visits.{path_of, further};
@@ -47,7 +47,6 @@ pub struct Transit {
     pub(crate) delivered: Option<Flown>,
     // The bytes of the packets that fly.
     pub(crate) bytes: u64,
-    pub(crate) failed: bool,
 }
 
 impl Model for Transit {
@@ -64,7 +63,6 @@ impl Model for Transit {
       flying = t.frames.items;
       spare = t.frames.spare;
       channels = t.frames.channels;
-      failed = t.failed;
     } };
 
     ghost invariant = { λ t. IsMoving (record {
@@ -75,7 +73,6 @@ impl Model for Transit {
       flying = t.frames.items;
       spare = t.frames.spare;
       channels = t.frames.channels;
-      failed = t.failed;
     }) t.bytes };
 }
 
@@ -90,7 +87,6 @@ impl Transit {
           flying = [];
           spare = transit.spare;
           channels = 2 * length topology.now.links;
-          failed = false;
         }) }
         ensures stands { IfOk result (λ transit. (given : Labelling) → StandsFor topology.now given transit no_packets) }
     {
@@ -104,7 +100,6 @@ impl Transit {
             copies: 0,
             delivered: None,
             bytes: 0,
-            failed: false,
         })
     }
 
@@ -160,7 +155,7 @@ impl Transit {
         requires packet { packet < length self.old.verdicts }
         requires copies { self.old.copies + 1 < 2 ^ 32 }
         ensures { self.new ≡ record self.old {
-          verdicts = slice_set self.old.verdicts packet (verdict.Delivered site ttl (self.old.copies + 1));
+          verdicts = slice_set self.old.verdicts packet (verdict.Delivered ttl site (self.old.copies + 1));
           copies = self.old.copies + 1;
           delivered = Some frame.packet;
         } }
@@ -228,12 +223,5 @@ impl Transit {
         let rule = Rule::Lost;
         self.verdicts.push_reserved(Verdict::Dropped { rule, node });
         Ok(packet)
-    }
-
-    /// Memory was wanted.
-    pub(crate) fn fail(&mut self)
-        ensures { self.new ≡ record self.old { failed = true } }
-    {
-        self.failed = true;
     }
 }

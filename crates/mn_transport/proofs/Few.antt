@@ -10,16 +10,16 @@ use Rattle.mn_node.specs.Node.{Session, Node, session_at, knowledge_in}
 use Rattle.mn_node.specs.Machine.{Event, Learns, Opens, Closes, Hears, answer_in, answers, said, changed, speaks_first}
 use Rattle.mn_ldp_session.specs.Spelling.{pdus, one_said}
 use Rattle.mn_labels.specs.Labels.{Labels, own_labels}
-use Rattle.mn_made.proofs.Steps.{few_answers, few_news}
+use Rattle.mn_item_laws.proofs.Steps.{few_answers, few_news}
 use Rattle.mn_lsr.specs.Turns.{Kept}
 use Rattle.mn_lsr.specs.Turns.{kept_in, labels_then}
 use Rattle.mn_lsr.specs.Said.{pdu_of}
 use Rattle.mn_lsr.specs.Standing.{Standing, HasNumbers}
 use Rattle.mn_lsr.specs.declared.said.Said.{Said as Spoken}
-use Rattle.mn_transport_model.proofs.Acted.{acted, same, hearer}
-use Rattle.mn_transport_model.specs.Carried.{Carried}
-use Rattle.mn_transport_model.specs.Sending.{pdus_in, put_pdus, released_by}
-use Rattle.mn_transport_model.specs.Acting.{MayAct, MayHear, Becomes, Acts}
+use Rattle.mn_transport_laws.proofs.Acted.{acted, same, hearer}
+use Rattle.mn_transport_laws.specs.Carried.{Carried}
+use Rattle.mn_transport_laws.specs.Sending.{pdus_in, put_pdus, released_by}
+use Rattle.mn_transport_laws.specs.Acting.{MayAct, MayHear, Becomes, Acts}
 
 as_many : (w : Wiring) (own : ℕ → ℕ) (label : ℕ) (n : Node) (xs : List Said) → length (pdus w own label n xs) ≡ length xs
 as_many w own label n [] = refl

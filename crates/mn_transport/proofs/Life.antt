@@ -6,7 +6,7 @@ use Rattle.std.proofs.lemmas.List.Elements.{filter-append}
 use Rattle.mn_wiring.specs.Wiring.{link, is_end, links_at}
 use Rattle.mn_wiring.specs.declared.links.LinkEnds.{LinkEnds}
 use Rattle.mn_topo.specs.Network.{Network, wiring_of}
-use Rattle.mn_reuse.specs.Labels.{longest_life}
+use Rattle.mn_reuse_laws.specs.Labels.{longest_life}
 
 range-more : (n a j : ℕ) → a + n ≡ j → range_with_len a (suc n) ≡ range_with_len a n ++ j ∷ []
 range-more zero a j e = ap (λ x. x ∷ []) (let q : a ≡ j = omega (arith, e) in q)

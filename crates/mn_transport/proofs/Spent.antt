@@ -9,8 +9,8 @@ use Rattle.mn_topo.specs.Network.{Network}
 use Rattle.mn_topo.specs.declared.steps.Step.TheVariants.{Attach}
 use Rattle.mn_ledger.specs.Places.{home_of}
 use Rattle.mn_lsr.specs.Standing.{Standing}
-use Rattle.mn_transport_model.specs.Carried.{Carried}
-use Rattle.mn_transport_model.specs.Steps.{MayDo}
+use Rattle.mn_transport_laws.specs.Carried.{Carried}
+use Rattle.mn_transport_laws.specs.Steps.{MayDo}
 
 -- what holds of the edge's labels as it was read holds of the edge that contracts see
 pub spent-at : (t : Network) (s : SiteNo) (old seen : Carried) (view_is : old ≡ seen) (may : MayDo t (Attach s) seen) (node index : ℕ) (home : node ≡ home_of t s.0)

@@ -7,8 +7,8 @@ use Rattle.mn_base.specs.declared.numbers.NodeNo.{NodeNo}
 use Rattle.mn_topo.specs.Network.{Network, wiring_of}
 use Rattle.mn_ledger.specs.World.{World}
 use Rattle.mn_ledger.specs.Transport.{known, offers, usable}
-use Rattle.mn_frames.specs.Given.{Labelling}
-use Rattle.mn_frames.specs.Entries.{outer_over, outer_for}
+use Rattle.mn_frame_laws.specs.Given.{Labelling}
+use Rattle.mn_frame_laws.specs.Entries.{outer_over, outer_for}
 
 is_out : (g : Labelling) (edge : ℕ) (o : Option (ℕ × ℕ)) → is_some (outer_over g edge o) ≡ is_some o
 is_out g edge None = refl

@@ -6,15 +6,15 @@ ghost use Rattle.mn_flight.specs.Flying.{IsFlight};
 ghost use Rattle.mn_lsr.specs.Said.{pdu_of};
 ghost use Rattle.mn_topo.specs.Network.{wiring_of};
 ghost use Rattle.mn_ledger.specs.Packets.{channel};
-ghost use Rattle.mn_timetable.specs.Keys.{channel_from};
-ghost use Rattle.mn_transport_model.specs.Sending.{notices_to, put_pdus, off_link};
+ghost use Rattle.mn_timetable_laws.specs.Keys.{channel_from};
+ghost use Rattle.mn_transport_laws.specs.Sending.{notices_to, put_pdus, off_link};
 
 use mn_base::{LinkNo, ListOf, NodeNo};
 use mn_flight::{Clock, Flight};
 use mn_flight_pool::PoolFlight;
 use mn_lsr::Said;
 use mn_topo::Topology;
-use mn_transport_model::Notice;
+use mn_transport_laws::Notice;
 use mn_wiring::{Dir, channel_of};
 use std::alloc::AllocError;
 

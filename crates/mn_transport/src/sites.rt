@@ -10,20 +10,20 @@ ghost use Rattle.mn_topo.specs.declared.steps.Step.TheVariants as step;
 ghost use Rattle.mn_topo.specs.declared.steps.JournalEntry.{JournalEntry};
 ghost use Rattle.mn_ledger.specs.Ledger.{world_of};
 ghost use Rattle.mn_ledger.specs.Places.{home_of};
-ghost use Rattle.mn_reuse.specs.Labels.{longest_life};
-ghost use Rattle.mn_frames.specs.Given.{given, label_at};
-ghost use Rattle.mn_timetable.specs.Steps.{pushed};
+ghost use Rattle.mn_reuse_laws.specs.Labels.{longest_life};
+ghost use Rattle.mn_frame_laws.specs.Given.{given, label_at};
+ghost use Rattle.mn_timetable_laws.specs.Steps.{pushed};
 ghost use Rattle.mn_lsr.specs.Standing.{Standing};
-ghost use Rattle.mn_transport_model.specs.Stands.{IsTransport};
-ghost use Rattle.mn_transport_model.specs.Starting.{first_label, AreFirst};
-ghost use Rattle.mn_transport_model.specs.Steps.{HasTurn, MayDo};
+ghost use Rattle.mn_transport_laws.specs.Stands.{IsTransport};
+ghost use Rattle.mn_transport_laws.specs.Starting.{first_label, AreFirst};
+ghost use Rattle.mn_transport_laws.specs.Steps.{HasTurn, MayDo};
 
 use crate::flying::{Messages, Notices};
 use crate::transport::{Transport, labels_fit};
 use mn_base::{NodeNo, SiteNo};
 use mn_labels::LabelBad;
 use mn_linkdb::LinkDb;
-use mn_lsr::Lsr;
+use mn_lsr::{Lsr, SharedLinks};
 use mn_topo::{Node, Topology};
 use std::alloc::{AllocError, Global};
 
@@ -70,12 +70,12 @@ fn first_nodes(alloc: Global, topology: &Topology) -> Result<Vec<Lsr>, AllocErro
 {
     topology.laws();
     let loopbacks = loopbacks_of(alloc, topology.nodes())?;
-    let ends = topology.links();
+    let links = SharedLinks::new(alloc, loopbacks.len() as u32, topology.links())?;
     let mut nodes = Vec::new(alloc);
     for number in 0..loopbacks.len() {
         let me = NodeNo(number as u16);
         let life = longest_life(topology, me);
-        nodes.push(Lsr::new(alloc, me, &loopbacks, ends, life)?)?;
+        nodes.push(Lsr::over(alloc, me, &loopbacks, &links, life)?)?;
     }
     Ok(nodes)
 }
@@ -130,65 +130,47 @@ impl Transport {
             labels,
             notices,
             messages,
-            failed: false,
         })
     }
 
     /// A site is attached anew at its edge, which gives the next label to the attachment.
     ///
-    /// It is `Spent` exactly where the edge has a label for each FEC and attachment that 20 bits allow, and changes nothing then. After want of memory this and each
-    /// later step answer so.
+    /// It is `Spent` exactly where the edge has a label for each FEC and attachment that 20 bits allow, and changes nothing then.
+    /// After want of memory nothing is said of the transport.
     pub fn attach(&mut self, topology: &Topology, site: SiteNo) -> Result<u32, LabelBad>
-        requires may { self.old.failed ≡ false → MayDo topology.now (step.Attach site) self.old }
+        requires may { MayDo topology.now (step.Attach site) self.old }
         ensures goes { OnOk result ((journal : List JournalEntry) (tick : ℕ) → IsTransport topology.now journal self.old → HasTurn topology.now journal (step.Attach site) →
             IsTransport topology.now (pushed journal tick (step.Attach site)) self.new) }
         ensures label { IfOk result (λ label. (journal : List JournalEntry) (tick : ℕ) → IsTransport topology.now journal self.old → HasTurn topology.now journal (step.Attach site) →
             label ≡ label_at (given topology.now (pushed journal tick (step.Attach site))) (home_of topology.now site.0) site.0 ((world_of topology.now journal).config.attaches site.0 + 2)) }
         ensures next { IfOk result (λ label. (journal : List JournalEntry) → IsTransport topology.now journal self.old → HasTurn topology.now journal (step.Attach site) →
             label ≡ greatest (given topology.now journal (home_of topology.now site.0)).given + 1) }
-        ensures spent { self.old.failed ≡ false → (standing : Standing) → slice_get self.old.nodes (home_of topology.now site.0) ≡ Some standing →
+        ensures spent { (standing : Standing) → slice_get self.old.nodes (home_of topology.now site.0) ≡ Some standing →
             IsErrOf result bad.Spent ↔ (attachments_in standing.labels.given + length topology.now.loopbacks ≡ most_labels + 1) }
         ensures notices { self.new.notices ≡ self.old.notices }
         ensures messages { self.new.messages ≡ self.old.messages }
-        ensures unchanged { result ≡ Err bad.Spent → self.new.failed ≡ self.old.failed }
         ensures still { result ≡ Err bad.Spent → (journal : List JournalEntry) → IsTransport topology.now journal self.old → IsTransport topology.now journal self.new }
-        ensures no_memory { result ≡ Err bad.NoMemory → self.new.failed ≡ true }
-        ensures for_good { self.old.failed ≡ true → result ≡ Err bad.NoMemory }
     {
-        if self.failed {
-            return Err(LabelBad::NoMemory);
-        }
         topology.laws();
         let home = topology.home_of(site);
         let edge = &mut self.nodes[usize::from(home.0)];
-        match edge.attach(site) {
-            Ok(label) => {
-                labels_fit(edge);
-                self.labels[usize::from(site.0)] = label;
-                Ok(label)
-            }
-            Err(LabelBad::Spent) => Err(LabelBad::Spent),
-            Err(LabelBad::NoMemory) => {
-                self.failed = true;
-                Err(LabelBad::NoMemory)
-            }
-        }
+        let label = edge.attach(site)?;
+        labels_fit(edge);
+        self.labels[usize::from(site.0)] = label;
+        Ok(label)
     }
 
     /// A site is detached: its label leads nowhere from now on. It takes no memory.
     pub fn detach(&mut self, topology: &Topology, site: SiteNo)
-        requires may { self.old.failed ≡ false → MayDo topology.now (step.Detach site) self.old }
+        requires may { MayDo topology.now (step.Detach site) self.old }
         ensures goes { (journal : List JournalEntry) (tick : ℕ) → IsTransport topology.now journal self.old → HasTurn topology.now journal (step.Detach site) →
             IsTransport topology.now (pushed journal tick (step.Detach site)) self.new }
         ensures notices { self.new.notices ≡ self.old.notices }
         ensures messages { self.new.messages ≡ self.old.messages }
-        ensures failed { self.new.failed ≡ self.old.failed }
     {
-        if !self.failed {
-            topology.laws();
-            let home = topology.home_of(site);
-            let label = self.labels[usize::from(site.0)];
-            self.nodes[usize::from(home.0)].detach(label);
-        }
+        topology.laws();
+        let home = topology.home_of(site);
+        let label = self.labels[usize::from(site.0)];
+        self.nodes[usize::from(home.0)].detach(label);
     }
 }

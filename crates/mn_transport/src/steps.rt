@@ -9,9 +9,9 @@ ghost use Rattle.mn_node.specs.Machine.{Event, Learns, Opens, Closes};
 ghost use Rattle.mn_topo.specs.Network.{wiring_of};
 ghost use Rattle.mn_topo.specs.declared.steps.Step.TheVariants as step;
 ghost use Rattle.mn_ledger.specs.Packets.{channel};
-ghost use Rattle.mn_transport_model.specs.Acting.{turned_by, MayAct, MayHear, Acts};
-ghost use Rattle.mn_transport_model.specs.Doing.{TurnsEnds, MayBoth, MayTurn, TurnsLink, MaySwitch, Switches, LearnsNext, CanHear, HearsNext};
-ghost use Rattle.mn_transport_model.specs.Steps.{MayDo, Did};
+ghost use Rattle.mn_transport_laws.specs.Acting.{turned_by, MayAct, MayHear, Acts};
+ghost use Rattle.mn_transport_laws.specs.Doing.{TurnsEnds, MayBoth, MayTurn, TurnsLink, MaySwitch, Switches, LearnsNext, CanHear, HearsNext};
+ghost use Rattle.mn_transport_laws.specs.Steps.{MayDo, Did};
 
 use crate::flying::{cut, send, tell_all};
 use crate::transport::{Transport, labels_fit};
@@ -258,8 +258,8 @@ impl Transport {
 
     /// A link comes up: each node is to be told, and where LDP is switched on for it its session opens (RFC 5036, section 2.5.2).
     ///
-    /// It answers how many items that made, of which the first has the clock's number. After want of memory this and each later step
-    /// answer so.
+    /// It answers how many items that made, of which the first has the clock's number. After want of memory nothing is
+    /// said of the transport.
     pub fn link_up(
         &mut self,
         topology: &Topology,
@@ -268,35 +268,25 @@ impl Transport {
     ) -> Result<u64, AllocError>
         requires tick { clock.tick ≤ 2 ^ 63 }
         requires numbers { clock.number ≤ 2 ^ 62 }
-        requires changes { self.old.failed ≡ false → slice_index self.old.changes link.0 < 2 ^ 32 - 1 }
+        requires changes { slice_index self.old.changes link.0 < 2 ^ 32 - 1 }
         requires notices { All (λ item. item.number < clock.number) self.old.notices }
         requires messages { All (λ item. item.number < clock.number) self.old.messages }
-        requires may { self.old.failed ≡ false → MayDo topology.now (step.LinkUp link) self.old }
+        requires may { MayDo topology.now (step.LinkUp link) self.old }
         ensures did { IfOk result (λ made. Did topology.now clock.tick clock.number (step.LinkUp link) self.old self.new made) }
         ensures fits { IfOk result (λ made. clock.number + made < 2 ^ 64) }
         ensures notices_below { IfOk result (λ made. All (λ item. item.number < clock.number + made) self.new.notices) }
         ensures messages_below { IfOk result (λ made. All (λ item. item.number < clock.number + made) self.new.messages) }
-        ensures no_memory { OnErr result (self.new.failed ≡ true) }
-        ensures for_good { self.old.failed ≡ true → IsErr result }
     {
-        if self.failed {
-            return Err(AllocError);
-        }
         topology.laws();
-        match self.turn_link(topology, link, true, clock) {
-            Ok(next) => Ok(next - clock.number),
-            Err(_) => {
-                self.failed = true;
-                Err(AllocError)
-            }
-        }
+        let next = self.turn_link(topology, link, true, clock)?;
+        Ok(next - clock.number)
     }
 
     /// A link goes down: each node is to be told, nothing flies on it any more, and its session closes, with all labels that were
     /// heard in it.
     ///
-    /// It answers how many items that made, of which the first has the clock's number. After want of memory this and each later step
-    /// answer so.
+    /// It answers how many items that made, of which the first has the clock's number. After want of memory nothing is
+    /// said of the transport.
     pub fn link_down(
         &mut self,
         topology: &Topology,
@@ -305,34 +295,24 @@ impl Transport {
     ) -> Result<u64, AllocError>
         requires tick { clock.tick ≤ 2 ^ 63 }
         requires numbers { clock.number ≤ 2 ^ 62 }
-        requires changes { self.old.failed ≡ false → slice_index self.old.changes link.0 < 2 ^ 32 - 1 }
+        requires changes { slice_index self.old.changes link.0 < 2 ^ 32 - 1 }
         requires notices { All (λ item. item.number < clock.number) self.old.notices }
         requires messages { All (λ item. item.number < clock.number) self.old.messages }
-        requires may { self.old.failed ≡ false → MayDo topology.now (step.LinkDown link) self.old }
+        requires may { MayDo topology.now (step.LinkDown link) self.old }
         ensures did { IfOk result (λ made. Did topology.now clock.tick clock.number (step.LinkDown link) self.old self.new made) }
         ensures fits { IfOk result (λ made. clock.number + made < 2 ^ 64) }
         ensures notices_below { IfOk result (λ made. All (λ item. item.number < clock.number + made) self.new.notices) }
         ensures messages_below { IfOk result (λ made. All (λ item. item.number < clock.number + made) self.new.messages) }
-        ensures no_memory { OnErr result (self.new.failed ≡ true) }
-        ensures for_good { self.old.failed ≡ true → IsErr result }
     {
-        if self.failed {
-            return Err(AllocError);
-        }
         topology.laws();
-        match self.turn_link(topology, link, false, clock) {
-            Ok(next) => Ok(next - clock.number),
-            Err(_) => {
-                self.failed = true;
-                Err(AllocError)
-            }
-        }
+        let next = self.turn_link(topology, link, false, clock)?;
+        Ok(next - clock.number)
     }
 
     /// LDP is switched on or off for a link, whose session opens or closes where the link is up.
     ///
-    /// It answers how many items that made, of which the first has the clock's number. After want of memory this and each later step
-    /// answer so.
+    /// It answers how many items that made, of which the first has the clock's number. After want of memory nothing is
+    /// said of the transport.
     pub fn ldp_admin(
         &mut self,
         topology: &Topology,
@@ -344,31 +324,21 @@ impl Transport {
         requires numbers { clock.number ≤ 2 ^ 62 }
         requires notices { All (λ item. item.number < clock.number) self.old.notices }
         requires messages { All (λ item. item.number < clock.number) self.old.messages }
-        requires may { self.old.failed ≡ false → MayDo topology.now (step.LdpAdmin link on) self.old }
+        requires may { MayDo topology.now (step.LdpAdmin link on) self.old }
         ensures did { IfOk result (λ made. Did topology.now clock.tick clock.number (step.LdpAdmin link on) self.old self.new made) }
         ensures fits { IfOk result (λ made. clock.number + made < 2 ^ 64) }
         ensures notices_below { IfOk result (λ made. All (λ item. item.number < clock.number + made) self.new.notices) }
         ensures messages_below { IfOk result (λ made. All (λ item. item.number < clock.number + made) self.new.messages) }
-        ensures no_memory { OnErr result (self.new.failed ≡ true) }
-        ensures for_good { self.old.failed ≡ true → IsErr result }
     {
-        if self.failed {
-            return Err(AllocError);
-        }
         topology.laws();
-        match self.switch(topology, link, on, clock) {
-            Ok(next) => Ok(next - clock.number),
-            Err(_) => {
-                self.failed = true;
-                Err(AllocError)
-            }
-        }
+        let next = self.switch(topology, link, on, clock)?;
+        Ok(next - clock.number)
     }
 
     /// A node learns the next change of a link, and says what its offers have become (RFC 5036, section 2.6.1).
     ///
-    /// It answers how many items that made, of which the first has the clock's number. After want of memory this and each later step
-    /// answer so.
+    /// It answers how many items that made, of which the first has the clock's number. After want of memory nothing is
+    /// said of the transport.
     pub fn learn(
         &mut self,
         topology: &Topology,
@@ -380,31 +350,21 @@ impl Transport {
         requires numbers { clock.number ≤ 2 ^ 62 }
         requires notices { All (λ item. item.number < clock.number) self.old.notices }
         requires messages { All (λ item. item.number < clock.number) self.old.messages }
-        requires may { self.old.failed ≡ false → MayDo topology.now (step.Learn node link) self.old }
+        requires may { MayDo topology.now (step.Learn node link) self.old }
         ensures did { IfOk result (λ made. Did topology.now clock.tick clock.number (step.Learn node link) self.old self.new made) }
         ensures fits { IfOk result (λ made. clock.number + made < 2 ^ 64) }
         ensures notices_below { IfOk result (λ made. All (λ item. item.number < clock.number + made) self.new.notices) }
         ensures messages_below { IfOk result (λ made. All (λ item. item.number < clock.number + made) self.new.messages) }
-        ensures no_memory { OnErr result (self.new.failed ≡ true) }
-        ensures for_good { self.old.failed ≡ true → IsErr result }
     {
-        if self.failed {
-            return Err(AllocError);
-        }
         topology.laws();
-        match self.learn_next(topology, node, link, clock) {
-            Ok(next) => Ok(next - clock.number),
-            Err(_) => {
-                self.failed = true;
-                Err(AllocError)
-            }
-        }
+        let next = self.learn_next(topology, node, link, clock)?;
+        Ok(next - clock.number)
     }
 
     /// The end of a link to which a direction leads hears the next PDU there (RFC 5036, section 3.5). It is never refused.
     ///
-    /// It answers how many items that made, of which the first has the clock's number. After want of memory this and each later step
-    /// answer so.
+    /// It answers how many items that made, of which the first has the clock's number. After want of memory nothing is
+    /// said of the transport.
     pub fn hear_ldp(
         &mut self,
         topology: &Topology,
@@ -416,24 +376,14 @@ impl Transport {
         requires numbers { clock.number ≤ 2 ^ 62 }
         requires notices { All (λ item. item.number < clock.number) self.old.notices }
         requires messages { All (λ item. item.number < clock.number) self.old.messages }
-        requires may { self.old.failed ≡ false → MayDo topology.now (step.HearLdp link dir) self.old }
+        requires may { MayDo topology.now (step.HearLdp link dir) self.old }
         ensures did { IfOk result (λ made. Did topology.now clock.tick clock.number (step.HearLdp link dir) self.old self.new made) }
         ensures fits { IfOk result (λ made. clock.number + made < 2 ^ 64) }
         ensures notices_below { IfOk result (λ made. All (λ item. item.number < clock.number + made) self.new.notices) }
         ensures messages_below { IfOk result (λ made. All (λ item. item.number < clock.number + made) self.new.messages) }
-        ensures no_memory { OnErr result (self.new.failed ≡ true) }
-        ensures for_good { self.old.failed ≡ true → IsErr result }
     {
-        if self.failed {
-            return Err(AllocError);
-        }
         topology.laws();
-        match self.hear_next(topology, link, dir, clock) {
-            Ok(next) => Ok(next - clock.number),
-            Err(_) => {
-                self.failed = true;
-                Err(AllocError)
-            }
-        }
+        let next = self.hear_next(topology, link, dir, clock)?;
+        Ok(next - clock.number)
     }
 }

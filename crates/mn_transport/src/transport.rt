@@ -6,10 +6,10 @@ ghost use Rattle.mn_topo.specs.declared.steps.JournalEntry.{JournalEntry};
 ghost use Rattle.mn_ledger.specs.Ledger.{world_of};
 ghost use Rattle.mn_topo.specs.Network.{wiring_of};
 ghost use Rattle.mn_ledger.specs.Transport.{known, offers};
-ghost use Rattle.mn_frames.specs.Entries.{outer_for, AreWays};
-ghost use Rattle.mn_frames.specs.Given.{given};
+ghost use Rattle.mn_frame_laws.specs.Entries.{outer_for, AreWays};
+ghost use Rattle.mn_frame_laws.specs.Given.{given};
 ghost use Rattle.mn_lsr.specs.Standing.{FitsOuter};
-ghost use Rattle.mn_transport_model.specs.Stands.{IsTransport};
+ghost use Rattle.mn_transport_laws.specs.Stands.{IsTransport};
 
 use crate::flying::{Messages, Notices};
 use mn_base::{LinkNo, NodeNo};
@@ -35,34 +35,18 @@ pub struct Transport {
     pub(crate) labels: Vec<u32>,
     pub(crate) notices: Notices,
     pub(crate) messages: Messages,
-    /// It has wanted memory, and its parts may not fit together any more.
-    pub(crate) failed: bool,
 }
 
 impl Model for Transport {
-    ghost use Rattle.mn_transport_model.specs.Carried.{Carried, HasChannels};
+    ghost use Rattle.mn_transport_laws.specs.Carried.{Carried, HasChannels};
 
     ghost Value = { Carried };
 
-    ghost view = { λ t. record {
-      nodes = t.nodes.items;
-      changes = t.changes;
-      switches = t.switches.items;
-      labels = t.labels.items;
-      notices = t.notices.items;
-      messages = t.messages.items;
-      failed = t.failed;
-    } };
+    ghost use Rattle.mn_transport.specs.Inside.{carried_in};
 
-    ghost invariant = { λ t. HasChannels (record {
-      nodes = t.nodes.items;
-      changes = t.changes;
-      switches = t.switches.items;
-      labels = t.labels.items;
-      notices = t.notices.items;
-      messages = t.messages.items;
-      failed = t.failed;
-    }) t.notices.channels t.messages.channels };
+    ghost view = { carried_in };
+
+    ghost invariant = { λ t. HasChannels (carried_in t) t.notices.channels t.messages.channels };
 }
 
 /// A node's labels have 20 bits each. It does nothing.

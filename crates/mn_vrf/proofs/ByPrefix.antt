@@ -3,7 +3,7 @@ use Rattle.std.proofs.Common.{◌≡◌, true, false, sym, ◌∙◌, ap, arith}
 use Rattle.std.specs.Ordering.{is_eq}
 use Rattle.std.specs.declared.cmp.Ordering.TheVariants.{Less, Equal, Greater}
 use Rattle.std.proofs.lemmas.Bool.Decides.{nat_tests}
-use Rattle.mn_by_key.specs.ByKey.{Goes}
+use Rattle.mn_by_key_laws.specs.ByKey.{Goes}
 use Rattle.mn_prefix.specs.Prefix.{AddressBlock, by_address_then_length, prefix_before}
 use Rattle.mn_prefix.proofs.Tables.{same_exact}
 use Rattle.mn_vrf.specs.Vrf.{Static, static_before}

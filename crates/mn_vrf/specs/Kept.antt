@@ -4,7 +4,7 @@ use Rattle.std.specs.Prelude.{◌≡◌, ◌<◌, List, [], map, length, Some}
 use Rattle.std.specs.Option.{is_some, unwrap_or}
 use Rattle.std.specs.List.{list_any, flat_map}
 use Rattle.mn_base.specs.Ordered.{Ascends}
-use Rattle.mn_by_key.specs.ByKey.{AreByKey}
+use Rattle.mn_by_key_laws.specs.ByKey.{AreByKey}
 use Rattle.mn_prefix.specs.Prefix.{AddressBlock, same_prefix, prefix_before}
 use Rattle.mn_prefix.specs.Table.{value_at}
 use Rattle.mn_vrf.specs.declared.source.Source.{Source}

@@ -1,5 +1,5 @@
 use Rattle.std.proofs.Common.{◌≡◌, ◌+◌, ◌-◌, arith, subst}
-use Rattle.mn_net_now.specs.Now.{HasRoom}
+use Rattle.mn_net_laws.specs.Now.{HasRoom}
 use Rattle.mn_room.proofs.carry_all.Goals as goal
 
 pub loop-turn-preserved : goal.loop-turn-preserved

@@ -1,5 +1,5 @@
 use Rattle.std.specs.Prelude.{◌-◌}
-use Rattle.mn_net_now.specs.Now.{HasRoom}
+use Rattle.mn_net_laws.specs.Now.{HasRoom}
 use Rattle.mn_room.proofs.carry_all.Given as goal
 
 abbrev pub invariant-loop-turn : goal.invariant-loop-turn

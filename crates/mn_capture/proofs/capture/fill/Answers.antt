@@ -1,4 +1,6 @@
 use Rattle.std.proofs.Common.{◌<◌, length, ℕ, ◌∙◌, arith, length-take, length-drop}
+use Rattle.mn_edge.specs.FaultLaws.{counted_out}
+use Rattle.mn_edge.specs.KeptLaws.{absent_same}
 use Rattle.mn_capture.proofs.Fetched.{filled_on, filled_room, filled_all}
 use Rattle.mn_capture.proofs.capture.fill.Goals as goal
 
@@ -19,3 +21,7 @@ pieces-preserved g c = record {
   reads = c.in_ok-more.ensures.reads ∙ c.pieces.invariant.reads;
   writes = c.in_ok-more.ensures.writes ∙ c.pieces.invariant.writes;
 }
+
+pub returns-in_err-more-clause-reads : goal.returns-in_err-more-clause-reads
+returns-in_err-more-clause-reads g c =
+    counted_out _ _ _ _ _ _ _ c.from_residual.ensures c.pieces.invariant.reads (absent_same _ _ _ c.pieces.invariant.same) c.in_err-more.ensures.reads

@@ -1,4 +1,6 @@
 use Rattle.std.proofs.Common.{◌≤◌, ◌<◌, length, ◌∙◌, arith}
+use Rattle.mn_edge.specs.FaultLaws.{counted_out}
+use Rattle.mn_edge.specs.KeptLaws.{absent_same}
 use Rattle.mn_capture.proofs.Feeds.{comes_on, whole_file, past_limit}
 use Rattle.mn_capture.proofs.read.taken.Goals as goal
 
@@ -30,3 +32,7 @@ pieces-preserved g c = record {
   reads = c.in_ok-count.ensures.reads ∙ c.pieces.invariant.reads;
   writes = c.in_ok-count.ensures.writes ∙ c.pieces.invariant.writes;
 }
+
+pub returns-in_err-count-clause-reads : goal.returns-in_err-count-clause-reads
+returns-in_err-count-clause-reads g c =
+    counted_out _ _ _ _ _ _ _ c.from_residual.ensures c.pieces.invariant.reads (absent_same _ _ _ c.pieces.invariant.same) c.in_err-count.ensures.reads

@@ -1,7 +1,8 @@
 use Rattle.std.proofs.Common.{◌≡◌, ◌<◌, [], length, Result, OnErr, Ok, Err, ap, sym, ◌∙◌, arith}
 use Rattle.std.proofs.lemmas.List.{get_or_read, take_rest, drop_all, length-drop, length-map}
 use Rattle.mn_edge.specs.Kept.{name_of, held_for}
-use Rattle.mn_edge.specs.KeptLaws.{framed_both}
+use Rattle.mn_edge.specs.FaultLaws.{counted_out}
+use Rattle.mn_edge.specs.KeptLaws.{framed_both, lacking_at}
 use Rattle.mn_edge.specs.Written.{texts}
 use Rattle.mn_edge.proofs.Laying.{name_at}
 use Rattle.mn_edge.proofs.Gathering.{appended, refused, passed_over, all_appended, framed_append, may_grow, none_for}
@@ -34,6 +35,18 @@ returns-in_err-append-clause-framed g c =
     c.as_str.ensures.value) [] in
     framed_both names _ _ _ c.loop-file.invariant.framed
     (framed_append names c.loop-file.file c.as_str.result.now _ _ _ here named c.in_err-append.ensures.silent c.in_err-append.ensures.refused)
+
+pub returns-in_err-append-clause-writes : goal.returns-in_err-append-clause-writes
+returns-in_err-append-clause-writes g c =
+    let names = texts c.args.names.now in
+    let here : c.loop-file.file < length names = rw length-map c.loop-file-test.true in
+    let named : c.as_str.result.now ≡ name_of names c.loop-file.file =
+    get_or_read names c.loop-file.file c.as_str.result.now here
+    (name_at c.args.names.now c.loop-file.file c.index-names-file.result c.as_str.result.now c.loop-file-test.true c.index-names-file.is
+    c.as_str.ensures.value) [] in
+    counted_out _ _ _ _ _ _ _ c.from_residual.ensures c.loop-file.invariant.writes
+    (lacking_at names c.loop-file.file c.as_str.result.now _ _ here named c.loop-file.invariant.framed.stays)
+    c.in_err-append.ensures.writes
 
 pub loop-file-preserved : goal.loop-file-preserved
 loop-file-preserved g c =

@@ -1,5 +1,7 @@
 use Rattle.std.proofs.Common.{sym, ◌∙◌, subst, arith, length, take, ◌≤◌, ◌<◌, ◌≡◌}
 use Rattle.std.proofs.lemmas.List.{length-take-le}
+use Rattle.mn_edge.specs.FaultLaws.{counted_out}
+use Rattle.mn_edge.specs.KeptLaws.{absent_same}
 use Rattle.mn_edge.proofs.Fetching.{whole, past, more}
 use Rattle.mn_edge.proofs.read.read_by.Goals as goal
 
@@ -32,3 +34,7 @@ loop-bytes-preserved g c = record {
   reads = c.in_ok-count.ensures.reads ∙ c.loop-bytes.invariant.reads;
   writes = c.in_ok-count.ensures.writes ∙ c.loop-bytes.invariant.writes;
 }
+
+pub returns-in_err-count-clause-reads : goal.returns-in_err-count-clause-reads
+returns-in_err-count-clause-reads g c =
+    counted_out _ _ _ _ _ _ _ c.from_residual.ensures c.loop-bytes.invariant.reads (absent_same _ _ _ c.loop-bytes.invariant.same) c.in_err-count.ensures.reads

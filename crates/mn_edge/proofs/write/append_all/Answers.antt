@@ -1,6 +1,11 @@
-use Rattle.std.proofs.Common.{ℕ, List, [], ◌∷◌, ◌++◌, Result, Ok, Err, OnErr, Some, sym, ◌∙◌, ap, subst, take, drop, ◌<◌, length, append_assoc, ◌+◌, refl}
+use Rattle.std.proofs.Common.{ℕ, List, [], ◌∷◌, ◌++◌, Result, Ok, Err, OnErr, Some, sym, ◌∙◌, ap, subst, take, drop, ◌<◌, length, append_assoc, ◌+◌, refl, ◌≡◌, get_or, String, Vec, string_bytes}
 use Rattle.std.proofs.Common.{rules}
-use Rattle.std.proofs.lemmas.List.{take_all, length-map, take_more, take-append-drop, append-nil}
+use Rattle.std.proofs.lemmas.List.{take_all, length-map, take_more, take-append-drop, append-nil, get_or-map}
+use Rattle.std.specs.declared.alloc.Global.{Global}
+use Rattle.mn_edge.specs.FaultLaws.{counted_out}
+use Rattle.mn_edge.specs.Kept.{name_of}
+use Rattle.mn_edge.specs.KeptLaws.{lacking_at, there_grown}
+use Rattle.mn_edge.specs.Memory.{names_of}
 use Rattle.mn_edge.specs.Written.{laid, written, pairs, PartWritten}
 use Rattle.mn_edge.proofs.Laying.{step_whole, step_part, part_more, known_of, pair_at}
 use Rattle.mn_edge.proofs.write.append_all.Goals as goal
@@ -9,11 +14,17 @@ on_err : {T E : Type 0} (r : Result T E) (P : Type 0) → P → OnErr r P
 on_err (Ok x) P p = tt
 on_err (Err e) P p = p
 
+-- the name of the piece at a place
+name_in : (pieces : List (String Global × Vec ℕ Global)) (i : ℕ) (piece : String Global × Vec ℕ Global) (name : List ℕ) → i < length pieces →
+    piece ≡ get_or pieces i piece → name ≡ string_bytes piece.0 → name ≡ name_of (names_of pieces) i
+name_in pieces i piece name within is text =
+    text ∙ ap (λ e. string_bytes e.0) is ∙ sym (get_or-map (λ e. string_bytes e.0) pieces i piece [] within)
+
 pub loop-piece-init : goal.loop-piece-init
 loop-piece-init g c = record {
   stands = λ base names done h k. h ∙ ap (λ l. Some (laid (written names l) base)) (sym (append-nil done));
-  reads =
-      refl;
+  there = λ all. all;
+  reads = refl;
   writes = refl;
 }
 
@@ -35,6 +46,15 @@ returns-in_err-append-clause-part g c = on_err c.from_residual.result _ (λ base
     ∙ take-append-drop (c.loop-piece.piece-index + 1) (pairs c.args.pieces.now)))
     (part_more names ((done ++ some) ++ p ∷ []) rest base _ part))
 
+pub returns-in_err-append-clause-writes : goal.returns-in_err-append-clause-writes
+returns-in_err-append-clause-writes g c =
+    let names = names_of c.args.pieces.now in
+    let named : c.as_str.result.now ≡ name_of names c.loop-piece.piece-index =
+    name_in c.args.pieces.now c.loop-piece.piece-index c.piece-item.result c.as_str.result.now c.loop-piece-test.true c.piece-item.is (search rules) in
+    counted_out _ _ _ _ _ _ _ c.from_residual.ensures c.loop-piece.invariant.writes
+    (lacking_at names c.loop-piece.piece-index c.as_str.result.now _ _ (rw length-map c.loop-piece-test.true) named c.loop-piece.invariant.there)
+    c.in_err-append.ensures.writes
+
 pub loop-piece-preserved : goal.loop-piece-preserved
 loop-piece-preserved g c = record {
   stands = λ base names done h k.
@@ -47,6 +67,7 @@ loop-piece-preserved g c = record {
       ∙ ap (λ l. Some (laid (written names l) base))
       (append_assoc done some (p ∷ [])
       ∙ ap (λ l. done ++ l) (ap (λ x. some ++ x ∷ []) at ∙ sym (take_more (pairs c.args.pieces.now) c.loop-piece.piece-index p within)));
+  there = λ all. there_grown (names_of c.args.pieces.now) c.as_str.result.now c.deref.result.now _ _ c.in_ok-append.ensures.grown (c.loop-piece.invariant.there all);
   reads = c.in_ok-append.ensures.reads ∙ c.loop-piece.invariant.reads;
   writes = c.in_ok-append.ensures.writes ∙ c.loop-piece.invariant.writes;
 }

@@ -1,5 +1,5 @@
 use Rattle.std.proofs.Common.{◌≡◌, ◌≢◌, ◌+◌, ◌<◌, ◌≤◌, length, refl, sym, ◌∙◌, ap, subst, arith, true, false}
-use Rattle.mn_output.specs.Files.{Frames}
+use Rattle.mn_output_laws.specs.Files.{Frames}
 use Rattle.mn_files.proofs.Finding.{is_there, frames_there}
 use Rattle.mn_files.proofs.find.find_frames.Goals as goal
 

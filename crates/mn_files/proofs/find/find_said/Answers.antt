@@ -1,5 +1,5 @@
 use Rattle.std.proofs.Common.{◌≡◌, ◌≢◌, ◌+◌, ◌<◌, ◌≤◌, length, refl, sym, ◌∙◌, ap, subst, arith, true, false}
-use Rattle.mn_output.specs.Files.{Said}
+use Rattle.mn_output_laws.specs.Files.{Said}
 use Rattle.mn_files.proofs.Finding.{is_there, said_there}
 use Rattle.mn_files.proofs.find.find_said.Goals as goal
 

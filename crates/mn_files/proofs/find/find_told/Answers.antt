@@ -1,6 +1,6 @@
 use Rattle.std.proofs.Common.{◌≡◌, ◌≢◌, ◌+◌, ◌<◌, ◌≤◌, length, refl, sym, ◌∙◌, ap, subst, arith, true, false}
 use Rattle.mn_base.proofs.Bools.{other_numbers}
-use Rattle.mn_output.specs.Files.{Told}
+use Rattle.mn_output_laws.specs.Files.{Told}
 use Rattle.mn_files.specs.Numbers.{edges_before}
 use Rattle.mn_files.proofs.Places.{edge_below, table_at, all_at, some_edge, places_apart, told_is}
 use Rattle.mn_files.proofs.Finding.{is_there, are_two, no_two}

@@ -6,7 +6,7 @@ use Rattle.mn_edge.specs.Memory.{all_differ}
 use Rattle.mn_edge.specs.Written.{texts}
 use Rattle.mn_topo.specs.Network.{wiring_of}
 use Rattle.mn_ledger.specs.Places.{edges}
-use Rattle.mn_output.specs.Files.{Journal, Labels, Deliveries, Frames, Said, file_name, told_files}
+use Rattle.mn_output_laws.specs.Files.{Journal, Labels, Deliveries, Frames, Said, file_name, told_files}
 use Rattle.mn_files.proofs.Texts.{all_names}
 use Rattle.mn_files.proofs.Differing.{names_differ}
 use Rattle.mn_files.proofs.names.file_names.Goals as goal

@@ -1,7 +1,7 @@
 use Rattle.std.proofs.Common.{◌∷◌, [], map}
 use Rattle.std.specs.List.{range_with_len}
 use Rattle.mn_edge.specs.Written.{texts}
-use Rattle.mn_output.specs.Files.{Frames, file_name}
+use Rattle.mn_output_laws.specs.Files.{Frames, file_name}
 use Rattle.mn_files.proofs.Texts.{pushed, grown, frames-more}
 use Rattle.mn_files.proofs.names.push_frames.Goals as goal
 

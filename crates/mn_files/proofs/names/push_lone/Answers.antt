@@ -1,4 +1,4 @@
-use Rattle.mn_output.specs.Files.{Journal, Labels, Deliveries, file_name}
+use Rattle.mn_output_laws.specs.Files.{Journal, Labels, Deliveries, file_name}
 use Rattle.mn_files.proofs.Texts.{pushed_thrice}
 use Rattle.mn_files.proofs.names.push_lone.Goals as goal
 

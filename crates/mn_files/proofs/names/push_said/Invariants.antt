@@ -2,7 +2,7 @@ use Rattle.std.proofs.Common.{◌≡◌, ◌++◌, ◌∷◌, [], map}
 use Rattle.std.specs.List.{flat_map, range_with_len}
 use Rattle.mn_wiring.specs.declared.links.Dir.TheVariants.{Forth, Back}
 use Rattle.mn_edge.specs.Written.{texts}
-use Rattle.mn_output.specs.Files.{Said, file_name}
+use Rattle.mn_output_laws.specs.Files.{Said, file_name}
 use Rattle.mn_files.proofs.names.push_said.Given as goal
 
 abbrev pub invariant-loop-number : goal.invariant-loop-number

@@ -1,7 +1,7 @@
 use Rattle.std.proofs.Common.{◌++◌, map, ap, sym, ◌∙◌, Vec, String, Global}
 use Rattle.std.specs.List.{flat_map}
 use Rattle.mn_edge.specs.Written.{texts}
-use Rattle.mn_output.specs.Files.{file_name, told_files}
+use Rattle.mn_output_laws.specs.Files.{file_name, told_files}
 use Rattle.mn_files.proofs.Texts.{edges_below, grown, told-more, told-same}
 use Rattle.mn_files.proofs.names.push_told.Goals as goal
 use Rattle.mn_files.proofs.names.push_told.Goals.{then-is_edge+in_ok-push_told_by, else-is_edge}

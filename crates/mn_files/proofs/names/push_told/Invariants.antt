@@ -1,7 +1,7 @@
 use Rattle.std.proofs.Common.{◌≡◌, ◌++◌, map}
 use Rattle.std.specs.List.{flat_map}
 use Rattle.mn_edge.specs.Written.{texts}
-use Rattle.mn_output.specs.Files.{file_name, told_files}
+use Rattle.mn_output_laws.specs.Files.{file_name, told_files}
 use Rattle.mn_files.proofs.Texts.{edges_below}
 use Rattle.mn_files.proofs.names.push_told.Given as goal
 

@@ -1,6 +1,6 @@
 use Rattle.std.proofs.Common.{◌++◌, ◌∷◌, [], map, ap, sym, ◌∙◌, Vec, String, Global}
 use Rattle.mn_edge.specs.Written.{texts}
-use Rattle.mn_output.specs.Files.{Told, file_name}
+use Rattle.mn_output_laws.specs.Files.{Told, file_name}
 use Rattle.mn_files.proofs.Texts.{told_below, pushed, grown, told_to, not_told}
 use Rattle.mn_files.proofs.names.push_told_by.Goals as goal
 use Rattle.mn_files.proofs.names.push_told_by.Goals.{then-is_told+in_ok-pair_name+in_ok-push, else-is_told}

@@ -1,6 +1,6 @@
 use Rattle.std.proofs.Common.{◌≡◌, ◌++◌, map}
 use Rattle.mn_edge.specs.Written.{texts}
-use Rattle.mn_output.specs.Files.{file_name}
+use Rattle.mn_output_laws.specs.Files.{file_name}
 use Rattle.mn_files.proofs.Texts.{told_below}
 use Rattle.mn_files.proofs.names.push_told_by.Given as goal
 

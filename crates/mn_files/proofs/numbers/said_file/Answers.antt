@@ -1,6 +1,6 @@
 use Rattle.std.proofs.Common.{arith, length, ap, ◌≡◌, ◌+◌, ◌*◌, subst, sym}
 use Rattle.mn_wiring.specs.declared.links.Dir.TheVariants.{Forth, Back}
-use Rattle.mn_output.specs.Files.{Said}
+use Rattle.mn_output_laws.specs.Files.{Said}
 use Rattle.mn_files.specs.Numbers.{IsNumber}
 use Rattle.mn_files.proofs.Places.{said_is}
 use Rattle.mn_files.proofs.numbers.said_file.Goals as goal

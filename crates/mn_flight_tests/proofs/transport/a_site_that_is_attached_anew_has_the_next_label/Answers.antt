@@ -2,8 +2,8 @@ use Rattle.std.proofs.Common.{rules, ◌<◌, [], length, arith}
 use Rattle.std.proofs.lemmas.Option.{slice_get_within}
 use Rattle.mn_base.specs.declared.numbers.SiteNo.{SiteNo}
 use Rattle.mn_topo.specs.declared.steps.Step.TheVariants as step
-use Rattle.mn_timetable.specs.Steps.{pushed}
-use Rattle.mn_transport_model.specs.Stands.{IsTransport}
+use Rattle.mn_timetable_laws.specs.Steps.{pushed}
+use Rattle.mn_transport_laws.specs.Stands.{IsTransport}
 use Rattle.mn_flight_tests.proofs.Witness.{first_detached, then_attached}
 use Rattle.mn_flight_tests.proofs.transport.a_site_that_is_attached_anew_has_the_next_label.Goals as goal
 

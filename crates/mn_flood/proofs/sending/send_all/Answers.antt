@@ -1,5 +1,5 @@
 use Rattle.std.proofs.Common.{◌≤◌, length, arith, sym, ◌∙◌, ap, take, List, Option}
-use Rattle.mn_flooding.specs.Flood.{Advert}
+use Rattle.mn_flood_laws.specs.Flood.{Advert}
 use Rattle.mn_flood.proofs.Sends.{over_it, one_sent, no_one_sent, few_over, still_room, few_more}
 use Rattle.mn_flood.proofs.sending.send_all.Goals.{in-Some+in_ok-send_over, in_default}
 use Rattle.mn_flood.proofs.sending.send_all.Goals as goal

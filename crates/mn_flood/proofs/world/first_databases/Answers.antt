@@ -1,7 +1,7 @@
 use Rattle.std.proofs.Common.{rules, ◌≡◌, ◌++◌, ◌∷◌, [], ◌∙◌, ap, sym, arith, map, ℕ}
 use Rattle.std.specs.List.{range_with_len}
 use Rattle.std.proofs.lemmas.List.FromFn.{map-range_with_len_more}
-use Rattle.mn_flooding.specs.Flood.{first_of}
+use Rattle.mn_flood_laws.specs.Flood.{first_of}
 use Rattle.mn_flood.proofs.world.first_databases.Goals as goal
 
 pub loop-node-preserved : goal.loop-node-preserved

@@ -2,8 +2,8 @@ use Rattle.std.proofs.Common.{◌≡◌, ◌-◌, ◌+◌, None, refl, sym, ◌�
 use Rattle.mn_base.specs.Limits.{most_steps}
 use Rattle.mn_base.specs.declared.numbers.LinkNo.{LinkNo}
 use Rattle.mn_wiring.specs.declared.links.Dir.{Dir}
-use Rattle.mn_flooding.specs.Flood.{Hear}
-use Rattle.mn_flooding.specs.Course.{every_hearing}
+use Rattle.mn_flood_laws.specs.Flood.{Hear}
+use Rattle.mn_flood_laws.specs.Course.{every_hearing}
 use Rattle.mn_flood.specs.Floods.{FloodNow, happened, refusal_of}
 use Rattle.mn_flood_run.proofs.Courses.{ComesTo, IsFirst, begins, none_first, some_first, unrefused, first_within, turn_more, ends_quiet, ends_full, hears, ends_by}
 use Rattle.mn_flood_run.proofs.play.drain.Goals as goal

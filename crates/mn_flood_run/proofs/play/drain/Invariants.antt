@@ -1,6 +1,6 @@
 use Rattle.std.proofs.Common.{◌≡◌, ◌≤◌, ◌-◌, false}
 use Rattle.mn_base.specs.Limits.{most_steps}
-use Rattle.mn_flooding.specs.Course.{FloodRun, every_hearing}
+use Rattle.mn_flood_laws.specs.Course.{FloodRun, every_hearing}
 use Rattle.mn_flood_run.specs.Playing.{IsAt}
 use Rattle.mn_flood_run.proofs.Courses.{ComesTo}
 use Rattle.mn_flood_run.proofs.play.drain.Given as goal

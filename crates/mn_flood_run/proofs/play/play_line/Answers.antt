@@ -1,5 +1,5 @@
 use Rattle.std.proofs.Common.{ap}
-use Rattle.mn_flooding.specs.Flood.{Change, Hear}
+use Rattle.mn_flood_laws.specs.Flood.{Change, Hear}
 use Rattle.mn_flood_run.specs.Language.{ordered}
 use Rattle.mn_flood_run.proofs.Courses.{line_follows, drain_follows}
 use Rattle.mn_flood_run.proofs.play.play_line.Goals as goal

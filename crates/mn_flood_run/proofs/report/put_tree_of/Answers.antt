@@ -1,7 +1,7 @@
 use Rattle.std.proofs.Common.{subst}
 use Rattle.mn_edge.specs.declared.device.DeviceBad.TheVariants.{NoMemory}
 use Rattle.mn_topo.specs.Network.{wiring_of}
-use Rattle.mn_flooding.specs.Flood.{flooded}
+use Rattle.mn_flood_laws.specs.Flood.{flooded}
 use Rattle.mn_linkdb.specs.Trees.{IsTree}
 use Rattle.mn_tables.proofs.Telling.{tells_err, tells_want}
 use Rattle.mn_flood_run.specs.Report.{tree_text}

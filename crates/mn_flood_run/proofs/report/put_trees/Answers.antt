@@ -1,7 +1,7 @@
 use Rattle.std.proofs.Common.{◌<◌, ◌≤◌, arith}
 use Rattle.std.specs.Prelude.{length}
 use Rattle.mn_topo.specs.Network.{wiring_of}
-use Rattle.mn_flooding.specs.Flood.{flooded}
+use Rattle.mn_flood_laws.specs.Flood.{flooded}
 use Rattle.mn_tables.proofs.Telling.{told_nothing, told_next_number, tells_cut_number, tells_all_numbers}
 use Rattle.mn_flood_run.specs.Report.{tree_text}
 use Rattle.mn_flood_run.proofs.report.put_trees.Goals as goal

@@ -2,7 +2,7 @@ use Rattle.std.proofs.Common.{take}
 use Rattle.std.specs.Prelude.{length}
 use Rattle.std.specs.List.{flat_map, range_with_len}
 use Rattle.mn_topo.specs.Network.{wiring_of}
-use Rattle.mn_flooding.specs.Flood.{flooded}
+use Rattle.mn_flood_laws.specs.Flood.{flooded}
 use Rattle.mn_tables.specs.Telling.{standing, Told}
 use Rattle.mn_flood_run.specs.Report.{tree_text}
 use Rattle.mn_flood_run.proofs.report.put_trees.Given as goal

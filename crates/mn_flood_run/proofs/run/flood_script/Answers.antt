@@ -1,8 +1,9 @@
-use Rattle.std.proofs.Common.{◌∙◌, subst}
+use Rattle.std.proofs.Common.{◌∙◌, ap, refl, subst}
 use Rattle.mn_edge.specs.Files.{file}
 use Rattle.mn_answer.specs.Inputs.{LinesAre, LinesFit}
 use Rattle.mn_answer.specs.Endings.{TextIs}
-use Rattle.mn_answer.proofs.Ending.{fault_answers, memory_answers}
+use Rattle.mn_answer.specs.Answer.{with_lines_of}
+use Rattle.mn_answer.proofs.Ending.{fault_answers, memory_answers, sink_caused, caused_read}
 use Rattle.std.specs.Prelude.{Some}
 use Rattle.mn_flood_run.specs.declared.command.FloodLine.{FloodLine}
 use Rattle.mn_flood_run.specs.Language.{flood_says, command_fits}
@@ -27,3 +28,15 @@ returns-in-Err-Failed-clause-answers g c = λ files is.
 pub returns-in-Err-NoMemory-clause-answers : goal.returns-in-Err-NoMemory-clause-answers
 returns-in-Err-NoMemory-clause-answers g c = λ files is.
     memory_answers (flood_over files c.args.script.now c.args.topology.now) files _ _ (c.load_lines.ensures.same ∙ is)
+
+pub returns-in-Ok-Ok-clause-cause : goal.returns-in-Ok-Ok-clause-cause
+returns-in-Ok-Ok-clause-cause g c = sink_caused _ _ _ c.flood_lines.result c.in-Ok-Ok.ensures.reads c.load_lines.ensures.writes c.flood_lines.ensures.cause
+
+pub returns-in-Ok-Err-clause-cause : goal.returns-in-Ok-Err-clause-cause
+returns-in-Ok-Err-clause-cause g c = sink_caused _ _ _ c.refuse.result c.in-Ok-Err.ensures.reads c.load_lines.ensures.writes c.refuse.ensures.cause
+
+pub returns-in-Err-Failed-clause-cause : goal.returns-in-Err-Failed-clause-cause
+returns-in-Err-Failed-clause-cause g c =
+    caused_read _ _ _ _ c.load_lines.ensures.writes refl
+    (λ absent files is. ap (λ input. with_lines_of (flood_says c.args.topology.now) input (λ lines. Some (flood_done c.args.topology.now lines))) (absent files is))
+    (rw c.in-Err-Failed.field-0-is at c.in-Err-Failed.ensures.reads)

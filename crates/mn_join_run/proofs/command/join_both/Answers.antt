@@ -1,8 +1,9 @@
-use Rattle.std.proofs.Common.{Some, Ok, ◌∙◌, ap, subst, sym}
+use Rattle.std.proofs.Common.{Some, Ok, ◌∙◌, ap, refl, subst, sym}
 use Rattle.mn_edge.specs.Files.{file}
 use Rattle.mn_answer.specs.Inputs.{JointsAre, JointsFit}
 use Rattle.mn_answer.specs.Endings.{Answers}
-use Rattle.mn_answer.proofs.Ending.{fault_answers, memory_answers}
+use Rattle.mn_answer.specs.Answer.{with_joints}
+use Rattle.mn_answer.proofs.Ending.{fault_answers, memory_answers, caused_after, caused_read, sink_caused}
 use Rattle.mn_join_report.specs.Pairs.{AreSites, AreApart}
 use Rattle.mn_join_run.specs.Answer.{with_both, with_pairing}
 use Rattle.mn_join_run.proofs.Told.{undone, refused}
@@ -48,3 +49,17 @@ pub join_joined-requires-clause-joined : goal.join_joined-requires-clause-joined
 join_joined-requires-clause-joined g c =
     let fit = subst (JointsFit c.args.first c.args.second) c.in-Ok-Ok.field-0-is c.in-Ok-Ok.ensures.fits in
     subst AreApart (sym c.deref.ensures.value) fit.1
+
+pub returns-in-Ok-Ok-clause-cause : goal.returns-in-Ok-Ok-clause-cause
+returns-in-Ok-Ok-clause-cause g c =
+    caused_after _ _ _ _ _ c.join_joined.result c.in-Ok-Ok.ensures.reads c.load_joints.ensures.writes refl
+    (λ none m is. let read = subst (JointsAre c.args.first c.args.second (file m c.args.joints.now)) c.in-Ok-Ok.field-0-is (c.in-Ok-Ok.ensures.answer m is) in
+    read.1 (with_pairing c.args.folder.now m c.args.script.now c.args.capture.now c.args.first c.args.second) ∙ ap (with_pairing c.args.folder.now m c.args.script.now c.args.capture.now c.args.first c.args.second) (sym c.deref.ensures.value) ∙ none m (c.load_joints.ensures.same ∙ is))
+    c.join_joined.ensures.cause
+
+pub returns-in-Ok-Err-clause-cause : goal.returns-in-Ok-Err-clause-cause
+returns-in-Ok-Err-clause-cause g c = sink_caused _ _ _ c.refuse.result c.in-Ok-Err.ensures.reads c.load_joints.ensures.writes c.refuse.ensures.cause
+
+pub returns-in-Err-Failed-clause-cause : goal.returns-in-Err-Failed-clause-cause
+returns-in-Err-Failed-clause-cause g c =
+    caused_read _ _ _ _ c.load_joints.ensures.writes refl (λ absent m is. ap (λ input. with_joints c.args.first c.args.second input (with_pairing c.args.folder.now m c.args.script.now c.args.capture.now c.args.first c.args.second)) (absent m is)) (rw c.in-Err-Failed.field-0-is at c.in-Err-Failed.ensures.reads)

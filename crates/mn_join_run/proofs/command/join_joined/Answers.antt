@@ -1,9 +1,10 @@
-use Rattle.std.proofs.Common.{◌≡◌, true, Some, Ok, ◌∙◌, ap, subst, sym}
+use Rattle.std.proofs.Common.{◌≡◌, true, Some, Ok, ◌∙◌, ap, refl, subst, sym}
 use Rattle.std.specs.Prelude.{All}
 use Rattle.mn_edge.specs.Files.{file}
 use Rattle.mn_answer.specs.Inputs.{LinesAre, LinesFit}
 use Rattle.mn_answer.specs.Endings.{Answers}
-use Rattle.mn_answer.proofs.Ending.{fault_answers, memory_answers}
+use Rattle.mn_answer.specs.Answer.{with_lines_of}
+use Rattle.mn_answer.proofs.Ending.{fault_answers, memory_answers, caused_after, caused_read, sink_caused}
 use Rattle.mn_join_run.specs.Answer.{with_pairing, with_script}
 use Rattle.mn_join_report.specs.Pairs.{pairing_of}
 use Rattle.mn_join_script.specs.Language.{join_says, line_fits}
@@ -45,3 +46,17 @@ pub join_script-requires-clause-fit : goal.join_script-requires-clause-fit
 join_script-requires-clause-fit g c =
     let fit = subst (LinesFit (line_fits c.args.first c.args.second)) c.in-Ok-Ok.field-0-is c.in-Ok-Ok.ensures.fits in
     subst (All (λ line. line_fits c.args.first c.args.second line ≡ true)) (sym c.deref.ensures.value) fit.0
+
+pub returns-in-Ok-Ok-clause-cause : goal.returns-in-Ok-Ok-clause-cause
+returns-in-Ok-Ok-clause-cause g c =
+    caused_after _ _ _ _ _ c.join_script.result c.in-Ok-Ok.ensures.reads c.load_script.ensures.writes refl
+    (λ none m is. let read = subst (LinesAre (join_says c.args.first c.args.second) (file m c.args.script.now)) c.in-Ok-Ok.field-0-is (c.in-Ok-Ok.ensures.answer m is) in
+    read.1 (with_script c.args.folder.now m c.args.capture.now (pairing_of c.args.first c.args.second c.args.joints.now)) ∙ ap (with_script c.args.folder.now m c.args.capture.now (pairing_of c.args.first c.args.second c.args.joints.now)) (sym c.deref.ensures.value) ∙ none m (c.load_script.ensures.same ∙ is))
+    c.join_script.ensures.cause
+
+pub returns-in-Ok-Err-clause-cause : goal.returns-in-Ok-Err-clause-cause
+returns-in-Ok-Err-clause-cause g c = sink_caused _ _ _ c.refuse.result c.in-Ok-Err.ensures.reads c.load_script.ensures.writes c.refuse.ensures.cause
+
+pub returns-in-Err-Failed-clause-cause : goal.returns-in-Err-Failed-clause-cause
+returns-in-Err-Failed-clause-cause g c =
+    caused_read _ _ _ _ c.load_script.ensures.writes refl (λ absent m is. ap (λ input. with_lines_of (join_says c.args.first c.args.second) input (with_script c.args.folder.now m c.args.capture.now (pairing_of c.args.first c.args.second c.args.joints.now))) (absent m is)) (rw c.in-Err-Failed.field-0-is at c.in-Err-Failed.ensures.reads)

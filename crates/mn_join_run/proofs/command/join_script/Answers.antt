@@ -1,11 +1,13 @@
-use Rattle.std.proofs.Common.{Some, sym, ◌∙◌, ap, subst}
+use Rattle.std.proofs.Common.{Some, refl, sym, ◌∙◌, ap, subst}
+use Rattle.std.proofs.lemmas.Option.{none-some}
 use Rattle.std.specs.Prelude.{option_map}
 use Rattle.mn_edge.specs.Files.{file}
 use Rattle.mn_pcap.specs.Reading as pcap
 use Rattle.mn_capture.specs.Packets.{packets_in}
 use Rattle.mn_answer.specs.Inputs.{CaptureIs, CaptureOf}
 use Rattle.mn_answer.specs.Endings.{Answers}
-use Rattle.mn_answer.proofs.Ending.{fault_answers, memory_answers}
+use Rattle.mn_answer.specs.Answer.{with_capture}
+use Rattle.mn_answer.proofs.Ending.{fault_answers, memory_answers, caused_after, caused_read, sink_caused}
 use Rattle.mn_join_report.specs.Pairs.{pairing_of}
 use Rattle.mn_perform.specs.Inside.{is_inside}
 use Rattle.mn_join_run.specs.Answer.{join_done, with_script}
@@ -61,3 +63,21 @@ returns-in-Ok-Err-clause-answers g c = λ m is.
     refused (with_script c.args.folder.now m c.args.capture.now pairing c.args.lines.now) c.in-Ok-Err.outcome m _ _ _ _ _ c.refuse.result
     (read (λ packets. Some (join_done c.args.folder.now pairing c.args.lines.now packets))) (c.load_capture.ensures.same ∙ is)
     c.refuse.ensures.outcome c.refuse.ensures.text c.refuse.ensures.cause
+
+pub returns-in-Ok-Ok-clause-cause : goal.returns-in-Ok-Ok-clause-cause
+returns-in-Ok-Ok-clause-cause g c =
+    caused_after _ _ _ _ _ c.join_networks.result c.in-Ok-Ok.ensures.reads c.load_capture.ensures.writes refl
+    (λ absent m is. let read = subst (CaptureIs (file m c.args.capture.now)) c.in-Ok-Ok.field-0-is (c.in-Ok-Ok.ensures.answer m is) in
+    let named = subst (CaptureOf c.args.capture.now) c.in-Ok-Ok.field-0-is c.in-Ok-Ok.ensures.of in
+    absurd (none-some read.0 (sym (absent m (c.load_capture.ensures.same ∙ is)) ∙ ap (file m) named ∙ read.1)))
+    c.join_networks.ensures.cause
+
+pub returns-in-Ok-Err-clause-cause : goal.returns-in-Ok-Err-clause-cause
+returns-in-Ok-Err-clause-cause g c = sink_caused _ _ _ c.refuse.result c.in-Ok-Err.ensures.reads c.load_capture.ensures.writes c.refuse.ensures.cause
+
+pub returns-in-Err-Failed-clause-cause : goal.returns-in-Err-Failed-clause-cause
+returns-in-Err-Failed-clause-cause g c =
+    let pairing = pairing_of c.args.first c.args.second c.args.joints.now in
+    caused_read _ _ _ _ c.load_capture.ensures.writes refl
+    (λ absent m is. ap (λ input. with_capture input (λ packets. Some (join_done c.args.folder.now pairing c.args.lines.now packets))) (absent m is))
+    (rw c.in-Err-Failed.field-0-is at c.in-Err-Failed.ensures.reads)

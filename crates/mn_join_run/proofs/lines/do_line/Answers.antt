@@ -1,7 +1,10 @@
-use Rattle.std.proofs.Common.{Some, None, refl, sym, subst}
+use Rattle.std.proofs.Common.{◌≡◌, Some, None, refl, sym, subst}
 use Rattle.std.specs.Prelude.{codes}
-use Rattle.mn_edge.specs.Kept.{Framed}
+use Rattle.mn_edge.specs.FaultLaws.{grew_by}
+use Rattle.mn_edge.specs.Kept.{Framed, Lacking}
 use Rattle.mn_edge.specs.KeptLaws.{framed_same}
+use Rattle.mn_perform.specs.Recorded.{told_packets}
+use Rattle.mn_perform.proofs.Blaming.{absent_untold, blamed_by, blamed_after}
 use Rattle.mn_perform.specs.declared.ended.Fault.TheVariants.{Read, NoMemory}
 use Rattle.mn_join_report.specs.Course.{with_packet}
 use Rattle.mn_join_run.specs.Outside.{outside}
@@ -83,3 +86,19 @@ returns-in-Err-NoMemory-clause-went g c = λ pairing start run names keeps.
 pub returns-in-Err-NoMemory-clause-framed : goal.returns-in-Err-NoMemory-clause-framed
 returns-in-Err-NoMemory-clause-framed g c =
     subst (λ f. Framed c.args.file.now.names (g.S.Shelf.files c.args.shelf.now) f) (sym c.fetch.ensures.same) (framed_same _ _)
+
+pub returns-in-Ok-Some-clause-cause : goal.returns-in-Ok-Some-clause-cause
+returns-in-Ok-Some-clause-cause g c =
+    let untold : Type 0 = told_packets (g.S.Shelf.files c.args.shelf.now) c.args.file.now.names c.args.capture.now ≡ None in
+    let lacking : Type 0 = Lacking c.args.file.now.names (g.S.Shelf.files c.args.shelf.now) in
+    blamed_after untold lacking _ _ _ c.play_line.result c.in-Ok-Some.ensures.reads c.fetch.ensures.writes refl
+    (blamed_by _ _ untold lacking _ _ c.play_line.result (λ never. absurd never)
+    (subst (Lacking c.args.file.now.names) c.fetch.ensures.same) c.play_line.ensures.cause)
+
+pub returns-in-Err-Failed-clause-cause : goal.returns-in-Err-Failed-clause-cause
+returns-in-Err-Failed-clause-cause g c = (
+  grew_by _ _ _ _ (absent_untold (g.S.Shelf.files c.args.shelf.now) c.args.file.now.names c.args.capture.now)
+      (rw c.in-Err-Failed.field-0-is at c.in-Err-Failed.ensures.reads),
+  c.fetch.ensures.writes,
+  refl,
+)

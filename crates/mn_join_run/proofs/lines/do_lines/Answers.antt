@@ -1,7 +1,9 @@
-use Rattle.std.proofs.Common.{◌≡◌, length, refl, sym, ◌∙◌, subst, arith}
-use Rattle.mn_edge.specs.Kept.{Framed}
+use Rattle.std.proofs.Common.{◌≡◌, None, Err, length, refl, sym, ◌∙◌, ap, subst, arith}
+use Rattle.mn_edge.specs.Kept.{Framed, Lacking}
 use Rattle.mn_edge.specs.KeptLaws.{framed_same}
 use Rattle.mn_perform.specs.Laws.{same_packets}
+use Rattle.mn_perform.specs.Recorded.{told_packets}
+use Rattle.mn_perform.proofs.Blaming.{blamed_by, blamed_after}
 use Rattle.mn_perform.proofs.Adding.{framed_then}
 use Rattle.mn_perform.proofs.Results.{err_is}
 use Rattle.mn_join_report.specs.Course.{at_start}
@@ -81,3 +83,23 @@ returns-clause-went g c = λ pairing start names keeps.
     all_gone pairing start _ c.args.capture.now c.args.lines.now l.line-index _ _ _ (let e : l.line-index ≡ length c.args.lines.now =
     omega (arith, l.auto.line-index-end, c.loop-line-test.false) in e)
     (l.invariant.at pairing start names keeps)
+
+pub returns-in_err-do_line-clause-cause : goal.returns-in_err-do_line-clause-cause
+returns-in_err-do_line-clause-cause g c =
+    let l = c.loop-line in
+    let untold : Type 0 = told_packets (g.S.Shelf.files c.args.shelf.now) c.args.file.now.names c.args.capture.now ≡ None in
+    let lacking : Type 0 = Lacking c.args.file.now.names (g.S.Shelf.files c.args.shelf.now) in
+    rw (err_is c.from_residual.result c.in_err-do_line.field-0.0 c.from_residual.ensures.1)
+    (blamed_after {T = Unit {0}} untold lacking
+    (g.S.Shelf.read_faults c.args.shelf.now, g.S.Shelf.write_faults c.args.shelf.now, g.O.Sink.faults c.args.out.now)
+    (g.S.Shelf.read_faults l.shelf, g.S.Shelf.write_faults l.shelf, g.O.Sink.faults l.out)
+    (g.S.Shelf.read_faults c.do_line.new.shelf, g.S.Shelf.write_faults c.do_line.new.shelf, g.O.Sink.faults c.do_line.new.out)
+    (Err c.in_err-do_line.field-0.0) l.invariant.reads l.invariant.writes l.invariant.faults
+    (blamed_by {T = Unit {0}} (told_packets (g.S.Shelf.files l.shelf) l.file.names c.args.capture.now ≡ None) (Lacking l.file.names (g.S.Shelf.files l.shelf))
+    untold lacking
+    (g.S.Shelf.read_faults l.shelf, g.S.Shelf.write_faults l.shelf, g.O.Sink.faults l.out)
+    (g.S.Shelf.read_faults c.do_line.new.shelf, g.S.Shelf.write_faults c.do_line.new.shelf, g.O.Sink.faults c.do_line.new.out)
+    (Err c.in_err-do_line.field-0.0)
+    (λ none. sym (same_packets _ _ _ _ l.invariant.framed) ∙ ap (λ n. told_packets (g.S.Shelf.files l.shelf) n c.args.capture.now) (sym l.invariant.names) ∙ none)
+    (λ lacks all. subst (λ n. Lacking n (g.S.Shelf.files l.shelf)) l.invariant.names lacks (l.invariant.framed.stays all))
+    c.in_err-do_line.ensures.cause))

@@ -4,7 +4,7 @@ use Rattle.mn_topo.specs.Network.{Network}
 use Rattle.mn_capture.specs.Packets.{packets_in}
 use Rattle.mn_answer.specs.Endings.{Answers, CausedBy}
 use Rattle.mn_answer.proofs.Ending.{memory_answers}
-use Rattle.mn_legs.specs.declared.leg.Which.TheVariants.{First, Second}
+use Rattle.mn_leg_laws.specs.declared.leg.Which.TheVariants.{First, Second}
 use Rattle.mn_join_report.specs.Pairs.{pairing_of}
 use Rattle.mn_join_script.specs.Language.{line_fits}
 use Rattle.mn_join_report.specs.Course.{run_of}
@@ -48,7 +48,7 @@ returns-in-Err-clause-lawful g c = λ m is bytes there. tt
 
 pub returns-in-Ok-clause-cause : goal.returns-in-Ok-clause-cause
 returns-in-Ok-clause-cause g c =
-    subst (CausedBy _ _) (sym c.outcome_by.ensures) (blames _ _ c.perform.result c.perform.ensures.cause)
+    subst (CausedBy _ _ _) (sym c.outcome_by.ensures) (blames _ _ _ c.perform.result c.perform.ensures.cause)
 
 pub returns-in-Ok-clause-usage : goal.returns-in-Ok-clause-usage
 returns-in-Ok-clause-usage g c = λ e. no_usage c.perform.result (sym c.outcome_by.ensures ∙ e)

@@ -1,8 +1,11 @@
-use Rattle.std.proofs.Common.{[], refl, sym, ◌∙◌, subst}
+use Rattle.std.proofs.Common.{◌≡◌, ℕ, List, [], None, Some, Err, refl, sym, ◌∙◌, subst}
 use Rattle.std.proofs.lemmas.Result.{err_from_is_err_and}
-use Rattle.mn_edge.specs.Kept.{Framed}
-use Rattle.mn_edge.specs.KeptLaws.{framed_both}
+use Rattle.mn_edge.specs.Files.{Absent}
+use Rattle.mn_edge.specs.Kept.{AllThere, Framed, Lacking}
+use Rattle.mn_edge.specs.KeptLaws.{framed_both, holds_there}
 use Rattle.mn_capture.specs.Packets.{packets_in}
+use Rattle.mn_perform.specs.Recorded.{told_packets}
+use Rattle.mn_perform.proofs.Blaming.{blamed_by, blamed_after, blamed_told, untold_absent}
 use Rattle.mn_perform.proofs.Results.{err_is}
 use Rattle.mn_perform.specs.declared.ended.Fault.TheVariants.{NoMemory}
 use Rattle.mn_join_report.specs.Course.{run_of}
@@ -84,3 +87,44 @@ returns-clause-ends g c = λ pairing at_first goes m is bytes there.
     (λ run went. c.finish.ensures.went pairing start run (sym (c.do_lines.ensures.names ∙ c.in_ok-file.ensures.names))
     (framed_both start.names _ _ _ framed (subst (λ n. Framed n (g.S.Shelf.files c.open.new.shelf) (g.S.Shelf.files c.do_lines.new.shelf))
     c.in_ok-file.ensures.names c.do_lines.ensures.framed)) went)
+
+pub returns-in_err-how-clause-cause : goal.returns-in_err-how-clause-cause
+returns-in_err-how-clause-cause g c =
+    let names : List (List ℕ) = c.in_ok-file.file.names in
+    let absent : Type 0 = Absent (g.S.Shelf.files c.args.shelf.now) c.args.capture.now.name in
+    let lacking : Type 0 = Lacking names (g.S.Shelf.files c.open.new.shelf) in
+    let why = c.in_err-how.field-0.0 in
+    let untold = untold_absent (g.S.Shelf.files c.args.shelf.now) (g.S.Shelf.files c.open.new.shelf) names c.args.capture.now
+    (λ m bytes is there. (
+      packets_in c.args.capture.now bytes,
+      subst (λ n. told_packets (g.S.Shelf.files c.open.new.shelf) n c.args.capture.now ≡ Some (packets_in c.args.capture.now bytes)) (sym c.in_ok-file.ensures.names)
+          (packets_told c.args.folder.now c.args.capture.now c.requires.start.pairing.first m (g.S.Shelf.files c.open.new.shelf) bytes c.requires.apart
+          (subst (λ n. Framed n (Some m) (g.S.Shelf.files c.open.new.shelf)) c.in_ok-file.ensures.names
+          (subst (λ o. Framed names o (g.S.Shelf.files c.open.new.shelf)) is c.in_ok-file.ensures.framed)) there),
+    )) in
+    rw (err_is c.from_residual-in_err-how.result why c.from_residual-in_err-how.ensures.1)
+    (blamed_told {T = Unit {0}} (g.S.Shelf.files c.args.shelf.now) absent lacking
+    (g.S.Shelf.read_faults c.args.shelf.now, g.S.Shelf.write_faults c.args.shelf.now, g.O.Sink.faults c.args.out.now)
+    (g.S.Shelf.read_faults c.do_lines.new.shelf, g.S.Shelf.write_faults c.do_lines.new.shelf, g.O.Sink.faults c.do_lines.new.out)
+    (Err why) (λ none. (g.met.S.Shelf.told c.args.shelf.now none).1)
+    (λ m is lacks. lacks (holds_there _ _ _ _ (c.in_ok-file.ensures.held m is)))
+    (blamed_after {T = Unit {0}} absent lacking
+    (g.S.Shelf.read_faults c.args.shelf.now, g.S.Shelf.write_faults c.args.shelf.now, g.O.Sink.faults c.args.out.now)
+    (g.S.Shelf.read_faults c.open.new.shelf, g.S.Shelf.write_faults c.open.new.shelf, g.O.Sink.faults c.args.out.now)
+    (g.S.Shelf.read_faults c.do_lines.new.shelf, g.S.Shelf.write_faults c.do_lines.new.shelf, g.O.Sink.faults c.do_lines.new.out)
+    (Err why) c.in_ok-file.ensures.reads c.in_ok-file.ensures.writes refl
+    (blamed_by {T = Unit {0}} (told_packets (g.S.Shelf.files c.open.new.shelf) names c.args.capture.now ≡ None) lacking absent lacking
+    (g.S.Shelf.read_faults c.open.new.shelf, g.S.Shelf.write_faults c.open.new.shelf, g.O.Sink.faults c.args.out.now)
+    (g.S.Shelf.read_faults c.do_lines.new.shelf, g.S.Shelf.write_faults c.do_lines.new.shelf, g.O.Sink.faults c.do_lines.new.out)
+    (Err why) untold (λ lacks. lacks) c.in_err-how.ensures.cause)))
+
+pub returns-clause-cause : goal.returns-clause-cause
+returns-clause-cause g c =
+    let absent : Type 0 = Absent (g.S.Shelf.files c.args.shelf.now) c.args.capture.now.name in
+    let lacking : Type 0 = Lacking c.do_lines.new.file.names (g.S.Shelf.files c.do_lines.new.shelf) in
+    blamed_told (g.S.Shelf.files c.args.shelf.now) absent lacking _ _ c.finish.result (λ none. (g.met.S.Shelf.told c.args.shelf.now none).1)
+    (λ m is lacks. lacks (subst (λ n. AllThere n (g.S.Shelf.files c.do_lines.new.shelf)) (sym c.do_lines.ensures.names)
+    (c.do_lines.ensures.framed.stays (holds_there _ _ _ _ (c.in_ok-file.ensures.held m is)))))
+    (blamed_after absent lacking _ _ _ c.finish.result (c.in_ok-how.ensures.cause.0 ∙ c.in_ok-file.ensures.reads)
+    (c.in_ok-how.ensures.cause.1 ∙ c.in_ok-file.ensures.writes) c.in_ok-how.ensures.cause.2
+    (blamed_by _ _ absent lacking _ _ c.finish.result (λ never. absurd never) (λ lacks. lacks) c.finish.ensures.cause))

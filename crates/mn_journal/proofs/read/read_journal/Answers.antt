@@ -1,4 +1,4 @@
-use Rattle.std.proofs.Common.{◌≡◌, ◌++◌, ◌∷◌, [], List, ap, ◌∙◌, sym, subst, append-nil, false, true, Bool, length, arith}
+use Rattle.std.proofs.Common.{◌++◌, List, ap, ◌∙◌, sym, subst, append-nil, Bool, length, arith}
 use Rattle.std.specs.Prelude.{All, map}
 use Rattle.std.specs.Str.Lines.{lines}
 use Rattle.std.proofs.lemmas.List.Elements.{All-push}

@@ -1,9 +1,9 @@
 use Rattle.std.proofs.Common.{◌≡◌, ◌+◌, ◌++◌, drop, length, take}
-use Rattle.mn_journal.specs.Lines.{spaced, texts}
+use Rattle.mn_journal.specs.Lines.{joined, texts}
 use Rattle.mn_journal.proofs.write.lay_all.Given as goal
 
-abbrev pub invariant-loop-word : goal.invariant-loop-word
-invariant-loop-word l = record {
-  laid : take l.at l.bytes ++ spaced (texts (drop l.word-index l.words)) ≡ spaced (texts l.words);
-  left : l.at + length (spaced (texts (drop l.word-index l.words))) ≡ length l.bytes;
+abbrev pub invariant-loop-piece : goal.invariant-loop-piece
+invariant-loop-piece l = record {
+  laid : take l.at l.bytes ++ joined (texts (drop l.piece-index l.pieces)) ≡ joined (texts l.pieces);
+  left : l.at + length (joined (texts (drop l.piece-index l.pieces))) ≡ length l.bytes;
 }

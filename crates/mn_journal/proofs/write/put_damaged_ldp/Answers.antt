@@ -5,5 +5,5 @@ use Rattle.mn_journal.proofs.write.put_damaged_ldp.Goals as goal
 
 pub returns-clause-ok : goal.returns-clause-ok
 returns-clause-ok c =
-    put_as c.put_words.result _ _ _ _
-    (damage_is (codes "ldp") _ _ _ _ _ _ c.ends.ensures.from c.ends.ensures.to (c.as_bytes.ensures.value ∙ c.format.ensures.text)) c.put_words.ensures.ok
+    put_as c.put_pieces.result _ _ _ _
+    (damage_is (codes "ldp") _ _ _ _ _ _ c.ends.ensures.from c.ends.ensures.to (c.as_bytes.ensures.value ∙ c.format.ensures.text)) c.put_pieces.ensures.ok

@@ -19,7 +19,7 @@ none_free known labels tick q (suc n) none =
 
 pub returns-else-may_be_free : goal.returns-else-may_be_free
 returns-else-may_be_free c = λ some. elim c.else-may_be_free.branch [
-  | else-may_be_free-via-then-may_be_free+else-may_begin w ↦ absurd (some (w.may_begin.ensures w.if-may_begin.false))
+  | else-may_be_free-via-then-may_be_free+else-may_begin w ↦ absurd (some (w.may_begin.ensures.none w.if-may_begin.false))
   | else-may_be_free-via-else-may_be_free w ↦
-      ap numbers c.new.ensures.items ∙ sym (none_free c.args.bindings.now c.args.labels.now.labels c.args.tick 0 c.args.count (c.may_be_free.ensures w.if-may_be_free.false))
+      ap numbers c.new.ensures.items ∙ sym (none_free c.args.bindings.now c.args.labels.now.labels c.args.tick 0 c.args.count (c.may_be_free.ensures.none w.if-may_be_free.false))
 ]

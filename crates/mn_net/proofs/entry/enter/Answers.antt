@@ -1,9 +1,9 @@
 use Rattle.std.proofs.Common.{sym, subst, ◌∙◌}
 use Rattle.mn_ledger.specs.Ledger.{world_of}
-use Rattle.mn_frames.specs.Given.{given}
+use Rattle.mn_frame_laws.specs.Given.{given}
 use Rattle.mn_transit.specs.Entering.{IsWayOut}
 use Rattle.mn_pe.specs.Entries.{IsWayOpen}
-use Rattle.mn_net_moves.proofs.Moves.{room_at, way_open}
+use Rattle.mn_net_laws.proofs.Moves.{room_at, way_open}
 use Rattle.mn_net.proofs.entry.enter.Goals as goal
 
 pub enter-requires-clause-stands : goal.enter-requires-clause-stands

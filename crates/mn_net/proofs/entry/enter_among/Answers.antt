@@ -1,9 +1,9 @@
 use Rattle.std.proofs.Common.{subst}
 use Rattle.mn_ledger.specs.Ledger.{world_of}
-use Rattle.mn_frames.specs.Given.{given}
-use Rattle.mn_frames.specs.Entries.{AreWays}
+use Rattle.mn_frame_laws.specs.Given.{given}
+use Rattle.mn_frame_laws.specs.Entries.{AreWays}
 use Rattle.mn_transit.specs.Entering.{IsWayOut}
-use Rattle.mn_net_moves.proofs.Moves.{bound_below, room_among}
+use Rattle.mn_net_laws.proofs.Moves.{bound_below, room_among}
 use Rattle.mn_net.proofs.entry.enter_among.Goals as goal
 
 pub ways-ways-requires-clause-stands : goal.ways-ways-requires-clause-stands

@@ -6,8 +6,8 @@ use Rattle.mn_base.proofs.Bools.{less_is, at_most_is}
 use Rattle.mn_base.specs.declared.numbers.SiteNo.{SiteNo}
 use Rattle.mn_ledger.specs.Ledger.{packets_of}
 use Rattle.mn_ledger.specs.Packets.{Packets}
-use Rattle.mn_net_now.specs.Now.{StandsFor}
-use Rattle.mn_legs.specs.Pairing.{opposite, side, packets_in, Travel, no_travel}
+use Rattle.mn_net_laws.specs.Now.{StandsFor}
+use Rattle.mn_leg_laws.specs.Pairing.{opposite, side, packets_in, Travel, no_travel}
 use Rattle.mn_option_a.specs.Pairs.{SideNow, IsSide}
 use Rattle.mn_option_a.specs.Moves.{TakesIn, Finds}
 use Rattle.mn_option_a.proofs.Sides.{same_packets}

@@ -1,5 +1,5 @@
 use Rattle.std.proofs.Common.{refl}
-use Rattle.mn_course.specs.Course.{all}
+use Rattle.mn_course_laws.specs.Course.{all}
 use Rattle.mn_option_a.proofs.line.all_items.Goals as goal
 
 pub returns : goal.returns

@@ -1,11 +1,12 @@
-use Rattle.std.proofs.Common.{◌≡◌, [], length, true, false, not, Ok, Err, refl, sym, ◌∙◌, ap, subst, arith}
+use Rattle.std.proofs.Common.{◌≡◌, [], length, true, false, not, None, Ok, Err, refl, sym, ◌∙◌, ap, subst, arith}
 use Rattle.mn_edge.specs.Kept.{Framed}
 use Rattle.mn_edge.specs.KeptLaws.{framed_same, framed_both}
-use Rattle.mn_course.specs.Expansion.{start_of}
+use Rattle.mn_course_laws.specs.Expansion.{start_of}
 use Rattle.mn_record.specs.Recorded.{told_packets}
 use Rattle.mn_perform.specs.declared.ended.Ended.TheVariants.{All, TooManySteps}
 use Rattle.mn_perform.proofs.Ending.{stands_at, still_for}
 use Rattle.mn_perform.proofs.Script.{line_went, goes_on, stops, breaks, all_gone}
+use Rattle.mn_perform.proofs.Blaming.{blamed_by, blamed_after}
 use Rattle.mn_perform.proofs.Results.{err_is}
 use Rattle.mn_perform.proofs.lines.perform_lines.Goals as goal
 
@@ -109,3 +110,20 @@ returns-clause-went g c = λ all told.
 
 pub perform_line-requires-clause-files : goal.perform_line-requires-clause-files
 perform_line-requires-clause-files g c = still_for _ _ _ _ c.loop-line.invariant.names c.loop-line.invariant.places c.loop-line.invariant.topology c.requires.files
+
+pub returns-in_err-perform_line-clause-cause : goal.returns-in_err-perform_line-clause-cause
+returns-in_err-perform_line-clause-cause g c =
+    let l = c.loop-line in
+    let untold : Type 0 = told_packets (g.S.Shelf.files c.args.shelf.now) c.args.books.now.names c.args.capture.now ≡ None in
+    let now : Type 0 = told_packets (g.S.Shelf.files l.shelf) l.books.names c.args.capture.now ≡ None in
+    let still : now → untold = λ none. sym (ap (λ n. told_packets (g.S.Shelf.files l.shelf) n c.args.capture.now) l.invariant.names ∙ l.invariant.told) ∙ none in
+    rw (err_is c.from_residual.result c.in_err-perform_line.field-0.0 c.from_residual.ensures.1)
+    (blamed_after {T = Unit {0}} untold untold
+    (g.S.Shelf.read_faults c.args.shelf.now, g.S.Shelf.write_faults c.args.shelf.now, g.O.Sink.faults c.args.out.now)
+    (g.S.Shelf.read_faults l.shelf, g.S.Shelf.write_faults l.shelf, g.O.Sink.faults l.out)
+    (g.S.Shelf.read_faults c.perform_line.new.shelf, g.S.Shelf.write_faults c.perform_line.new.shelf, g.O.Sink.faults c.perform_line.new.out)
+    (Err c.in_err-perform_line.field-0.0) l.invariant.reads l.invariant.writes l.invariant.faults
+    (blamed_by {T = Unit {0}} now now untold untold
+    (g.S.Shelf.read_faults l.shelf, g.S.Shelf.write_faults l.shelf, g.O.Sink.faults l.out)
+    (g.S.Shelf.read_faults c.perform_line.new.shelf, g.S.Shelf.write_faults c.perform_line.new.shelf, g.O.Sink.faults c.perform_line.new.out)
+    (Err c.in_err-perform_line.field-0.0) still still c.in_err-perform_line.ensures.cause))

@@ -1,5 +1,6 @@
 use Rattle.mn_lines.proofs.Putting.{part_of, part_of_more}
 use Rattle.mn_perform.proofs.Ending.{whole_part, sink_reads_none, write_reads_none}
+use Rattle.mn_course_laws.specs.Course.{inputs_of}
 use Rattle.mn_perform.proofs.Results.{err, err_is}
 use Rattle.std.proofs.lemmas.Result.{err_from_is_err_and}
 use Rattle.std.proofs.Common.{sym, ◌∙◌}
@@ -10,6 +11,10 @@ returns-in_err-close-clause-put_part g c = err c.from_residual.result _ (λ all 
 
 pub returns-in_err-end-clause-part : goal.returns-in_err-end-clause-part
 returns-in_err-end-clause-part g c = err c.from_residual-in_err-end.result _ (λ base all framed stands. whole_part _ base _ (c.in_ok-close.ensures.whole base all framed stands.stands stands.holds))
+
+pub returns-in_err-end-clause-put_part : goal.returns-in_err-end-clause-put_part
+returns-in_err-end-clause-put_part g c =
+    err c.from_residual-in_err-end.result _ (λ all before notes stands on. c.in_err-end.ensures.part (inputs_of all c.args.net.now.journal) before notes stands.stands on)
 
 pub returns-in_err-close-clause-unread : goal.returns-in_err-close-clause-unread
 returns-in_err-close-clause-unread g c = λ e.

@@ -1,7 +1,9 @@
-use Rattle.std.proofs.Common.{inr, sym, subst}
+use Rattle.std.proofs.Common.{inr, refl, sym, subst}
+use Rattle.mn_edge.specs.Files.{Absent}
 use Rattle.mn_edge.specs.Kept.{Framed}
+use Rattle.mn_perform.proofs.Blaming.{blamed_by, blamed_after, untold_absent}
 use Rattle.mn_script.specs.Script.{AllFit}
-use Rattle.mn_course.specs.Expansion.{expanded}
+use Rattle.mn_course_laws.specs.Expansion.{expanded}
 use Rattle.mn_capture.specs.Packets.{packets_in}
 use Rattle.mn_perform.proofs.Whole.{told, put_nothing, unplayed_files, played_ends, played_files, played_text, played_late, played_begun}
 use Rattle.mn_perform.proofs.Whole.{written_failed, written_untold, at_start, told_before}
@@ -137,3 +139,15 @@ pub returns-in_err-books-clause-text : goal.returns-in_err-books-clause-text
 returns-in_err-books-clause-text g c = λ m is bytes there before begun.
     let p = err_from_is_err_and c.from_residual.result c.from_residual.ensures.1 in
     rw p.1 (put_nothing _ before (g.O.Sink.written c.args.out.now) begun)
+
+pub returns-clause-cause : goal.returns-clause-cause
+returns-clause-cause g c =
+    let absent : Type 0 = Absent (g.S.Shelf.files c.args.shelf.now) c.args.capture.now.name in
+    let untold = untold_absent (g.S.Shelf.files c.args.shelf.now) (g.S.Shelf.files c.open.new.shelf) c.in_ok-books.books.names c.args.capture.now
+    (λ m bytes is there. (
+      packets_in c.args.capture.now bytes,
+      told c.args.folder.now c.args.topology c.args.lines.now c.args.capture.now m bytes c.in_ok-books.books.names _ there c.requires.apart
+          c.in_ok-books.ensures.names (subst (λ o. Framed c.in_ok-books.books.names o (g.S.Shelf.files c.open.new.shelf)) is c.in_ok-books.ensures.framed),
+    )) in
+    blamed_after absent absent _ _ _ c.perform_script.result c.in_ok-books.ensures.reads c.in_ok-books.ensures.writes refl
+    (blamed_by _ _ absent absent _ _ c.perform_script.result untold untold c.perform_script.ensures.cause)

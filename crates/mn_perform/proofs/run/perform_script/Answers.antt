@@ -1,6 +1,10 @@
-use Rattle.mn_course.specs.Expansion.{expanded}
+use Rattle.std.proofs.Common.{◌≡◌, None}
+use Rattle.mn_course_laws.specs.Expansion.{expanded}
 use Rattle.mn_edge.specs.KeptLaws.{framed_both}
 use Rattle.mn_perform.proofs.Ending.{run_files, run_text, run_late, broken_files, broken_begun, broken_untold, no_read, untold_unread, notes_begin}
+use Rattle.mn_record.specs.Recorded.{told_packets}
+use Rattle.mn_edge.specs.KeptLaws.{holds_there}
+use Rattle.mn_perform.proofs.Blaming.{blamed_by, blamed_after, lacking_then}
 use Rattle.mn_perform.proofs.Results.{err_is}
 use Rattle.mn_perform.proofs.run.perform_script.Goals as goal
 
@@ -47,3 +51,12 @@ pub returns-in_err-how-clause-untold : goal.returns-in_err-how-clause-untold
 returns-in_err-how-clause-untold g c = λ all told before is.
     rw (err_is c.from_residual.result c.in_err-how.field-0.0 c.from_residual.ensures.1)
     (broken_untold _ before _ c.in_err-how.field-0.0 ((c.in_err-how.ensures.went all told).text before is))
+
+pub returns-clause-cause : goal.returns-clause-cause
+returns-clause-cause g c =
+    let untold : Type 0 = told_packets (g.S.Shelf.files c.args.shelf.now) c.args.books.now.names c.args.capture.now ≡ None in
+    blamed_after untold untold _ _ _ c.finish.result c.in_ok-how.ensures.cause.0 c.in_ok-how.ensures.cause.1 c.in_ok-how.ensures.cause.2
+    (blamed_by _ _ untold untold _ _ c.finish.result (λ never. absurd never)
+    (lacking_then (told_packets (g.S.Shelf.files c.args.shelf.now) c.args.books.now.names c.args.capture.now) c.perform_lines.new.books.names
+    (g.S.Shelf.files c.perform_lines.new.shelf) (λ all told. let w = c.in_ok-how.ensures.went all told in holds_there _ _ _ _ w.0.holds))
+    c.finish.ensures.cause)

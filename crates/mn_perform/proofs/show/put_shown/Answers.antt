@@ -1,6 +1,6 @@
-use Rattle.std.proofs.Common.{subst}
+use Rattle.std.proofs.Common.{None, subst}
 use Rattle.mn_lines.specs.Putting.{Puts, PutsPart}
-use Rattle.mn_output.specs.Tables.{table_text}
+use Rattle.mn_output_laws.specs.Tables.{table_text}
 use Rattle.mn_record.proofs.Growing.{ok_then, err_then}
 use Rattle.mn_perform.proofs.Results.{err, err_is}
 use Rattle.mn_perform.proofs.Showing.{none_put, only_sink}
@@ -29,5 +29,5 @@ returns-clause-part g c =
 
 pub returns-clause-cause : goal.returns-clause-cause
 returns-clause-cause g c =
-    let same = c.in_ok-packet.ensures.cause 0 in
-    only_sink _ _ _ _ _ _ c.show.result same.0 same.1 c.show.ensures.cause
+    let same = c.in_ok-packet.ensures.cause None in
+    only_sink _ _ _ _ _ _ _ _ c.show.result same.0 same.1 c.show.ensures.cause

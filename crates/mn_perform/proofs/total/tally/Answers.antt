@@ -1,7 +1,7 @@
 use Rattle.std.proofs.Common.{sym, subst}
 use Rattle.mn_topo.specs.Network.{Network}
 use Rattle.mn_script.specs.Script.{AllFit}
-use Rattle.mn_course.specs.Expansion.{expanded}
+use Rattle.mn_course_laws.specs.Expansion.{expanded}
 use Rattle.mn_perform.specs.Memory.{packets_at}
 use Rattle.mn_perform.specs.Total.{PlayedTo}
 use Rattle.mn_perform.proofs.Results.{err_is}

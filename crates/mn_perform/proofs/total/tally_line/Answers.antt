@@ -1,5 +1,5 @@
 use Rattle.std.proofs.Common.{sym, subst}
-use Rattle.mn_course.specs.Expansion.{with_line}
+use Rattle.mn_course_laws.specs.Expansion.{with_line}
 use Rattle.mn_perform.specs.declared.ended.Ended.TheVariants.{All}
 use Rattle.mn_perform.specs.Memory.{packets_at}
 use Rattle.mn_perform.specs.Total.{PlayedTo}

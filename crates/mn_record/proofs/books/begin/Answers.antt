@@ -1,7 +1,11 @@
 use Rattle.std.proofs.Common.{[], ◌∙◌, sym, subst, refl}
+use Rattle.mn_edge.specs.Faults.{CountedUnless}
+use Rattle.mn_edge.specs.FaultLaws.{counted_told}
+use Rattle.mn_edge.specs.Kept.{Lacking}
+use Rattle.mn_edge.specs.KeptLaws.{begun-there}
 use Rattle.mn_edge.specs.Laid.{begun_part}
 use Rattle.mn_edge.specs.Written.{Stands, texts}
-use Rattle.mn_output.specs.Contents.{output}
+use Rattle.mn_output_laws.specs.Contents.{output}
 use Rattle.mn_record.proofs.Adding.{on_err, ok_then, err_then, framed_then}
 use Rattle.mn_record.proofs.Closing.{names_of_output, framed_begun, heads_hold, heads_part}
 use Rattle.mn_record.proofs.books.begin.Goals as goal
@@ -30,3 +34,12 @@ returns-clause-part g c = err_then c.put_heads.result _ _ c.put_heads.ensures.ma
     heads_part folder c.args.topology.now capture entries c.args.output.now c.put_heads.new.output m _ _ c.requires.fresh.0 named_so c.put_heads.ensures.names
     c.requires.fresh.1 (subst (λ n. Stands n [] m (g.S.Shelf.files c.begin_all.new.shelf)) c.names.ensures (c.in_ok-begin_all.ensures.begun m is))
     c.put_heads.ensures.framed (may c.requires.files))
+
+pub returns-clause-writes : goal.returns-clause-writes
+returns-clause-writes g c =
+    counted_told (g.S.Shelf.files c.args.shelf.now) (Lacking c.args.output.now.names (g.S.Shelf.files c.begin_all.new.shelf)) _ _ c.put_heads.result
+    (λ none. (g.met.S.Shelf.told c.args.shelf.now none).1)
+    (λ m is lacking. lacking (begun-there c.args.output.now.names m (g.S.Shelf.files c.begin_all.new.shelf)
+    (subst (λ n. Stands n [] m (g.S.Shelf.files c.begin_all.new.shelf)) c.names.ensures (c.in_ok-begin_all.ensures.begun m is))))
+    (subst (λ n. CountedUnless (Lacking c.args.output.now.names (g.S.Shelf.files c.begin_all.new.shelf)) n
+    (g.S.Shelf.write_faults c.put_heads.new.shelf) c.put_heads.result) c.in_ok-begin_all.ensures.writes c.put_heads.ensures.writes)

@@ -1,7 +1,7 @@
 use Rattle.std.proofs.Common.{◌∙◌, sym, ap, subst, Some, length, ◌<◌}
 use Rattle.mn_pcap.specs.Format.{header}
-use Rattle.mn_output.specs.Files.{Frames}
-use Rattle.mn_output.specs.Contents.{ppp}
+use Rattle.mn_output_laws.specs.Files.{Frames}
+use Rattle.mn_output_laws.specs.Contents.{ppp}
 use Rattle.mn_files.specs.Numbers.{IsPlace}
 use Rattle.mn_record.specs.Adding.{only_in}
 use Rattle.mn_record.specs.Parts.{by_number, in_file}

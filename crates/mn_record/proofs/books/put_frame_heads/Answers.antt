@@ -1,12 +1,12 @@
 use Rattle.std.proofs.Common.{◌≡◌, ◌++◌, ◌∙◌, sym, ap, refl, Some, length, arith, ◌+◌, ◌<◌, ◌≤◌}
 use Rattle.mn_pcap.specs.Format.{header}
 use Rattle.mn_edge.specs.KeptLaws.{framed_same}
-use Rattle.mn_output.specs.Files.{Frames}
-use Rattle.mn_output.specs.Contents.{ppp}
+use Rattle.mn_output_laws.specs.Files.{Frames}
+use Rattle.mn_output_laws.specs.Contents.{ppp}
 use Rattle.mn_files.specs.Numbers.{file_at}
 use Rattle.mn_record.specs.Heads.{frame_heads}
 use Rattle.mn_record.specs.Parts.{by_number, in_file}
-use Rattle.mn_record.proofs.Adding.{on_err, both_add, second_may, adds_as, may_as, may_more, none_add, framed_then, still_for}
+use Rattle.mn_record.proofs.Adding.{on_err, both_add, second_may, adds_as, may_as, may_more, none_add, framed_then, writes_out, still_for}
 use Rattle.mn_record.proofs.Opening.{no_heads, one_head_more, heads_more}
 use Rattle.mn_record.proofs.books.put_frame_heads.Goals as goal
 
@@ -72,3 +72,8 @@ returns-clause-adds g c = λ for.
     adds_as (by_number c.args.topology.now (frame_heads (c.loop-link.link)))
     (by_number c.args.topology.now (frame_heads (length c.args.topology.now.links))) c.args.output.now c.loop-link.output _ _
     (λ k within. ap (λ n. frame_heads n (file_at c.args.topology.now k)) all) (c.loop-link.invariant.adds for)
+
+pub returns-in_err-put_frame_head-clause-writes : goal.returns-in_err-put_frame_head-clause-writes
+returns-in_err-put_frame_head-clause-writes g c =
+    writes_out c.args.output.now.names c.loop-link.output.names _ _ _ _ _ _ _ c.from_residual.ensures c.loop-link.invariant.names c.loop-link.invariant.framed
+    c.loop-link.invariant.writes c.in_err-put_frame_head.ensures.writes

@@ -1,11 +1,11 @@
 use Rattle.std.proofs.Common.{◌++◌, ◌∙◌, ap, subst, Some, length, ◌<◌}
 use Rattle.mn_pcap.specs.Format.{header}
-use Rattle.mn_output.specs.Files.{Deliveries}
-use Rattle.mn_output.specs.Contents.{head_of, raw_ipv4}
+use Rattle.mn_output_laws.specs.Files.{Deliveries}
+use Rattle.mn_output_laws.specs.Contents.{head_of, raw_ipv4}
 use Rattle.mn_record.specs.Adding.{only_in}
 use Rattle.mn_record.specs.Heads.{frame_heads}
 use Rattle.mn_record.specs.Parts.{by_number, in_file}
-use Rattle.mn_record.proofs.Adding.{on_err, ok_then, err_then, both_add, first_may, second_may, adds_as, may_as, framed_then, still_for}
+use Rattle.mn_record.proofs.Adding.{on_err, ok_then, err_then, both_add, first_may, second_may, adds_as, may_as, framed_then, writes_then, still_for}
 use Rattle.mn_record.proofs.Same.{in_place}
 use Rattle.mn_record.proofs.Opening.{head_parts}
 use Rattle.mn_record.proofs.books.put_heads.Goals as goal
@@ -59,3 +59,8 @@ pub returns-clause-framed : goal.returns-clause-framed
 returns-clause-framed g c =
     framed_then c.args.output.now.names c.put_header.new.self.names _ _ _ c.in_ok-put_header.ensures.names c.in_ok-put_header.ensures.framed
     c.put_frame_heads.ensures.framed
+
+pub returns-clause-writes : goal.returns-clause-writes
+returns-clause-writes g c =
+    writes_then c.args.output.now.names c.put_header.new.self.names _ _ _ _ _ c.put_frame_heads.result c.in_ok-put_header.ensures.names
+    c.in_ok-put_header.ensures.framed c.in_ok-put_header.ensures.writes c.put_frame_heads.ensures.writes

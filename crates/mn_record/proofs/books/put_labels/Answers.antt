@@ -2,10 +2,10 @@ use Rattle.std.proofs.Common.{◌≡◌, ◌++◌, ◌∙◌, ap, subst, refl, L
 use Rattle.std.specs.List.{flat_map, range_with_len}
 use Rattle.std.proofs.lemmas.List.{length-map}
 use Rattle.mn_edge.specs.KeptLaws.{framed_same}
-use Rattle.mn_frames.specs.Given.{given}
-use Rattle.mn_output.specs.Contents.{label_lines}
+use Rattle.mn_frame_laws.specs.Given.{given}
+use Rattle.mn_output_laws.specs.Contents.{label_lines}
 use Rattle.mn_record.specs.Adding.{Adds, MayAdd, only_in}
-use Rattle.mn_record.proofs.Adding.{on_err, both_add, second_may, adds_as, may_as, may_more, none_add, framed_then, joined_in, nothing_in, more_in}
+use Rattle.mn_record.proofs.Adding.{on_err, both_add, second_may, adds_as, may_as, may_more, none_add, framed_then, writes_out, joined_in, nothing_in, more_in}
 use Rattle.mn_record.proofs.Opening.{one_node_more, nodes_more}
 use Rattle.mn_record.proofs.books.put_labels.Goals as goal
 
@@ -100,3 +100,8 @@ returns-clause-adds g c =
     adds_as (only_in 1 (flat_map f (range_with_len 0 (c.loop-number.number))))
     (only_in 1 (flat_map f (range_with_len 0 (length c.args.net.now.topology.loopbacks)))) c.args.output.now c.loop-number.output _ _
     (λ k within. ap (λ n. only_in 1 (flat_map f (range_with_len 0 n)) k) all) c.loop-number.invariant.adds
+
+pub returns-in_err-put_labels_of-clause-writes : goal.returns-in_err-put_labels_of-clause-writes
+returns-in_err-put_labels_of-clause-writes g c =
+    writes_out c.args.output.now.names c.loop-number.output.names _ _ _ _ _ _ _ c.from_residual.ensures c.loop-number.invariant.names c.loop-number.invariant.framed
+    c.loop-number.invariant.writes c.in_err-put_labels_of.ensures.writes

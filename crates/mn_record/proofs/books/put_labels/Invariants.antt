@@ -1,8 +1,8 @@
 use Rattle.std.proofs.Common.{◌≡◌}
 use Rattle.std.specs.List.{flat_map, range_with_len}
 use Rattle.mn_edge.specs.Kept.{Framed}
-use Rattle.mn_frames.specs.Given.{given}
-use Rattle.mn_output.specs.Contents.{label_lines}
+use Rattle.mn_frame_laws.specs.Given.{given}
+use Rattle.mn_output_laws.specs.Contents.{label_lines}
 use Rattle.mn_record.specs.Adding.{Adds, only_in}
 use Rattle.mn_record.proofs.books.put_labels.Given as goal
 

@@ -3,9 +3,9 @@ use Rattle.std.proofs.Common.{get_or}
 use Rattle.mn_labels.specs.declared.meaning.Bind.TheVariants.{Fec}
 use Rattle.mn_labels.specs.declared.meaning.Given.{Given}
 use Rattle.mn_edge.specs.KeptLaws.{framed_same}
-use Rattle.mn_output.specs.Contents.{label_line, label_lines}
+use Rattle.mn_output_laws.specs.Contents.{label_line, label_lines}
 use Rattle.mn_record.specs.Adding.{only_in}
-use Rattle.mn_record.proofs.Adding.{on_err, both_add, second_may, adds_as, may_as, may_more, none_add, framed_then, joined_in, nothing_in, more_in}
+use Rattle.mn_record.proofs.Adding.{on_err, both_add, second_may, adds_as, may_as, may_more, none_add, framed_then, writes_out, joined_in, nothing_in, more_in}
 use Rattle.mn_record.proofs.Opening.{next_label, labels_more}
 use Rattle.std.proofs.lemmas.List.{take_all}
 use Rattle.mn_record.proofs.books.put_labels_of.Goals as goal
@@ -84,3 +84,8 @@ returns-clause-adds g c =
     (only_in 1 (label_lines c.args.topology.now c.args.node.0 (c.args.givings.now))) c.args.output.now c.loop-giving.output _ _
     (λ k within. ap (λ bs. only_in 1 (label_lines c.args.topology.now c.args.node.0 bs) k)
     (take_all c.loop-giving.giving-index c.args.givings.now c.loop-giving-test.false)) c.loop-giving.invariant.adds
+
+pub returns-in_err-put_label-clause-writes : goal.returns-in_err-put_label-clause-writes
+returns-in_err-put_label-clause-writes g c =
+    writes_out c.args.output.now.names c.loop-giving.output.names _ _ _ _ _ _ _ c.from_residual.ensures c.loop-giving.invariant.names
+    c.loop-giving.invariant.framed c.loop-giving.invariant.writes c.in_err-put_label.ensures.writes

@@ -1,6 +1,6 @@
 use Rattle.std.proofs.Common.{◌≡◌, take}
 use Rattle.mn_edge.specs.Kept.{Framed}
-use Rattle.mn_output.specs.Contents.{label_lines}
+use Rattle.mn_output_laws.specs.Contents.{label_lines}
 use Rattle.mn_record.specs.Adding.{Adds, only_in}
 use Rattle.mn_record.proofs.books.put_labels_of.Given as goal
 

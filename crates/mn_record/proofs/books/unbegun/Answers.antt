@@ -1,7 +1,7 @@
 use Rattle.std.proofs.Common.{length, ap, arith}
 use Rattle.std.proofs.lemmas.List.{length-map}
 use Rattle.std.specs.Prelude.{string_bytes}
-use Rattle.mn_output.specs.Files.{files_of, file_name}
+use Rattle.mn_output_laws.specs.Files.{files_of, file_name}
 use Rattle.mn_record.proofs.Few.{few_files}
 use Rattle.mn_record.proofs.books.unbegun.Goals as goal
 

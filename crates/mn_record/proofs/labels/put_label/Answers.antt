@@ -1,7 +1,7 @@
 use Rattle.std.proofs.Common.{◌≡◌, ◌++◌, ◌∷◌, [], ◌∙◌, ap, append_assoc, List, ℕ, OnOk, Result, Ok, Err, is_ok, if◌then◌else◌}
 use Rattle.std.specs.Fmt.{decimal}
-use Rattle.mn_output.specs.Files.{node_name}
-use Rattle.mn_output.specs.Contents.{bind_text}
+use Rattle.mn_output_laws.specs.Files.{node_name}
+use Rattle.mn_output_laws.specs.Contents.{bind_text}
 use Rattle.mn_record.proofs.labels.put_label.Goals as goal
 
 put : {T E : Type 0} (r : Result T E) (line name digits bind one two three : List ℕ) → one ≡ line ++ (name ++ 32 ∷ (digits ++ 32 ∷ [])) → two ≡ one ++ bind →

@@ -1,7 +1,7 @@
 use Rattle.std.proofs.Common.{sym, subst}
 use Rattle.std.specs.Option.{ForSome}
-use Rattle.mn_course.specs.Course.{inputs_of}
-use Rattle.mn_net_now.specs.Now.{StandsFor}
+use Rattle.mn_course_laws.specs.Course.{inputs_of}
+use Rattle.mn_net_laws.specs.Now.{StandsFor}
 use Rattle.mn_record.specs.Recorded.{Records, told_packets}
 use Rattle.mn_record.proofs.recorder.record_line.Goals as goal
 

@@ -2,8 +2,8 @@ use Rattle.std.proofs.Common.{◌≡◌, ◌∙◌, sym, ap, Some, None}
 use Rattle.std.proofs.Common.{option_map}
 use Rattle.mn_pcap.specs.Format.{record_of}
 use Rattle.mn_ledger.specs.Ledger.{packets_of}
-use Rattle.mn_output.specs.Files.{Deliveries}
-use Rattle.mn_output.specs.Contents.{delivery_record}
+use Rattle.mn_output_laws.specs.Files.{Deliveries}
+use Rattle.mn_output_laws.specs.Contents.{delivery_record}
 use Rattle.mn_files.proofs.Places.{one_number, deliveries_are}
 use Rattle.mn_record.specs.Adding.{only_in}
 use Rattle.mn_record.proofs.Adding.{ok_then, err_then, adds_as, may_as, none_add, nothing_in}

@@ -3,7 +3,7 @@ use Rattle.std.proofs.Common.{option_map}
 use Rattle.mn_sched.specs.Told.{Told, told_at}
 use Rattle.mn_files.specs.Numbers.{file_at}
 use Rattle.mn_pcap.specs.Format.{record_of}
-use Rattle.mn_output.specs.Contents.{over_ppp}
+use Rattle.mn_output_laws.specs.Contents.{over_ppp}
 use Rattle.mn_record.specs.Adding.{only_in}
 use Rattle.mn_record.specs.Parts.{by_number, item_part, piece_of, file_for, IsFileOf}
 use Rattle.mn_record.proofs.Adding.{ok_then, err_then, adds_as, may_as, none_add}

@@ -3,7 +3,7 @@ use Rattle.mn_sched.specs.Told.{told_at}
 use Rattle.mn_edge.specs.KeptLaws.{framed_same}
 use Rattle.mn_files.specs.Numbers.{file_at}
 use Rattle.mn_record.specs.Parts.{by_number, item_part, items_part}
-use Rattle.mn_record.proofs.Adding.{on_err, both_add, second_may, adds_as, may_as, may_more, none_add, framed_then, still_for}
+use Rattle.mn_record.proofs.Adding.{on_err, both_add, second_may, adds_as, may_as, may_more, none_add, framed_then, writes_out, still_for}
 use Rattle.mn_record.proofs.Same.{next_item, items_more}
 use Rattle.mn_record.proofs.step.write_items.Goals as goal
 
@@ -100,3 +100,8 @@ returns-clause-adds g c = λ inputs stands for.
     (λ k within. ap
     (λ n. items_part c.args.net.now.topology c.args.net.now.journal inputs c.args.tick c.args.made.first n (file_at c.args.net.now.topology k)) n)
     (i.adds inputs stands for)
+
+pub returns-in_err-write_item-clause-writes : goal.returns-in_err-write_item-clause-writes
+returns-in_err-write_item-clause-writes g c =
+    writes_out c.args.output.now.names c.loop-number.output.names _ _ _ _ _ _ _ c.from_residual.ensures c.loop-number.invariant.names c.loop-number.invariant.framed
+    c.loop-number.invariant.writes c.in_err-write_item.ensures.writes

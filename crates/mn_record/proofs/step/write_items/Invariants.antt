@@ -1,6 +1,6 @@
 use Rattle.std.proofs.Common.{◌≡◌, ◌≤◌, ◌-◌, max, ℕ, List}
 use Rattle.mn_edge.specs.Kept.{Framed}
-use Rattle.mn_net_now.specs.Now.{StandsFor}
+use Rattle.mn_net_laws.specs.Now.{StandsFor}
 use Rattle.mn_record.specs.Recorded.{IsFor}
 use Rattle.mn_record.specs.Adding.{Adds}
 use Rattle.mn_record.specs.Parts.{by_number, items_part}

@@ -4,11 +4,11 @@ use Rattle.std.specs.Option.{option_copied}
 use Rattle.mn_journal.specs.Lines.{line_of}
 use Rattle.mn_topo.specs.Lawful.{IsLawful}
 use Rattle.mn_ledger.specs.Ledger.{packets_of}
-use Rattle.mn_course.specs.Course.{inputs_of}
-use Rattle.mn_output.specs.Contents.{delivery_record}
+use Rattle.mn_course_laws.specs.Course.{inputs_of}
+use Rattle.mn_output_laws.specs.Contents.{delivery_record}
 use Rattle.mn_record.specs.Adding.{Adds, MayAdd, only_in}
 use Rattle.mn_record.specs.Parts.{by_number, items_part}
-use Rattle.mn_record.proofs.Adding.{on_err, ok_then, err_then, both_add, first_may, second_may, framed_then, still_for}
+use Rattle.mn_record.proofs.Adding.{on_err, ok_then, err_then, both_add, first_may, second_may, framed_then, writes_then, writes_out, still_for}
 use Rattle.mn_record.proofs.Stepping.{recorded, may_recorded, nothing_recorded}
 use Rattle.mn_record.proofs.step.write_step.Goals as goal
 
@@ -134,3 +134,16 @@ returns-clause-framed g c =
     (framed_then c.args.output.now.names c.put_entry.new.self.names _ _ _ c.in_ok-put_entry.ensures.names c.in_ok-put_entry.ensures.framed
     c.in_ok-write_delivery.ensures.framed)
     c.write_items.ensures.framed
+
+pub returns-in_err-write_delivery-clause-writes : goal.returns-in_err-write_delivery-clause-writes
+returns-in_err-write_delivery-clause-writes g c =
+    writes_out c.args.output.now.names c.put_entry.new.self.names _ _ _ _ _ _ _ c.from_residual-in_err-write_delivery.ensures c.in_ok-put_entry.ensures.names
+    c.in_ok-put_entry.ensures.framed c.in_ok-put_entry.ensures.writes c.in_err-write_delivery.ensures.writes
+
+pub returns-clause-writes : goal.returns-clause-writes
+returns-clause-writes g c =
+    writes_then c.args.output.now.names c.write_delivery.new.output.names _ _ _ _ _ c.write_items.result
+    (c.in_ok-write_delivery.ensures.names ∙ c.in_ok-put_entry.ensures.names)
+    (framed_then c.args.output.now.names c.put_entry.new.self.names _ _ _ c.in_ok-put_entry.ensures.names c.in_ok-put_entry.ensures.framed
+    c.in_ok-write_delivery.ensures.framed)
+    (c.in_ok-write_delivery.ensures.writes ∙ c.in_ok-put_entry.ensures.writes) c.write_items.ensures.writes

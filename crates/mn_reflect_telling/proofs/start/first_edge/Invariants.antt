@@ -1,6 +1,6 @@
 use Rattle.std.proofs.Common.{◌≡◌, ◌+◌, ◌≤◌}
-use Rattle.mn_routing_model.specs.Routed.{working}
-use Rattle.mn_routing_model.proofs.Starts.{given_below}
+use Rattle.mn_routing_laws.specs.Routed.{working}
+use Rattle.mn_routing_laws.proofs.Starts.{given_below}
 use Rattle.mn_reflect_telling.proofs.Starts.{edge_below}
 use Rattle.mn_reflect_telling.proofs.start.first_edge.Given as goal
 

@@ -1,7 +1,7 @@
 use Rattle.std.proofs.Common.{◌≡◌, map}
 use Rattle.std.specs.Prelude.{option_map}
 use Rattle.std.specs.List.{range_with_len}
-use Rattle.mn_routing_model.specs.Routed.{working}
+use Rattle.mn_routing_laws.specs.Routed.{working}
 use Rattle.mn_reflect_telling.specs.Starting.{first_edge_or_none}
 use Rattle.mn_reflect_telling.proofs.start.first_edges.Given as goal
 

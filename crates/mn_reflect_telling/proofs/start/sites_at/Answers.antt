@@ -1,6 +1,6 @@
 use Rattle.std.proofs.Common.{◌≡◌, ◌≢◌, length, arith, sym, ◌∙◌, ap}
 use Rattle.mn_ledger.specs.Places.{home_of}
-use Rattle.mn_routing_model.proofs.Starts.{given_below, given_here, given_away}
+use Rattle.mn_routing_laws.proofs.Starts.{given_below, given_here, given_away}
 use Rattle.mn_reflect_telling.proofs.start.sites_at.Goals as goal
 use Rattle.mn_reflect_telling.proofs.start.sites_at.Goals.{then-home_of-node, else-home_of-node}
 

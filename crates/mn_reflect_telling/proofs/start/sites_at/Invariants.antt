@@ -1,5 +1,5 @@
 use Rattle.std.proofs.Common.{◌≡◌, ◌≤◌}
-use Rattle.mn_routing_model.proofs.Starts.{given_below}
+use Rattle.mn_routing_laws.proofs.Starts.{given_below}
 use Rattle.mn_reflect_telling.proofs.start.sites_at.Given as goal
 
 abbrev pub invariant-loop-number : goal.invariant-loop-number

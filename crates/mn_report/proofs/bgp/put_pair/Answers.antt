@@ -1,7 +1,7 @@
 use Rattle.std.proofs.Common.{◌∙◌, sym}
 use Rattle.mn_topo.specs.Network.{Network}
 use Rattle.mn_ledger.specs.Ledger.{world_of}
-use Rattle.mn_output.specs.Tables.{bgp_line}
+use Rattle.mn_output_laws.specs.Tables.{bgp_line}
 use Rattle.mn_tables.proofs.Telling.{tells_as, tells_nothing}
 use Rattle.mn_report.proofs.Rows.{no_pair_row, one_pair_row}
 use Rattle.mn_report.proofs.Standing.{of_topology}

@@ -1,7 +1,7 @@
 use Rattle.std.proofs.Common.{◌<◌, ◌≤◌, refl, ◌∙◌, arith}
 use Rattle.std.specs.Prelude.{length}
 use Rattle.mn_ledger.specs.Items.{flight_of}
-use Rattle.mn_output.specs.Tables.{frames_lines}
+use Rattle.mn_output_laws.specs.Tables.{frames_lines}
 use Rattle.mn_tables.proofs.Telling.{told_nothing, told_next_number, tells_cut_number, tells_all_numbers, counted_err}
 use Rattle.mn_report.proofs.flight.put_all_frames.Goals as goal
 

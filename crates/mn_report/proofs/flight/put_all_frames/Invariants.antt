@@ -3,7 +3,7 @@ use Rattle.std.specs.Prelude.{length}
 use Rattle.std.specs.List.{flat_map, range_with_len}
 use Rattle.mn_ledger.specs.Items.{flight_of}
 use Rattle.mn_net.specs.Now.{StandsFor}
-use Rattle.mn_output.specs.Tables.{frames_lines}
+use Rattle.mn_output_laws.specs.Tables.{frames_lines}
 use Rattle.mn_tables.specs.Telling.{standing, Told}
 use Rattle.mn_report.proofs.flight.put_all_frames.Given as goal
 

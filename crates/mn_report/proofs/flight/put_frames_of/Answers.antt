@@ -2,7 +2,7 @@ use Rattle.std.proofs.Common.{refl}
 use Rattle.mn_wiring.specs.declared.links.Dir.TheVariants.{Forth, Back}
 use Rattle.mn_topo.specs.Network.{Network}
 use Rattle.mn_ledger.specs.Items.{flight_of, items_on, Frames}
-use Rattle.mn_output.specs.Tables.{frames_line}
+use Rattle.mn_output_laws.specs.Tables.{frames_line}
 use Rattle.mn_tables.proofs.Telling.{told_by, tells_then, tells_first, counted_err, counted_then}
 use Rattle.mn_report.proofs.Standing.{of_topology}
 use Rattle.mn_report.proofs.flight.put_frames_of.Goals as goal

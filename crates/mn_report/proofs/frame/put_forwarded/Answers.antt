@@ -1,7 +1,7 @@
 use Rattle.std.proofs.Common.{ap}
 use Rattle.mn_lfib.specs.Forwarding.{forwarded}
 use Rattle.mn_topo.specs.Network.{Network}
-use Rattle.mn_output.specs.Shown.{outcome_text, said_line}
+use Rattle.mn_output_laws.specs.Shown.{outcome_text, said_line}
 use Rattle.mn_tables.proofs.Telling.{tells_as}
 use Rattle.mn_report.proofs.Standing.{of_topology}
 use Rattle.mn_report.proofs.Frames.{forwarded_row}

@@ -2,7 +2,7 @@ use Rattle.std.proofs.Common.{take}
 use Rattle.std.specs.Prelude.{length}
 use Rattle.std.specs.List.{flat_map, range_with_len}
 use Rattle.mn_ledger.specs.Ledger.{world_of}
-use Rattle.mn_output.specs.Tables.{ldp_line}
+use Rattle.mn_output_laws.specs.Tables.{ldp_line}
 use Rattle.mn_tables.specs.Telling.{standing, Told}
 use Rattle.mn_report.proofs.ldp.put_ldp_sessions.Given as goal
 

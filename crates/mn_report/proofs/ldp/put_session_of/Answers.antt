@@ -3,7 +3,7 @@ use Rattle.mn_wiring.specs.Wiring.{sender}
 use Rattle.mn_wiring.specs.declared.links.Dir.TheVariants.{Forth, Back}
 use Rattle.mn_topo.specs.Network.{Network, wiring_of}
 use Rattle.mn_ledger.specs.Ledger.{world_of}
-use Rattle.mn_output.specs.Tables.{ldp_line}
+use Rattle.mn_output_laws.specs.Tables.{ldp_line}
 use Rattle.mn_tables.specs.States.{state_at}
 use Rattle.mn_report.proofs.Standing.{of_topology}
 use Rattle.mn_report.proofs.ldp.put_session_of.Goals as goal

@@ -1,6 +1,6 @@
 use Rattle.mn_topo.specs.Network.{Network}
 use Rattle.mn_ledger.specs.Ledger.{world_of}
-use Rattle.mn_output.specs.Tables.{link_line}
+use Rattle.mn_output_laws.specs.Tables.{link_line}
 use Rattle.mn_report.proofs.Standing.{of_topology}
 use Rattle.mn_report.proofs.links.put_link_of.Goals as goal
 

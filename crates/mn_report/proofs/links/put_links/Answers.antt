@@ -1,7 +1,7 @@
 use Rattle.std.proofs.Common.{◌<◌, ◌≤◌, arith}
 use Rattle.std.specs.Prelude.{length}
 use Rattle.mn_ledger.specs.Ledger.{world_of}
-use Rattle.mn_output.specs.Tables.{link_line}
+use Rattle.mn_output_laws.specs.Tables.{link_line}
 use Rattle.mn_tables.proofs.Telling.{told_nothing, told_next_number, tells_cut_number, tells_all_numbers}
 use Rattle.mn_report.proofs.links.put_links.Goals as goal
 

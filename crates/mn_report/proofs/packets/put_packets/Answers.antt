@@ -1,7 +1,7 @@
 use Rattle.std.specs.Prelude.{map}
 use Rattle.mn_ledger.specs.Ledger.{packets_of}
 use Rattle.mn_net.specs.Now.{StandsFor}
-use Rattle.mn_output.specs.Report.{packet_lines}
+use Rattle.mn_output_laws.specs.Report.{packet_lines}
 use Rattle.mn_tables.specs.Telling.{standing}
 use Rattle.mn_tables.proofs.Telling.{tells_want}
 use Rattle.mn_report.specs.Shown.{sending_of}

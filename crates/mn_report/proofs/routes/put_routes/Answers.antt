@@ -3,9 +3,10 @@ use Rattle.std.specs.Prelude.{length, option_map}
 use Rattle.mn_prefix.specs.Prefix.{AddressBlock}
 use Rattle.mn_vrf.specs.declared.source.Source.{Source}
 use Rattle.mn_ledger.specs.Ledger.{world_of}
-use Rattle.mn_frames.specs.Given.{given}
+use Rattle.mn_frame_laws.specs.Given.{given}
 use Rattle.mn_topo.specs.Network.{Network}
-use Rattle.mn_output.specs.Tables.{held_in, prefixes_of, marked_line}
+use Rattle.mn_ledger.specs.Heads.{prefixes_of}
+use Rattle.mn_output_laws.specs.Tables.{held_in, marked_line}
 use Rattle.mn_tables.proofs.Telling.{told_nothing, told_next, tells_cut, tells_all, tells_as, tells_want_after}
 use Rattle.mn_report.proofs.Standing.{of_topology}
 use Rattle.mn_report.proofs.Routed.{line_at, held_there, best_there, nothing_held, line_is}

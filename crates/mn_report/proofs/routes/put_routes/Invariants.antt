@@ -2,10 +2,10 @@ use Rattle.std.proofs.Common.{◌≡◌, take}
 use Rattle.std.specs.Prelude.{option_map}
 use Rattle.std.specs.List.{flat_map}
 use Rattle.mn_ledger.specs.Ledger.{world_of}
-use Rattle.mn_frames.specs.Given.{given}
+use Rattle.mn_frame_laws.specs.Given.{given}
 use Rattle.mn_pe.specs.Entries.{as_held}
-use Rattle.mn_net.specs.Tables.{held_at}
-use Rattle.mn_output.specs.Tables.{held_in, prefixes_of}
+use Rattle.mn_ledger.specs.Heads.{held_at, prefixes_of}
+use Rattle.mn_output_laws.specs.Tables.{held_in}
 use Rattle.mn_tables.specs.Telling.{standing, Told}
 use Rattle.mn_report.proofs.Routed.{line_at}
 use Rattle.mn_report.proofs.routes.put_routes.Given as goal

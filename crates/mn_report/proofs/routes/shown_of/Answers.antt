@@ -1,8 +1,8 @@
 use Rattle.std.proofs.Common.{sym, ap, ◌∙◌}
 use Rattle.mn_topo.specs.Network.{Network}
 use Rattle.mn_ledger.specs.Ledger.{world_of}
-use Rattle.mn_frames.specs.Given.{given}
-use Rattle.mn_output.specs.Tables.{held_in}
+use Rattle.mn_frame_laws.specs.Given.{given}
+use Rattle.mn_output_laws.specs.Tables.{held_in}
 use Rattle.mn_report.proofs.Showing.{by_default, by_resolved, by_none}
 use Rattle.mn_report.proofs.routes.shown_of.Goals as goal
 

@@ -1,5 +1,5 @@
 use Rattle.mn_net.specs.Now.{StandsFor}
-use Rattle.mn_output.specs.Tables.{table_text}
+use Rattle.mn_output_laws.specs.Tables.{table_text}
 use Rattle.mn_tables.specs.Telling.{standing}
 use Rattle.mn_tables.proofs.Telling.{tells_want}
 use Rattle.mn_report.specs.Frames.{packet_of}

@@ -1,7 +1,7 @@
 use Rattle.std.proofs.Common.{◌≡◌, ◌<◌, ◌≤◌, ◌^◌, ◌+◌, ◌*◌, ◌++◌, length, drop}
 use Rattle.std.specs.List.{All}
 use Rattle.mn_flight.specs.Flying.{IsFlight}
-use Rattle.mn_routing_model.specs.Sending.{put_all, to_each}
+use Rattle.mn_routing_laws.specs.Sending.{put_all, to_each}
 use Rattle.mn_routing.proofs.flying.send_each.Given as goal
 
 -- what is to come ends it

@@ -1,5 +1,5 @@
 use Rattle.std.proofs.Common.{◌≡◌, ◌++◌, drop}
-use Rattle.mn_routing_model.specs.Sending.{peers_from}
+use Rattle.mn_routing_laws.specs.Sending.{peers_from}
 use Rattle.mn_routing.proofs.flying.steady_peers.Given as goal
 
 -- the peers to come end it

@@ -1,6 +1,6 @@
 use Rattle.std.proofs.Common.{◌≡◌, ◌+◌, ◌*◌, ◌++◌, ◌∙◌, ap, append-nil, arith, length, List, map, sym}
-use Rattle.mn_routing_model.specs.Sending.{Parcel, put_all, news_to, spelled_in}
-use Rattle.mn_routing_model.proofs.Putting.{told_next, told_count}
+use Rattle.mn_routing_laws.specs.Sending.{Parcel, put_all, news_to, spelled_in}
+use Rattle.mn_routing_laws.proofs.Putting.{told_next, told_count}
 use Rattle.mn_routing.proofs.Nobody.{to_nobody}
 use Rattle.mn_routing.proofs.flying.tell.Goals as goal
 

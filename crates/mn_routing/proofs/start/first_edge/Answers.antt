@@ -2,8 +2,8 @@ use Rattle.std.proofs.Common.{◌≡◌, ◌≢◌, ◌+◌, ◌-◌, ◌<◌, �
 use Rattle.mn_ledger.specs.Places.{home_of}
 use Rattle.mn_pe.specs.Edge.{after_attach}
 use Rattle.mn_pe.specs.Pe.{PeNow}
-use Rattle.mn_routing_model.specs.Routed.{working}
-use Rattle.mn_routing_model.proofs.Starts.{edge_below, edge_first, edge_whole, edge_attached, edge_passed, given_here, given_away}
+use Rattle.mn_routing_laws.specs.Routed.{working}
+use Rattle.mn_routing_laws.proofs.Starts.{edge_below, edge_first, edge_whole, edge_attached, edge_passed, given_here, given_away}
 use Rattle.mn_routing.proofs.start.first_edge.Goals as goal
 use Rattle.mn_routing.proofs.start.first_edge.Goals.{then-home_of-node+in-Ok-attach, else-home_of-node}
 

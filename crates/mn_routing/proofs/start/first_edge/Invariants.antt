@@ -1,6 +1,6 @@
 use Rattle.std.proofs.Common.{◌≡◌, ◌+◌, ◌-◌, ◌≤◌, length}
-use Rattle.mn_routing_model.specs.Routed.{working}
-use Rattle.mn_routing_model.proofs.Starts.{edge_below, given_below}
+use Rattle.mn_routing_laws.specs.Routed.{working}
+use Rattle.mn_routing_laws.proofs.Starts.{edge_below, given_below}
 use Rattle.mn_routing.proofs.start.first_edge.Given as goal
 
 abbrev pub invariant-loop-number : goal.invariant-loop-number

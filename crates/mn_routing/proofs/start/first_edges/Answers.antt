@@ -4,10 +4,10 @@ use Rattle.std.specs.Prelude.{option_map}
 use Rattle.std.specs.List.{range_with_len}
 use Rattle.std.proofs.lemmas.List.FromFn.{map-range_with_len_more}
 use Rattle.mn_ledger.specs.Ledger.{first_config, start}
-use Rattle.mn_frames.specs.Numbers.{labels_of}
-use Rattle.mn_routing_model.specs.Routed.{working}
-use Rattle.mn_routing_model.specs.Whole.{edge_or_none}
-use Rattle.mn_routing_model.proofs.Starts.{edges_are}
+use Rattle.mn_frame_laws.specs.Numbers.{labels_of}
+use Rattle.mn_routing_laws.specs.Routed.{working}
+use Rattle.mn_routing_laws.specs.Whole.{edge_or_none}
+use Rattle.mn_routing_laws.proofs.Starts.{edges_are}
 use Rattle.mn_routing.proofs.start.first_edges.Goals as goal
 
 pub loop-number-preserved : goal.loop-number-preserved

@@ -1,4 +1,4 @@
-use Rattle.mn_routing_model.proofs.Starts.{rows_more}
+use Rattle.mn_routing_laws.proofs.Starts.{rows_more}
 use Rattle.mn_routing.proofs.start.no_sessions.Goals as goal
 
 pub loop-node-preserved : goal.loop-node-preserved

@@ -1,11 +1,11 @@
 use Rattle.std.proofs.Common.{◌≡◌, sym, ◌∙◌, subst}
 use Rattle.std.specs.Prelude.{IfOk}
-use Rattle.mn_course.specs.Expansion.{expanded}
+use Rattle.mn_course_laws.specs.Expansion.{expanded}
 use Rattle.mn_join_run.specs.Memory.{packets_at}
 use Rattle.mn_join_run.specs.Running.{is_stopped}
 use Rattle.mn_join_run.specs.Total.{total_text, PutsWhole}
 use Rattle.mn_run.specs.Answer.{generated_line, generated_done}
-use Rattle.mn_answer.specs.Endings.{OutcomeIs, TextIs, CausedBy}
+use Rattle.mn_answer.specs.Endings.{OutcomeIs, TextIs, SinkCausedBy}
 use Rattle.std.specs.Prelude.{Some}
 use Rattle.mn_run.proofs.Generating.{ends, tells, sink_blames}
 use Rattle.mn_run.proofs.generate.run_made.Goals as goal
@@ -37,5 +37,5 @@ returns-clause-text g c = λ before is.
 
 pub returns-clause-cause : goal.returns-clause-cause
 returns-clause-cause g c =
-    subst (CausedBy (0, 0, g.O.Sink.faults c.args.out.now) (0, 0, g.O.Sink.faults c.tally-ended.new.out)) (sym c.outcome_of.ensures)
+    subst (SinkCausedBy (g.O.Sink.faults c.args.out.now) (g.O.Sink.faults c.tally-ended.new.out)) (sym c.outcome_of.ensures)
     (sink_blames _ _ c.tally-ended.result c.tally-ended.ensures.cause)

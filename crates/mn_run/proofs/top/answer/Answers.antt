@@ -1,7 +1,8 @@
 use Rattle.std.proofs.Common.{true, refl, subst}
 use Rattle.mn_edge.specs.Written.{texts}
-use Rattle.mn_answer.specs.Endings.{UsageIff}
-use Rattle.mn_answer.proofs.Ending.{not_usage, is_usage}
+use Rattle.mn_answer.specs.Endings.{UsageIff, CausedBy, HasNone}
+use Rattle.mn_answer.proofs.Ending.{not_usage, is_usage, sink_caused}
+use Rattle.mn_run.specs.Answer.{job_answer}
 use Rattle.mn_run.specs.Words.{is_job}
 use Rattle.mn_run.specs.Headline.{Ends}
 use Rattle.mn_run.proofs.Doing.{generate_ends, usage_ends}
@@ -72,3 +73,49 @@ returns-in-Nothing-clause-ends g c =
 pub returns-in-Nothing-clause-usage : goal.returns-in-Nothing-clause-usage
 returns-in-Nothing-clause-usage g c =
     subst (λ j. UsageIff (is_job j) c.refuse.result) c.in-Nothing.ensures.value (is_usage _ _ c.refuse.result c.refuse.ensures.outcome c.refuse.ensures.cause)
+
+pub returns-in-Run-clause-cause : goal.returns-in-Run-clause-cause
+returns-in-Run-clause-cause g c =
+    subst (λ j. CausedBy (HasNone (job_answer j (texts c.args.words.now)) (g.S.Shelf.files c.args.shelf.now))
+    (g.S.Shelf.read_faults c.args.shelf.now, g.S.Shelf.write_faults c.args.shelf.now, g.O.Sink.faults c.args.out.now)
+    (g.S.Shelf.read_faults c.run.new.shelf, g.S.Shelf.write_faults c.run.new.shelf, g.O.Sink.faults c.run.new.out) c.run.result)
+    c.in-Run.ensures.value
+    c.run.ensures.cause
+
+pub returns-in-Check-clause-cause : goal.returns-in-Check-clause-cause
+returns-in-Check-clause-cause g c =
+    subst (λ j. CausedBy (HasNone (job_answer j (texts c.args.words.now)) (g.S.Shelf.files c.args.shelf.now))
+    (g.S.Shelf.read_faults c.args.shelf.now, g.S.Shelf.write_faults c.args.shelf.now, g.O.Sink.faults c.args.out.now)
+    (g.S.Shelf.read_faults c.check.new.shelf, g.S.Shelf.write_faults c.check.new.shelf, g.O.Sink.faults c.check.new.out) c.check.result)
+    c.in-Check.ensures.value
+    c.check.ensures.cause
+
+pub returns-in-Flood-clause-cause : goal.returns-in-Flood-clause-cause
+returns-in-Flood-clause-cause g c =
+    subst (λ j. CausedBy (HasNone (job_answer j (texts c.args.words.now)) (g.S.Shelf.files c.args.shelf.now))
+    (g.S.Shelf.read_faults c.args.shelf.now, g.S.Shelf.write_faults c.args.shelf.now, g.O.Sink.faults c.args.out.now)
+    (g.S.Shelf.read_faults c.flood.new.shelf, g.S.Shelf.write_faults c.flood.new.shelf, g.O.Sink.faults c.flood.new.out) c.flood.result)
+    c.in-Flood.ensures.value
+    c.flood.ensures.cause
+
+pub returns-in-Reflect-clause-cause : goal.returns-in-Reflect-clause-cause
+returns-in-Reflect-clause-cause g c =
+    subst (λ j. CausedBy (HasNone (job_answer j (texts c.args.words.now)) (g.S.Shelf.files c.args.shelf.now))
+    (g.S.Shelf.read_faults c.args.shelf.now, g.S.Shelf.write_faults c.args.shelf.now, g.O.Sink.faults c.args.out.now)
+    (g.S.Shelf.read_faults c.reflect.new.shelf, g.S.Shelf.write_faults c.reflect.new.shelf, g.O.Sink.faults c.reflect.new.out) c.reflect.result)
+    c.in-Reflect.ensures.value
+    c.reflect.ensures.cause
+
+pub returns-in-Join-clause-cause : goal.returns-in-Join-clause-cause
+returns-in-Join-clause-cause g c =
+    subst (λ j. CausedBy (HasNone (job_answer j (texts c.args.words.now)) (g.S.Shelf.files c.args.shelf.now))
+    (g.S.Shelf.read_faults c.args.shelf.now, g.S.Shelf.write_faults c.args.shelf.now, g.O.Sink.faults c.args.out.now)
+    (g.S.Shelf.read_faults c.join.new.shelf, g.S.Shelf.write_faults c.join.new.shelf, g.O.Sink.faults c.join.new.out) c.join.result)
+    c.in-Join.ensures.value
+    c.join.ensures.cause
+
+pub returns-in-Generate-clause-cause : goal.returns-in-Generate-clause-cause
+returns-in-Generate-clause-cause g c = sink_caused _ _ _ c.generate.result refl refl c.generate.ensures.cause
+
+pub returns-in-Nothing-clause-cause : goal.returns-in-Nothing-clause-cause
+returns-in-Nothing-clause-cause g c = sink_caused _ _ _ c.refuse.result refl refl c.refuse.ensures.cause

@@ -1,7 +1,9 @@
-use Rattle.std.proofs.Common.{◌≡◌, Some, Ok, Err, length, sym, subst, arith}
+use Rattle.std.proofs.Common.{◌≡◌, Some, Ok, Err, length, ap, refl, sym, ◌∙◌, subst, arith}
 use Rattle.mn_edge.specs.Files.{file}
 use Rattle.mn_edge.specs.Written.{texts}
+use Rattle.mn_answer.specs.Answer.{with_topology}
 use Rattle.mn_answer.specs.Inputs.{TopologyIs}
+use Rattle.mn_answer.proofs.Ending.{sink_caused, caused_read}
 use Rattle.mn_run.specs.declared.words.Job.TheVariants.{Check}
 use Rattle.mn_run.specs.Words.{word}
 use Rattle.mn_run.specs.Answer.{checked}
@@ -34,3 +36,17 @@ returns-in-Err-Failed-clause-ends g c = fault_ends Check (texts c.args.words.now
 
 pub returns-in-Err-NoMemory-clause-ends : goal.returns-in-Err-NoMemory-clause-ends
 returns-in-Err-NoMemory-clause-ends g c = memory_ends Check (texts c.args.words.now) _ _ _ c.load_topology.ensures.same
+
+pub returns-in-Ok-Ok-clause-cause : goal.returns-in-Ok-Ok-clause-cause
+returns-in-Ok-Ok-clause-cause g c = sink_caused _ _ _ c.tell.result c.in-Ok-Ok.ensures.reads c.load_topology.ensures.writes c.tell.ensures.cause
+
+pub returns-in-Ok-Err-clause-cause : goal.returns-in-Ok-Err-clause-cause
+returns-in-Ok-Err-clause-cause g c = sink_caused _ _ _ c.refuse.result c.in-Ok-Err.ensures.reads c.load_topology.ensures.writes c.refuse.ensures.cause
+
+pub returns-in-Err-Failed-clause-cause : goal.returns-in-Err-Failed-clause-cause
+returns-in-Err-Failed-clause-cause g c =
+    let two : length c.args.words.now ≡ 2 = check_len c.args.words.now c.requires in
+    let name : word (texts c.args.words.now) 1 ≡ c.as_str.result.now =
+    word_at c.args.words.now 1 c.index-words-1.result c.as_str.result.now (omega (arith, two)) c.index-words-1.is c.as_str.ensures.value in
+    caused_read _ _ _ _ c.load_topology.ensures.writes refl
+    (λ absent m is. ap (λ input. with_topology input (λ t. Some (checked t))) (ap (file m) name ∙ absent m is)) (rw c.in-Err-Failed.field-0-is at c.in-Err-Failed.ensures.reads)

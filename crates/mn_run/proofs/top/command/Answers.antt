@@ -1,4 +1,4 @@
-use Rattle.mn_answer.proofs.Ending.{completes}
+use Rattle.mn_answer.proofs.Ending.{completes, soundly}
 use Rattle.mn_edge.specs.Written.{texts}
 use Rattle.mn_run.proofs.Forms.{number_job}
 use Rattle.mn_run.proofs.top.command.Goals as goal
@@ -19,7 +19,10 @@ pub returns-clause-unread : goal.returns-clause-unread
 returns-clause-unread g c = λ m is. (c.answer.ensures.ends.answers m is).is_unread
 
 pub returns-clause-complete : goal.returns-clause-complete
-returns-clause-complete g c = λ m is. completes _ _ _ c.answer.result (c.answer.ensures.ends.answers m is).outcome_is c.answer.ensures.cause
+returns-clause-complete g c = λ m is. completes _ _ _ _ c.answer.result (λ none. none m is) (c.answer.ensures.ends.answers m is).outcome_is c.answer.ensures.cause
+
+pub returns-clause-sound : goal.returns-clause-sound
+returns-clause-sound g c = λ m is. soundly _ _ _ _ c.answer.result (λ none. none m is) (c.answer.ensures.ends.answers m is).outcome_is c.answer.ensures.cause
 
 pub returns-clause-headline : goal.returns-clause-headline
 returns-clause-headline g c = c.answer.ensures.ends.kept

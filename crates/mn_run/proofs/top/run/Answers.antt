@@ -1,10 +1,13 @@
-use Rattle.std.proofs.Common.{◌≡◌, Ok, Err, length, sym, ◌∙◌, ap, subst, arith}
+use Rattle.std.proofs.Common.{◌≡◌, Ok, Err, length, refl, sym, ◌∙◌, ap, subst, arith}
+use Rattle.std.specs.Prelude.{is_some}
+use Rattle.mn_edge.specs.Files.{file}
 use Rattle.mn_edge.specs.Written.{texts}
 use Rattle.mn_join_run.specs.Inside.{is_inside}
 use Rattle.mn_answer.specs.Endings.{Answers}
 use Rattle.mn_run.specs.declared.words.Job.TheVariants.{Run}
 use Rattle.mn_run.specs.Words.{word}
-use Rattle.mn_run.specs.Jobs.{LoadedIs, InputsFit, ForDone}
+use Rattle.mn_answer.proofs.Ending.{caused_after, sink_caused, caused_read}
+use Rattle.mn_run.specs.Jobs.{AreRead, LoadedIs, InputsFit, ForDone}
 use Rattle.mn_run.proofs.Doing.{run_makes_none, run_ends, refusal_ends, fault_ends, memory_ends}
 use Rattle.mn_run.proofs.Forms.{apart}
 use Rattle.mn_run.proofs.Loading.{word_at, run_len, loaded_by_words}
@@ -63,3 +66,30 @@ returns-in-Err-Failed-clause-ends g c = fault_ends Run (texts c.args.words.now) 
 
 pub returns-in-Err-NoMemory-clause-ends : goal.returns-in-Err-NoMemory-clause-ends
 returns-in-Err-NoMemory-clause-ends g c = memory_ends Run (texts c.args.words.now) _ _ _ c.load.ensures.same
+
+pub run_inputs-requires-clause-there : goal.run_inputs-requires-clause-there
+run_inputs-requires-clause-there g c = λ m is.
+    let before = sym c.load.ensures.same ∙ is in
+    let fit : InputsFit c.as_str-3.result.now (Ok c.in-Ok-Ok.inputs) = subst (InputsFit c.as_str-3.result.now) c.in-Ok-Ok.field-0-is c.in-Ok-Ok.ensures.fits in
+    let read : AreRead c.as_str.result.now c.as_str-2.result.now c.as_str-3.result.now m c.in-Ok-Ok.inputs =
+    subst (LoadedIs c.as_str.result.now c.as_str-2.result.now c.as_str-3.result.now m) c.in-Ok-Ok.field-0-is (c.in-Ok-Ok.ensures.answer m before) in
+    ap is_some (ap (file m) fit.2 ∙ read.over.there)
+
+pub returns-in-Ok-Ok-clause-cause : goal.returns-in-Ok-Ok-clause-cause
+returns-in-Ok-Ok-clause-cause g c =
+    caused_after ⊥ _ _ _ _ c.run_inputs.result c.in-Ok-Ok.ensures.reads c.load.ensures.writes refl (λ never. absurd never) c.run_inputs.ensures.cause
+
+pub returns-in-Ok-Err-clause-cause : goal.returns-in-Ok-Err-clause-cause
+returns-in-Ok-Err-clause-cause g c = sink_caused _ _ _ c.refuse.result c.in-Ok-Err.ensures.reads c.load.ensures.writes c.refuse.ensures.cause
+
+pub returns-in-Err-Failed-clause-cause : goal.returns-in-Err-Failed-clause-cause
+returns-in-Err-Failed-clause-cause g c =
+    let five : length c.args.words.now ≡ 5 = run_len c.args.words.now c.requires in
+    let one : word (texts c.args.words.now) 1 ≡ c.as_str.result.now =
+    word_at c.args.words.now 1 c.index-words-1.result c.as_str.result.now (omega (arith, five)) c.index-words-1.is c.as_str.ensures.value in
+    let two : word (texts c.args.words.now) 2 ≡ c.as_str-2.result.now =
+    word_at c.args.words.now 2 c.index-words-2.result c.as_str-2.result.now (omega (arith, five)) c.index-words-2.is c.as_str-2.ensures.value in
+    let three : word (texts c.args.words.now) 3 ≡ c.as_str-3.result.now =
+    word_at c.args.words.now 3 c.index-words-3.result c.as_str-3.result.now (omega (arith, five)) c.index-words-3.is c.as_str-3.ensures.value in
+    caused_read _ _ _ _ c.load.ensures.writes refl
+    (λ none m is. rw (one, two, three) (none (word (texts c.args.words.now) 4) m is)) (rw c.in-Err-Failed.field-0-is at c.in-Err-Failed.ensures.reads)

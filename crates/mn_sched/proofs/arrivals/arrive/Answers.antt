@@ -1,7 +1,7 @@
 use Rattle.std.proofs.Common.{sym, ◌∙◌, ap, subst}
 use Rattle.mn_ledger.specs.Ledger.{injects}
 use Rattle.mn_ledger.specs.Time.{ticks_in}
-use Rattle.mn_course.specs.Coming.{delivery}
+use Rattle.mn_course_laws.specs.Coming.{delivery}
 use Rattle.mn_sched.specs.Playing.{IsFirstPart}
 use Rattle.mn_sched.proofs.Telling.{leaves, opens_then, same_journal, arrives_by, longer_by, paced_by, left_by, topology_by, step_grown}
 use Rattle.mn_sched.proofs.arrivals.arrive.Goals as goal

@@ -1,7 +1,7 @@
 use Rattle.std.proofs.Common.{◌≤◌, ◌+◌, refl, sym, ap, ◌∙◌, subst, IfSome}
-use Rattle.mn_course.specs.declared.coming.Coming.{Coming}
-use Rattle.mn_course.specs.Coming.{delivery, earlier, ever}
-use Rattle.mn_laws.specs.Flight.{IsOpen}
+use Rattle.mn_course_laws.specs.declared.coming.Coming.{Coming}
+use Rattle.mn_course_laws.specs.Coming.{delivery, earlier, ever}
+use Rattle.mn_ledger_laws.specs.Flight.{IsOpen}
 use Rattle.mn_sched.specs.Playing.{IsDelivery, GoesTo, IsGone}
 use Rattle.mn_sched.proofs.Telling.{earlier_has}
 use Rattle.mn_sched.proofs.Onward.{due_first, all_gone, first_frame}

@@ -1,7 +1,7 @@
 use Rattle.std.proofs.Common.{◌≡◌, Some, sym, ◌∙◌, subst, arith}
 use Rattle.mn_entry.specs.Damages.{entry_for, number_of}
 use Rattle.mn_entry.proofs.Told.{damages_fit}
-use Rattle.mn_course.specs.Course.{inputs_of, record_of, damage_refused_by, played}
+use Rattle.mn_course_laws.specs.Course.{inputs_of, record_of, damage_refused_by, played}
 use Rattle.mn_script.specs.declared.command.Command.TheVariants.{Damage}
 use Rattle.mn_sched.specs.Playing.{past_of, Takes, After}
 use Rattle.mn_sched.proofs.Delivering.{first_part_refl}

@@ -1,22 +1,22 @@
 use Rattle.std.proofs.Common.{◌≡◌, Some, None, Err, sym, ◌∙◌, ap, refl, subst, ◌-◌, ◌+◌, arith, length}
 use Rattle.std.proofs.lemmas.Result.{err_from_is_err_and}
-use Rattle.mn_course.specs.Course.{Past, Course, deliver, next_now, inputs_of, is_journal_full, one_by_one}
+use Rattle.mn_course_laws.specs.Course.{Past, Course, deliver, next_now, inputs_of, is_journal_full, one_by_one}
 use Rattle.mn_sched.specs.Playing.{past_of, Arrives, IsFirstPart}
-use Rattle.mn_sched.proofs.Delivering.{first_part_refl, first_part_trans, next_turn, one_then, one_stops, deliver_more, told_now, keeps}
+use Rattle.mn_sched.proofs.Delivering.{first_part_refl, first_part_trans, next_turn, one_then, one_stops, deliver_more, told_now, keeps, stands_on}
+use Rattle.mn_sched.proofs.Telling.{caused_after}
 use Rattle.mn_sched.proofs.line.deliver.Goals as goal
 
 pub returns-in_default-clause-course : goal.returns-in_default-clause-course
-returns-in_default-clause-course g c = λ all told.
+returns-in_default-clause-course g c = λ all before.
     let l = c.loop-turn in
     let net = c.keep_room.new.net in
     let past : past_of net ≡ past_of l.net = c.keep_room.ensures.past in
-    let stands = keeps net l.net (g.W.Watch.stands l.watch) all past c.keep_room.ensures.topology c.keep_room.ensures.stands
-    (l.invariant.together all (l.invariant.packets ∙ told)) in
+    let stands = stands_on net l.net all past c.keep_room.ensures.stands (l.invariant.standing all before) in
     let none : next_now c.args.net.now.topology all c.args.arrivals (past_of l.net) ≡ None =
     told_now c.args.net.now.topology all c.args.arrivals net l.net None past (c.keep_room.ensures.topology ∙ l.invariant.topology)
-    (sym (c.next_arrival.ensures.value (inputs_of all net.journal) stands.0) ∙ c.in_default.is) in
+    (sym (c.next_arrival.ensures.value (inputs_of all net.journal) stands) ∙ c.in_default.is) in
     let over =
-    sym (l.invariant.course all told)
+    sym (l.invariant.course all before)
     ∙ next_turn c.args.net.now.topology all c.args.arrivals c.args.most l.turn (past_of l.net) None c.loop-turn-test.true none in
     (ap (λ x. x.ending) over, past ∙ sym (ap (λ x. x.past) over))
 
@@ -42,18 +42,18 @@ loop-turn-preserved g c =
     let tick : net.tick ≡ l.net.tick = ap (λ (p : Past). p.clock) past in
     let done = c.in_ok-deliver_one.ensures in
     record {
-      course = λ all told.
+      course = λ all before.
           let rest : Past → Course = λ later. deliver c.args.net.now.topology all c.args.arrivals (c.args.most - (l.turn + 1)) later in
-          let stands = keeps net l.net (g.W.Watch.stands l.watch) all past c.keep_room.ensures.topology c.keep_room.ensures.stands
-          (l.invariant.together all (l.invariant.packets ∙ told)) in
+          let stands = stands_on net l.net all past c.keep_room.ensures.stands (l.invariant.standing all before) in
           let some : next_now c.args.net.now.topology all c.args.arrivals (past_of l.net) ≡ Some c.in-Some.item =
           told_now c.args.net.now.topology all c.args.arrivals net l.net (Some c.in-Some.item) past (c.keep_room.ensures.topology ∙ l.invariant.topology)
-          (sym (c.next_arrival.ensures.value (inputs_of all net.journal) stands.0) ∙ c.in-Some.is) in
+          (sym (c.next_arrival.ensures.value (inputs_of all net.journal) stands) ∙ c.in-Some.is) in
           sym (one_then c.args.arrivals rest (past_of net) (is_journal_full (past_of net)) c.in-Some.item c.deliver_one.new.net
-          (done.course all (l.invariant.packets ∙ told)))
+          (done.course all stands))
           ∙ ap (λ p. one_by_one c.args.arrivals rest p (is_journal_full p) (Some c.in-Some.item)) past
           ∙ sym (next_turn c.args.net.now.topology all c.args.arrivals c.args.most l.turn (past_of l.net) (Some c.in-Some.item) c.loop-turn-test.true some)
-          ∙ l.invariant.course all told;
+          ∙ l.invariant.course all before;
+      standing = λ all before. done.standing all (stands_on net l.net all past c.keep_room.ensures.stands (l.invariant.standing all before));
       together = λ all told. done.after all (sym done.packets ∙ told);
       topology = done.topology ∙ c.keep_room.ensures.topology ∙ l.invariant.topology;
       grown = first_part_trans _ _ _ l.invariant.grown (subst (λ es. IsFirstPart es c.deliver_one.new.net.journal) journal done.grown);
@@ -69,34 +69,33 @@ loop-turn-preserved g c =
     }
 
 pub returns-in_err-deliver_one-clause-course : goal.returns-in_err-deliver_one-clause-course
-returns-in_err-deliver_one-clause-course g c = λ all told.
+returns-in_err-deliver_one-clause-course g c = λ all before.
     let l = c.loop-turn in
     let net = c.keep_room.new.net in
     let past : past_of net ≡ past_of l.net = c.keep_room.ensures.past in
     let rest : Past → Course = λ later. deliver c.args.net.now.topology all c.args.arrivals (c.args.most - (l.turn + 1)) later in
-    let stands = keeps net l.net (g.W.Watch.stands l.watch) all past c.keep_room.ensures.topology c.keep_room.ensures.stands
-    (l.invariant.together all (l.invariant.packets ∙ told)) in
+    let stands = stands_on net l.net all past c.keep_room.ensures.stands (l.invariant.standing all before) in
     let some : next_now c.args.net.now.topology all c.args.arrivals (past_of l.net) ≡ Some c.in-Some.item =
     told_now c.args.net.now.topology all c.args.arrivals net l.net (Some c.in-Some.item) past (c.keep_room.ensures.topology ∙ l.invariant.topology)
-    (sym (c.next_arrival.ensures.value (inputs_of all net.journal) stands.0) ∙ c.in-Some.is) in
+    (sym (c.next_arrival.ensures.value (inputs_of all net.journal) stands) ∙ c.in-Some.is) in
     let handed = err_from_is_err_and c.from_residual-in_err-deliver_one.result c.from_residual-in_err-deliver_one.ensures.1 in
     rw (handed.1, handed.2)
     (subst (λ x. Arrives x c.deliver_one.new.net (Err c.in_err-deliver_one.field-0.0))
     (ap (λ p. one_by_one c.args.arrivals rest p (is_journal_full p) (Some c.in-Some.item)) past
     ∙ sym (next_turn c.args.net.now.topology all c.args.arrivals c.args.most l.turn (past_of l.net) (Some c.in-Some.item) c.loop-turn-test.true some)
-    ∙ l.invariant.course all told)
+    ∙ l.invariant.course all before)
     (one_stops c.args.arrivals rest (past_of net) (is_journal_full (past_of net)) c.in-Some.item c.deliver_one.new.net c.in_err-deliver_one.field-0.0
     (λ later. deliver_more c.args.net.now.topology all c.args.arrivals (c.args.most - (l.turn + 1)) later)
-    (c.in_err-deliver_one.ensures.course all (l.invariant.packets ∙ told))))
+    (c.in_err-deliver_one.ensures.course all stands)))
 
 pub returns-in_err-left-clause-course : goal.returns-in_err-left-clause-course
-returns-in_err-left-clause-course g c = λ all told.
+returns-in_err-left-clause-course g c = λ all before.
     let l = c.loop-turn in
     let net = c.keep_room.new.net in
     let past : past_of net ≡ past_of l.net = c.keep_room.ensures.past in
     let handed = err_from_is_err_and c.from_residual.result c.from_residual.ensures.1 in
     rw (handed.1, handed.2, c.in_err-left.ensures.memory)
-    (subst (λ (x : Course). IsFirstPart net.journal x.past.entries) (l.invariant.course all told)
+    (subst (λ (x : Course). IsFirstPart net.journal x.past.entries) (l.invariant.course all before)
     (subst (λ (p : Past). IsFirstPart p.entries (deliver c.args.net.now.topology all c.args.arrivals (c.args.most - l.turn) (past_of l.net)).past.entries) (sym past)
     (deliver_more c.args.net.now.topology all c.args.arrivals (c.args.most - l.turn) (past_of l.net))))
 
@@ -115,8 +114,9 @@ returns-clause-after g c = λ all told. c.loop-turn.invariant.together all (c.lo
 
 pub loop-turn-init : goal.loop-turn-init
 loop-turn-init g c = record {
-  course = λ capture told. ap (λ n. deliver c.args.net.now.topology capture c.args.arrivals n (past_of c.args.net.now))
+  course = λ capture before. ap (λ n. deliver c.args.net.now.topology capture c.args.arrivals n (past_of c.args.net.now))
       (let e : c.args.most - 0 ≡ c.args.most = omega arith in e);
+  standing = λ all before. before;
   together = c.requires.together;
   topology = refl;
   grown = first_part_refl c.args.net.now.journal;
@@ -143,3 +143,19 @@ pub returns-in_err-deliver_one-clause-grown : goal.returns-in_err-deliver_one-cl
 returns-in_err-deliver_one-clause-grown g c =
     let journal = ap (λ (p : Past). p.entries) c.keep_room.ensures.past in
     first_part_trans _ _ _ c.loop-turn.invariant.grown (subst (λ es. IsFirstPart es c.deliver_one.new.net.journal) journal c.in_err-deliver_one.ensures.grown)
+
+pub returns-in_err-deliver_one-clause-cause : goal.returns-in_err-deliver_one-clause-cause
+returns-in_err-deliver_one-clause-cause g c =
+    let l = c.loop-turn in
+    let handed = err_from_is_err_and c.from_residual-in_err-deliver_one.result c.from_residual-in_err-deliver_one.ensures.1 in
+    rw (handed.1, handed.2)
+    (caused_after {T = Unit {0}} _ _ _ _ _ (Err c.in_err-deliver_one.field-0.0) l.invariant.reads l.invariant.writes
+    (λ none. sym l.invariant.packets ∙ none) c.in_err-deliver_one.ensures.cause)
+
+pub returns-clause-standing : goal.returns-clause-standing
+returns-clause-standing g c = c.loop-turn.invariant.standing
+
+pub returns-in_default-clause-standing : goal.returns-in_default-clause-standing
+returns-in_default-clause-standing g c = λ all before.
+    let l = c.loop-turn in
+    stands_on c.keep_room.new.net l.net all c.keep_room.ensures.past c.keep_room.ensures.stands (l.invariant.standing all before)

@@ -1,15 +1,17 @@
-use Rattle.std.proofs.Common.{◌≡◌, ◌≤◌, ◌<◌, ◌^◌, ◌-◌, ◌+◌, ℕ, List, Some, length}
+use Rattle.std.proofs.Common.{◌≡◌, ◌≤◌, ◌<◌, ◌^◌, ◌-◌, ◌+◌, ℕ, List, length}
 use Rattle.mn_base.specs.Limits.{most_steps}
-use Rattle.mn_course.specs.Course.{deliver}
+use Rattle.mn_course_laws.specs.Course.{deliver, inputs_of}
+use Rattle.mn_net.specs.Now.{StandsFor}
 use Rattle.mn_sched.specs.Watching.{Together}
-use Rattle.mn_sched.specs.Playing.{past_of, IsFirstPart, IsPaced}
+use Rattle.mn_sched.specs.Playing.{past_of, GoesOnFor, IsFirstPart, IsPaced}
 use Rattle.mn_sched.proofs.line.deliver.Given as goal
 
 abbrev pub invariant-loop-turn : goal.invariant-loop-turn
 invariant-loop-turn g l = record {
-  course : (capture : List (List ℕ)) → g.W.Watch.packets l.fn.watch ≡ Some capture →
+  course : (capture : List (List ℕ)) → StandsFor l.fn.net (inputs_of capture l.fn.net.journal) →
       deliver l.fn.net.topology capture l.arrivals (l.most - l.turn) (past_of l.net) ≡ deliver l.fn.net.topology capture l.arrivals l.most
       (past_of l.fn.net);
+  standing : GoesOnFor l.fn.net l.net;
   together : Together l.net (g.W.Watch.packets l.watch) (g.W.Watch.stands l.watch);
   topology : l.net.topology ≡ l.fn.net.topology;
   grown : IsFirstPart l.fn.net.journal l.net.journal;

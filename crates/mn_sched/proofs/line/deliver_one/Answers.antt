@@ -2,10 +2,10 @@ use Rattle.std.proofs.Common.{◌≡◌, ℕ, List, [], true, false, sym, ◌∙
 use Rattle.mn_topo.specs.Steps.{fits}
 use Rattle.mn_ledger.specs.Ledger.{injects}
 use Rattle.mn_ledger.specs.Time.{ticks_in}
-use Rattle.mn_course.specs.Coming.{delivery}
-use Rattle.mn_course.specs.Course.{inputs_of}
+use Rattle.mn_course_laws.specs.Coming.{delivery}
+use Rattle.mn_course_laws.specs.Course.{inputs_of}
 use Rattle.mn_sched.proofs.Growing.{err_then}
-use Rattle.mn_sched.proofs.Telling.{leaves, made_last, last_fits, set_on, stood, same_journal, takes_no_input, one_arrives, after_one, opens_then}
+use Rattle.mn_sched.proofs.Telling.{leaves, made_last, last_fits, set_on, stood, same_journal, takes_no_input, one_arrives, after_one, opens_then, one_goes_on}
 use Rattle.mn_sched.specs.Playing.{IsFirstPart}
 use Rattle.mn_sched.proofs.Telling.{one_paced, one_longer, one_early, step_grown}
 use Rattle.mn_sched.proofs.line.deliver_one.Goals as goal
@@ -33,10 +33,9 @@ finish-played-requires g c =
     }
 
 pub returns-clause-course : goal.returns-clause-course
-returns-clause-course g c = λ all told.
+returns-clause-course g c = λ all before.
     let journal = same_journal c.args.arrivals c.args.item.due c.args.net.now c.set_clock.new.net c.set_clock.ensures.past in
     let inputs : List (List ℕ) = inputs_of all c.args.net.now.journal in
-    let before = (c.requires.together all told).0 in
     let answer =
     opens_then c.args.net.now c.set_clock.new.net inputs c.delivery-step.result
     (delivery c.args.item) c.step-stepped.result journal c.set_clock.ensures.topology c.delivery-step.ensures (c.requires.opens inputs before)
@@ -88,3 +87,11 @@ returns-clause-grown g c =
     subst (λ j. IsFirstPart j c.step-stepped.new.self.journal) journal
     (step_grown c.step-stepped.result c.set_clock.new.net c.step-stepped.new.self c.delivery-step.result c.step-stepped.ensures.longer
     (leaves _ _ _ c.step-stepped.ensures.left c.step-stepped.ensures.for_good))
+
+pub returns-clause-standing : goal.returns-clause-standing
+returns-clause-standing g c =
+    let journal = same_journal c.args.arrivals c.args.item.due c.args.net.now c.set_clock.new.net c.set_clock.ensures.past in
+    let plain : injects c.delivery-step.result ≡ false = ap injects c.delivery-step.ensures ∙ c.requires.fits.1 in
+    rw c.arrived_by.ensures
+    (one_goes_on c.step-stepped.result c.finish-played.result c.args.net.now c.set_clock.new.net c.step-stepped.new.self c.delivery-step.result journal
+    c.set_clock.ensures.stands plain c.step-stepped.ensures.longer c.step-stepped.ensures.stands c.finish-played.ensures.ended)

@@ -1,5 +1,5 @@
 use Rattle.std.proofs.Common.{sym, ◌∙◌, subst}
-use Rattle.mn_course.specs.Course.{inputs_of, refusal_now, stepped}
+use Rattle.mn_course_laws.specs.Course.{inputs_of, refusal_now, stepped}
 use Rattle.mn_sched.specs.Playing.{past_of, Takes}
 use Rattle.mn_sched.specs.Playing.{After}
 use Rattle.mn_sched.proofs.Growing.{err_then}

@@ -1,8 +1,8 @@
 use Rattle.std.proofs.Common.{[], sym, subst}
-use Rattle.mn_course.specs.Course.{inputs_of, refusal_now}
+use Rattle.mn_course_laws.specs.Course.{inputs_of, refusal_now}
 use Rattle.mn_sched.specs.Playing.{past_of, Takes}
 use Rattle.mn_sched.proofs.Growing.{err_then}
-use Rattle.mn_sched.proofs.Telling.{leaves, made_last, last_fits, step_paced, few_ticks, step_grown, step_kept, finished_refused, stood, takes_no_input, step_takes, stepped_plain, after_step}
+use Rattle.mn_sched.proofs.Telling.{leaves, made_last, last_fits, step_paced, few_ticks, step_grown, step_kept, finished_refused, stood, takes_no_input, step_takes, stepped_plain, after_step, step_goes_on}
 use Rattle.mn_sched.proofs.line.step_plainly.Goals as goal
 
 pub finish-requires : goal.finish-requires
@@ -20,9 +20,9 @@ finish-requires g c =
     }
 
 pub returns-clause-course : goal.returns-clause-course
-returns-clause-course g c = λ all told.
+returns-clause-course g c = λ all before.
     let net = c.args.net.now in
-    let answer = c.step-stepped.ensures.answer (inputs_of all net.journal) (c.requires.together all told).0 in
+    let answer = c.step-stepped.ensures.answer (inputs_of all net.journal) before in
     subst (λ x. Takes x c.step-stepped.new.self c.finish.result) (stepped_plain net.topology all (past_of net) c.args.step c.requires.plain)
     (step_takes net c.step-stepped.new.self c.args.step (refusal_now net.topology all (past_of net) c.args.step []) c.step-stepped.result c.finish.result
     answer c.step-stepped.ensures.longer (leaves _ _ _ c.step-stepped.ensures.left c.step-stepped.ensures.for_good) c.finish.ensures.ended)
@@ -55,3 +55,8 @@ pub returns-clause-grown : goal.returns-clause-grown
 returns-clause-grown g c =
     step_grown c.step-stepped.result c.args.net.now c.step-stepped.new.self c.args.step c.step-stepped.ensures.longer
     (leaves _ _ _ c.step-stepped.ensures.left c.step-stepped.ensures.for_good)
+
+pub returns-clause-standing : goal.returns-clause-standing
+returns-clause-standing g c =
+    step_goes_on c.step-stepped.result c.finish.result c.args.net.now c.step-stepped.new.self c.args.step c.requires.plain c.step-stepped.ensures.longer
+    (leaves _ _ _ c.step-stepped.ensures.left c.step-stepped.ensures.for_good) c.step-stepped.ensures.stands c.finish.ensures.ended

@@ -1,5 +1,5 @@
 use Rattle.std.proofs.Common.{ap, ◌∙◌}
-use Rattle.mn_output.specs.Tables.{bgp_name}
+use Rattle.mn_output_laws.specs.Tables.{bgp_name}
 use Rattle.mn_tables.proofs.bgp.put_bgp.Goals as goal
 
 pub returns : goal.returns

@@ -1,5 +1,5 @@
 use Rattle.std.proofs.Common.{Ok, Err}
-use Rattle.mn_output.specs.Shown.{byte_text}
+use Rattle.mn_output_laws.specs.Shown.{byte_text}
 use Rattle.mn_tables.proofs.Telling.{told_nothing, told_next, tells_cut, tells_all, tells_as}
 use Rattle.mn_tables.proofs.frame.put_hex.Goals as goal
 

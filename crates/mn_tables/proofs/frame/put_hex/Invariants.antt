@@ -1,5 +1,5 @@
 use Rattle.std.proofs.Common.{take}
-use Rattle.mn_output.specs.Shown.{hex_text}
+use Rattle.mn_output_laws.specs.Shown.{hex_text}
 use Rattle.mn_tables.specs.Telling.{standing, Told}
 use Rattle.mn_tables.proofs.frame.put_hex.Given as goal
 

@@ -1,6 +1,6 @@
 use Rattle.std.proofs.Common.{◌∙◌, ◌++◌, append_assoc}
 use Rattle.mn_lines.specs.Lines.{pieces_of, text}
-use Rattle.mn_output.specs.Shown.{hex_text}
+use Rattle.mn_output_laws.specs.Shown.{hex_text}
 use Rattle.std.specs.Prelude.{codes}
 use Rattle.mn_tables.specs.Frames.{head_text}
 use Rattle.mn_tables.proofs.Telling.{told_by, told_more, tells_as, tells_then, tells_first, tells_within}

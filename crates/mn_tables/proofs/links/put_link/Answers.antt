@@ -1,5 +1,5 @@
 use Rattle.std.proofs.Common.{ap, ◌∙◌}
-use Rattle.mn_output.specs.Tables.{up_or_down}
+use Rattle.mn_output_laws.specs.Tables.{up_or_down}
 use Rattle.mn_tables.proofs.links.put_link.Goals as goal
 
 pub returns : goal.returns

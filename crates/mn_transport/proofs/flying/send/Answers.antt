@@ -4,8 +4,8 @@ use Rattle.std.specs.Vec.Iter.{into_iter_items}
 use Rattle.mn_lsr.specs.Said.{pdu_of}
 use Rattle.mn_lsr.specs.declared.said.Said.{Said}
 use Rattle.mn_topo.specs.Network.{wiring_of}
-use Rattle.mn_transport_model.specs.Sending.{put_pdus}
-use Rattle.mn_transport_model.proofs.Putting.{sent-next, below-next}
+use Rattle.mn_transport_laws.specs.Sending.{put_pdus}
+use Rattle.mn_transport_laws.proofs.Putting.{sent-next, below-next}
 use Rattle.mn_transport.proofs.flying.send.Goals as goal
 
 pub loop-said-preserved : goal.loop-said-preserved

@@ -4,7 +4,7 @@ use Rattle.std.specs.Vec.Iter.{into_iter_items, into_iter_len}
 use Rattle.mn_lsr.specs.Said.{pdu_of}
 use Rattle.mn_topo.specs.Network.{wiring_of}
 use Rattle.mn_flight.specs.Flying.{IsFlight}
-use Rattle.mn_transport_model.specs.Sending.{put_pdus}
+use Rattle.mn_transport_laws.specs.Sending.{put_pdus}
 use Rattle.mn_transport.proofs.flying.send.Given as goal
 
 abbrev pub invariant-loop-said : goal.invariant-loop-said

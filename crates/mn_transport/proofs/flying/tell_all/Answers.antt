@@ -1,5 +1,5 @@
 use Rattle.std.proofs.Common.{◌∙◌, arith, refl}
-use Rattle.mn_transport_model.proofs.Putting.{told-next, below-next}
+use Rattle.mn_transport_laws.proofs.Putting.{told-next, below-next}
 use Rattle.mn_transport.proofs.flying.tell_all.Goals as goal
 
 pub loop-node-preserved : goal.loop-node-preserved

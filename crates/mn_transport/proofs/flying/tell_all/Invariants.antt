@@ -1,7 +1,7 @@
 use Rattle.std.proofs.Common.{◌≡◌, ◌<◌, ◌+◌, ◌*◌, ◌-◌, ◌++◌, length}
 use Rattle.std.specs.List.{All, range_with_len}
 use Rattle.mn_flight.specs.Flying.{IsFlight}
-use Rattle.mn_transport_model.specs.Sending.{notices_to}
+use Rattle.mn_transport_laws.specs.Sending.{notices_to}
 use Rattle.mn_transport.proofs.flying.tell_all.Given as goal
 
 abbrev pub invariant-loop-node : goal.invariant-loop-node

@@ -1,8 +1,8 @@
 use Rattle.std.proofs.Common.{ℕ, ◌<◌, ◌++◌, ◌∷◌, [], length, ◌∙◌, ap, subst}
-use Rattle.mn_transport_model.specs.Starting.{first_label}
-use Rattle.mn_transport_model.proofs.Attaching.{IsAttached}
-use Rattle.mn_transport_model.proofs.Starts.{map-more}
-use Rattle.mn_transport_model.proofs.Sited.{next-first, first-is}
+use Rattle.mn_transport_laws.specs.Starting.{first_label}
+use Rattle.mn_transport_laws.proofs.Attaching.{IsAttached}
+use Rattle.mn_transport_laws.proofs.Starts.{map-more}
+use Rattle.mn_transport_laws.proofs.Sited.{next-first, first-is}
 use Rattle.mn_transport.proofs.sites.first_labels.Goals as goal
 
 pub loop-number-preserved : goal.loop-number-preserved

@@ -1,6 +1,6 @@
 use Rattle.std.proofs.Common.{◌≡◌, map}
 use Rattle.std.specs.List.{range_with_len}
-use Rattle.mn_transport_model.specs.Starting.{first_label, AreFirst}
+use Rattle.mn_transport_laws.specs.Starting.{first_label, AreFirst}
 use Rattle.mn_transport.proofs.sites.first_labels.Given as goal
 
 abbrev pub invariant-loop-number : goal.invariant-loop-number

@@ -7,31 +7,44 @@ use Rattle.mn_topo.specs.Network.{wiring_of}
 use Rattle.mn_topo.specs.declared.nodes.Node.{Node}
 use Rattle.mn_labels.specs.Labels.{none_given}
 use Rattle.mn_rest.specs.Rests.{at_first}
-use Rattle.mn_reuse.specs.Labels.{longest_life}
+use Rattle.mn_reuse_laws.specs.Labels.{longest_life}
+use Rattle.mn_linkdb.specs.Learned.{Learned}
+use Rattle.mn_linkdb.specs.Network.{IsNetwork}
 use Rattle.mn_lsr.specs.Standing.{Standing, IsWired}
-use Rattle.mn_transport_model.specs.Starting.{IsFirst}
-use Rattle.mn_transport_model.proofs.Lists.{Each}
-use Rattle.mn_transport_model.proofs.Starts.{wired, loopbacks-are, first-node, each-push}
+use Rattle.mn_transport_laws.specs.Starting.{IsFirst}
+use Rattle.mn_transport_laws.proofs.Lists.{Each}
+use Rattle.mn_transport_laws.proofs.Starts.{wired, loopbacks-are, first-node, each-push}
 use Rattle.mn_transport.proofs.sites.first_nodes.Goals as goal
 
-pub new-requires-clause-wired : goal.new-requires-clause-wired
-new-requires-clause-wired c =
+pub new-requires : goal.new-requires
+new-requires c =
+    let t = c.args.topology.now in
+    let loopbacks : c.in_ok-loopbacks.loopbacks.items ≡ t.loopbacks =
+    c.in_ok-loopbacks.ensures ∙ ap (map (λ (node : Node). node.loopback)) c.nodes.ensures ∙ loopbacks-are t.loopbacks in
+    let nodes : c.len.result ≡ length t.loopbacks = omega (arith, c.len.ensures, ap length loopbacks) in
+    subst (λ n. IsNetwork n c.links.result.now) (sym nodes)
+    (subst (IsNetwork (length t.loopbacks)) (sym c.links.ensures) (wired t c.laws.ensures).network)
+
+pub over-requires-clause-wired : goal.over-requires-clause-wired
+over-requires-clause-wired c =
     let t = c.args.topology.now in
     let loopbacks : c.deref.result.now ≡ t.loopbacks =
     c.deref.ensures.value ∙ c.in_ok-loopbacks.ensures ∙ ap (map (λ (node : Node). node.loopback)) c.nodes.ensures ∙ loopbacks-are t.loopbacks in
-    subst (λ xs. IsWired (record { loopbacks = xs; ends = c.links-ends.result.now })) (sym loopbacks)
-    (subst (λ es. IsWired (record { loopbacks = t.loopbacks; ends = es })) (sym c.links-ends.ensures) (wired t c.laws.ensures))
+    subst (λ xs. IsWired (record { loopbacks = xs; ends = c.in_ok-links.links.ends })) (sym loopbacks)
+    (subst (λ es. IsWired (record { loopbacks = t.loopbacks; ends = es })) (sym (ap (λ (v : Learned). v.ends) c.in_ok-links.ensures ∙ c.links.ensures))
+    (wired t c.laws.ensures))
 
 pub loop-number-preserved : goal.loop-number-preserved
 loop-number-preserved c =
     let t = c.args.topology.now in
-    let x : Standing = c.in_ok-new.field-0 in
+    let x : Standing = c.in_ok-over.field-0 in
     let number : ℕ = c.loop-number.number in
     let loopbacks : c.deref.result.now ≡ t.loopbacks =
     c.deref.ensures.value ∙ c.in_ok-loopbacks.ensures ∙ ap (map (λ (node : Node). node.loopback)) c.nodes.ensures ∙ loopbacks-are t.loopbacks in
-    let wiring : (let w : Wiring = record { loopbacks = c.deref.result.now; ends = c.links-ends.result.now } in w) ≡ wiring_of t =
-    ap (λ xs. let w : Wiring = record { loopbacks = xs; ends = c.links-ends.result.now } in w) loopbacks
-    ∙ ap (λ (es : List LinkEnds). let w : Wiring = record { loopbacks = t.loopbacks; ends = es } in w) c.links-ends.ensures in
+    let wiring : (let w : Wiring = record { loopbacks = c.deref.result.now; ends = c.in_ok-links.links.ends } in w) ≡ wiring_of t =
+    ap (λ xs. let w : Wiring = record { loopbacks = xs; ends = c.in_ok-links.links.ends } in w) loopbacks
+    ∙ ap (λ (es : List LinkEnds). let w : Wiring = record { loopbacks = t.loopbacks; ends = es } in w)
+    (ap (λ (v : Learned). v.ends) c.in_ok-links.ensures ∙ c.links.ensures) in
     let fresh : IsFirst t 0 number x =
     first-node t number x
     (subst (λ (w : Wiring). x ≡ record {
@@ -43,17 +56,17 @@ loop-number-preserved c =
       failed =
           false;
     }) wiring
-    (c.in_ok-new.ensures.fresh
+    (c.in_ok-over.ensures.fresh
     ∙ ap (λ life. let s : Standing = record {
-      wiring = record { loopbacks = c.deref.result.now; ends = c.links-ends.result.now };
-      node = fresh_node (record { loopbacks = c.deref.result.now; ends = c.links-ends.result.now }) number;
+      wiring = record { loopbacks = c.deref.result.now; ends = c.in_ok-links.links.ends };
+      node = fresh_node (record { loopbacks = c.deref.result.now; ends = c.in_ok-links.links.ends }) number;
       labels = none_given (length c.deref.result.now);
       resting = at_first (length c.deref.result.now) life;
       uses = [];
       failed =
           false;
     } in s) c.longest_life-life.ensures))
-    c.in_ok-new.ensures.table in
+    c.in_ok-over.ensures.table in
     record {
       count = ap length c.in_ok-push.ensures.items ∙ length_push c.loop-number.nodes.items x ∙ ap (λ n. n + 1) c.loop-number.invariant.count;
       first = subst (Each (IsFirst t 0)) (sym c.in_ok-push.ensures.items)

@@ -1,6 +1,6 @@
 use Rattle.std.proofs.Common.{◌≡◌, length}
-use Rattle.mn_transport_model.specs.Starting.{IsFirst}
-use Rattle.mn_transport_model.proofs.Lists.{Each}
+use Rattle.mn_transport_laws.specs.Starting.{IsFirst}
+use Rattle.mn_transport_laws.proofs.Lists.{Each}
 use Rattle.mn_transport.proofs.sites.first_nodes.Given as goal
 
 abbrev pub invariant-loop-number : goal.invariant-loop-number

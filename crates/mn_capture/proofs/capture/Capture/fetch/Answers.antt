@@ -1,5 +1,6 @@
-use Rattle.std.proofs.Common.{◌≡◌, ◌≤◌, ◌-◌, ℕ, List, length, map, drop, Some, sym, ◌∙◌, ap, subst}
+use Rattle.std.proofs.Common.{◌≡◌, ◌≤◌, ◌-◌, ℕ, List, length, map, drop, Some, refl, sym, ◌∙◌, ap, subst}
 use Rattle.std.specs.Prelude.{slice_get, vec_len}
+use Rattle.mn_edge.specs.FaultLaws.{counted_out}
 use Rattle.mn_edge.specs.Files.{Files, file}
 use Rattle.mn_pcap.specs.declared.message.Place.{Place}
 use Rattle.mn_pcap.specs.Reading.{bytes_at, packet_of}
@@ -36,3 +37,8 @@ returns-clause-packet g c = λ m is whole there.
     ap (λ (ps : List Place). slice_get (map packet ps) (c.args.nth - 1)) (places g c)
     ∙ at_place packet c.self.inside.places.items c.args.nth c.index-place.result.now c.requires.first last c.index-place.ensures
     ∙ ap (λ (bytes : List ℕ). Some (packet_of c.args.self.now.link bytes)) (sym (bytes_left g c m whole is there))
+
+pub returns-in_err-count-clause-reads : goal.returns-in_err-count-clause-reads
+returns-in_err-count-clause-reads g c =
+    let named : c.as_str.result.now ≡ c.args.self.now.name = c.as_str.ensures.value ∙ ap (λ (v : CaptureView). v.name) c.self.view_is in
+    counted_out _ _ _ _ _ _ _ c.from_residual-in_err-count.ensures refl (λ absent m is. ap (file m) (sym named) ∙ absent m is) c.in_err-count.ensures.reads

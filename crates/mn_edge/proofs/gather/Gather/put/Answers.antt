@@ -1,9 +1,10 @@
 use Rattle.std.proofs.Common.{◌≡◌, ◌<◌, ◌≤◌, ◌+◌, [], ◌++◌, length, refl, Result, OnOk, OnErr, Ok, Err, ap, sym, ◌∙◌, subst, arith, append_assoc}
 use Rattle.std.proofs.lemmas.List.{take-append-drop}
-use Rattle.mn_edge.specs.Kept.{held_bytes, HoldsOn, BeginsOn, grown}
+use Rattle.mn_edge.specs.Kept.{held_bytes, most_held, HoldsOn, BeginsOn, grown}
+use Rattle.mn_edge.specs.FaultLaws.{counted_out, counted_alone, counted_alone_out}
 use Rattle.mn_edge.specs.KeptLaws.{framed_both, framed_same, begins_on}
 use Rattle.mn_edge.specs.Written.{texts}
-use Rattle.mn_edge.proofs.Gathering.{more_held, bytes_more, files_same, none_held-files, none_held-bytes, none_held-same, grown_twice, grown_none, grown_part}
+use Rattle.mn_edge.proofs.Gathering.{more_held, room_some, bytes_more, files_same, none_held-files, none_held-bytes, none_held-same, grown_twice, grown_none, grown_part}
 use Rattle.mn_edge.proofs.gather.Gather.put.Goals as goal
 
 on_err : {T E : Type 0} (r : Result T E) (P : Type 0) → P → OnErr r P
@@ -78,13 +79,25 @@ returns-in_err-end-clause-dropped g c =
     on_err c.from_residual-in_err-end.result _
     (c.in_err-end.ensures.ended ∙ none_held-same _ _ (ap length c.in_ok-hold.ensures.ok ∙ files_same _ _ _ ∙ c.loop-rest.invariant.files))
 
+pub returns-in_err-hold-clause-writes : goal.returns-in_err-hold-clause-writes
+returns-in_err-hold-clause-writes g c = counted_alone_out _ _ _ _ _ c.from_residual.ensures c.loop-rest.invariant.writes c.in_err-hold.ensures.cause
+
+pub returns-clause-writes : goal.returns-clause-writes
+returns-clause-writes g c = counted_alone _ _ _ c.hold-2.result c.loop-rest.invariant.writes c.hold-2.ensures.cause
+
+pub returns-in_err-end-clause-writes : goal.returns-in_err-end-clause-writes
+returns-in_err-end-clause-writes g c =
+    counted_out _ _ _ _ _ _ _ c.from_residual-in_err-end.ensures c.loop-rest.invariant.writes
+    (λ lacking all. lacking (c.loop-rest.invariant.framed.stays all)) c.in_err-end.ensures.writes
+
 pub loop-rest-smaller : goal.loop-rest-smaller
 loop-rest-smaller g c =
     let none = ap held_bytes c.in_ok-end.ensures.ended ∙ none_held-bytes c.hold.new.self in
     let room = c.room-in-loop-rest.ensures in
     let same = ap held_bytes c.self.view_is in
     let back = c.split_at.ensures.back_len in
-    omega (arith, none, room, same, back)
+    let some = room_some (length c.self.inside.held) in
+    omega (arith, none, room, same, back, some)
 
 pub loop-rest-preserved : goal.loop-rest-preserved
 loop-rest-preserved g c =
@@ -94,9 +107,9 @@ loop-rest-preserved g c =
     let here : c.args.file < length c.loop-rest.self = rw i.files c.requires.file in
     let rejoined : front ++ c.split_at.result.1.now ≡ c.loop-rest.rest.now =
     (λ i. c.split_at.ensures.front i ++ c.split_at.ensures.back i) ∙ take-append-drop _ c.loop-rest.rest.now in
-    let full : (held_bytes c.args.self.now + length c.args.piece.now ≤ 65536) → ⊥ = λ h.
+    let full : (held_bytes c.args.self.now + length c.args.piece.now ≤ most_held (length c.args.self.now)) → ⊥ = λ h.
     let room = c.room.ensures in let same = ap held_bytes c.self.view_is in let test = c.loop-rest-test.true in let a = ap held_bytes (i.held h) in let b =
-    ap length (i.rest h) in omega (arith, room, same, test, a, b, h) in
+    ap length (i.rest h) in let most = ap most_held (ap length c.self.view_is ∙ i.files) in omega (arith, room, same, test, a, b, h, most) in
     record {
       files = ap length c.in_ok-end.ensures.ended ∙ none_held-files _ ∙ ap length c.in_ok-hold.ensures.ok ∙ files_same _ _ _ ∙ i.files;
       done = i.done ++ front;
@@ -134,7 +147,8 @@ returns-clause-room g c =
     let here : c.args.file < length c.loop-rest.self = rw i.files c.requires.file in
     either c.hold-2.result _ _ _ c.hold-2.ensures.ok c.hold-2.ensures.err
     (λ ok. let more = ap held_bytes ok ∙ bytes_more c.loop-rest.self c.args.file c.loop-rest.rest.now here in let room = c.room.ensures in let same =
-    ap held_bytes c.self.view_is in let test = c.loop-rest-test.false in omega (arith, more, room, same, test))
+    ap held_bytes c.self.view_is in let test = c.loop-rest-test.false in let most = ap most_held (ap length c.self.view_is ∙ i.files) in
+    omega (arith, more, room, same, test, most))
     (λ err. let none = ap held_bytes err ∙ none_held-bytes c.loop-rest.self in omega (arith, none))
 
 pub returns-clause-dropped : goal.returns-clause-dropped

@@ -1,10 +1,10 @@
-use Rattle.std.proofs.Common.{◌≡◌, ◌≤◌, ◌++◌, length, drop, get_or}
+use Rattle.std.proofs.Common.{◌≡◌, ◌≤◌, ◌++◌, length, take, drop, get_or}
 use Rattle.mn_edge.specs.Waiting.{waiting}
 use Rattle.mn_edge.proofs.held.Held.copy_to_end.Given as goal
 
 abbrev pub invariant-loop-number : goal.invariant-loop-number
 invariant-loop-number l =
-    let bytes = l.self-inside.bytes.items in
+    let bytes = take l.self-inside.count l.self-inside.bytes.items in
     let segments = l.self-inside.segments.items in
     record {
       within : l.at ≤ length l.buf;

@@ -1,23 +1,19 @@
-use Rattle.std.proofs.Common.{◌≡◌, ℕ, List, [], ap, sym, ◌∙◌, Result, Ok, Err}
-use Rattle.std.specs.Result.{IsErrAnd}
-use Rattle.mn_edge.specs.declared.device.DeviceBad.{DeviceBad}
-use Rattle.mn_edge.specs.declared.device.DeviceBad.TheVariants.{NoMemory}
-use Rattle.mn_edge.specs.Memory.{extended, kept}
+use Rattle.std.proofs.Common.{◌≡◌, Bool, true, false, ap, sym, ◌∙◌, Result, Ok, Err, OnErr}
+use Rattle.std.specs.Prelude.{is_err}
 use Rattle.mn_edge.proofs.Entries.{extended-nil}
 use Rattle.mn_edge.proofs.memory.MemShelfShelf.append.Goals as goal
 
--- for want of memory nothing of a piece stays
-kept-none : {T : Type 0} (piece : List ℕ) (r : Result T DeviceBad) → IsErrAnd r (λ e. e ≡ NoMemory) → kept piece r ≡ []
-kept-none piece (Ok x) h = absurd h
-kept-none {T = T} piece (Err e) h = ap (λ e. kept {T = T} piece (Err e)) h
+-- what follows of an error, where there was one
+found_err : {T E : Type 0} (r : Result T E) (found : Bool) (P : Type 0) → OnErr r P → found ≡ is_err r → found ≡ true → P
+found_err (Ok x) found P p is_found there = absurd (let e : true ≡ false = sym there ∙ is_found in cc)
+found_err (Err e) found P p is_found there = p
 
-pub returns-in_err-extend-clause-files : goal.returns-in_err-extend-clause-files
-returns-in_err-extend-clause-files c =
-    c.in_err-extend.ensures.err ∙ ap (λ s. s.files) c.self.view_is ∙ sym (extended-nil c.args.self.now.files c.args.name.now)
-    ∙ ap (extended c.args.self.now.files c.args.name.now) (sym (kept-none c.args.piece.now c.from_residual.result c.from_residual.ensures.1))
+pub returns-then-is_err-clause-files : goal.returns-then-is_err-clause-files
+returns-then-is_err-clause-files c =
+    found_err c.extend.result c.is_err.result _ c.extend.ensures.err c.is_err.ensures.value c.if-is_err.true
+    ∙ ap (λ s. s.files) c.self.view_is ∙ sym (extended-nil c.args.self.now.files c.args.name.now)
 
-pub returns-in_err-extend-2-clause-files : goal.returns-in_err-extend-2-clause-files
-returns-in_err-extend-2-clause-files c =
-    c.in_err-extend-2.ensures.err ∙ ap (λ s. s.files) c.self.view_is ∙ sym (extended-nil c.args.self.now.files c.args.name.now)
-    ∙ ap (extended c.args.self.now.files c.args.name.now)
-    (sym (kept-none c.args.piece.now c.from_residual-in_err-extend-2.result c.from_residual-in_err-extend-2.ensures.1))
+pub returns-then-is_err-2-clause-files : goal.returns-then-is_err-2-clause-files
+returns-then-is_err-2-clause-files c =
+    found_err c.extend-2.result c.is_err-2.result _ c.extend-2.ensures.err c.is_err-2.ensures.value c.if-is_err-2.true
+    ∙ ap (λ s. s.files) c.self.view_is ∙ sym (extended-nil c.args.self.now.files c.args.name.now)

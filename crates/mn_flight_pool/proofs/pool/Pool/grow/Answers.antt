@@ -35,7 +35,7 @@ returns-clause-whole g c =
       c.reserve.ensures.items,
     ) in
     record {
-      held = grown_held c.args.self.now c.requires c.in_ok-node.node c.add.new.self added fresh c.push.new.self.items pushed;
+      held = grown_held c.args.self.now c.requires c.in_ok-node.node c.add.new.self added fresh (c.in_ok-node.ensures).room c.push.new.self.items pushed;
       counted = grown_counted c.args.self.now c.requires c.in_ok-node.node c.add.new.self added fresh;
       by_due =
           let same : c.reserve-2.new.self.items ≡ c.args.self.now.ticks.items = c.reserve-2.ensures.items in

@@ -1,13 +1,13 @@
 use Rattle.std.proofs.Common.{◌≡◌, ◌<◌, ◌≤◌, ◌+◌, ◌++◌, ◌∷◌, [], length, true, cond, arith, ap, ◌∙◌, get_or}
 use Rattle.std.specs.Prelude.{is_ok, slice_set}
 use Rattle.std.proofs.lemmas.Grind.{common_steps}
-use Rattle.mn_flight_pool.proofs.Put.{ticks_count, count_within, count_read, free_there, first_ring, node_in_one, last_in_one, next_in_one, put_held}
+use Rattle.mn_flight_pool.proofs.Put.{ticks_count, count_within, count_read, free_room, first_ring, node_in_one, last_in_one, next_in_one, put_held}
 use Rattle.mn_flight_pool.proofs.Put.{put_items, put_counted, put_by_due, put_recent, put_finger}
 use Rattle.mn_flight_pool.proofs.Whole.{recent_few}
 use Rattle.mn_flight_pool.proofs.pool.Pool.put.Goals as goal
 
 pub enter-requires-clause-node : goal.enter-requires-clause-node
-enter-requires-clause-node g c = free_there c.args.self.now c.requires.whole c.in-Some.node c.pop.new.self.items c.in-Some.ensures.items
+enter-requires-clause-node g c = free_room c.args.self.now c.requires.whole c.in-Some.node c.pop.new.self.items c.in-Some.ensures.items
 
 pub enter-requires-clause-channel : goal.enter-requires-clause-channel
 enter-requires-clause-channel g c =

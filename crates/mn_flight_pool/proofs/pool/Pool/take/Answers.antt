@@ -6,7 +6,7 @@ use Rattle.mn_flight_pool.specs.ByDue.{ticks_left}
 use Rattle.mn_flight_pool.specs.Whole.{ptrs}
 use Rattle.mn_flight_pool.specs.declared.node.Pair.TheVariants.{Due}
 use Rattle.mn_flight_pool.proofs.Put.{ptrs_push, count_read}
-use Rattle.mn_flight_pool.proofs.Take.{some_count, next_there, prev_there, no_item, same_item, below, some_on, number_ring, channel_ring, item_one}
+use Rattle.mn_flight_pool.proofs.Take.{some_count, next_there, prev_there, no_item, same_item, below, some_on, number_ring, channel_ring, room_one, item_one}
 use Rattle.mn_flight_pool.proofs.Take.{take_held, take_items, take_counted, take_by_due, take_before}
 use Rattle.mn_flight_pool.proofs.Whole.{node_holds, items_count, none_last}
 use Rattle.mn_flight_pool.proofs.pool.Pool.take.Goals as goal
@@ -27,6 +27,10 @@ pub leave-requires-clause-number : goal.leave-requires-clause-number
 leave-requires-clause-number g c =
     number_ring c.args.self.now c.requires.whole c.args.node.index c.requires.node c.in_ok-due.field-0.now
     (sym c.in_ok-due.ensures.value) c.unlink_due.new.store c.unlink_due.ensures.store
+
+pub leave-requires-clause-room : goal.leave-requires-clause-room
+leave-requires-clause-room g c =
+    room_one c.args.self.now c.requires.whole c.args.node.index c.requires.node c.unlink_due.new.store c.unlink_due.ensures.store
 
 pub leave-requires-clause-channel : goal.leave-requires-clause-channel
 leave-requires-clause-channel g c =

@@ -2,7 +2,7 @@ use Rattle.std.proofs.Common.{◌∙◌, ap, List}
 use Rattle.std.specs.Prelude.{◌==◌}
 use Rattle.std.specs.List.{list_any}
 use Rattle.mn_base.specs.declared.numbers.LinkNo.{LinkNo}
-use Rattle.mn_flooding.specs.Flood.{Advert}
+use Rattle.mn_flood_laws.specs.Flood.{Advert}
 use Rattle.mn_flood.proofs.Sends.{listed}
 use Rattle.mn_flood.proofs.advert.Advert.lists.Goals as goal
 

@@ -1,6 +1,6 @@
 use Rattle.std.proofs.Common.{◌≡◌, ◌++◌, ◌∷◌, [], ◌∙◌, ap, sym, arith}
 use Rattle.std.proofs.lemmas.List.FromFn.{map-range_with_len_more}
-use Rattle.mn_flooding.specs.Flood.{first_of}
+use Rattle.mn_flood_laws.specs.Flood.{first_of}
 use Rattle.mn_flood.proofs.database.Database.first.Goals as goal
 
 pub loop-origin-preserved : goal.loop-origin-preserved

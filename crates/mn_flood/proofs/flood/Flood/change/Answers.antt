@@ -1,5 +1,5 @@
 use Rattle.std.proofs.Common.{rules, ◌≡◌, ◌<◌, ◌≤◌, ◌+◌, length}
-use Rattle.mn_flooding.specs.Flood.{changed}
+use Rattle.mn_flood_laws.specs.Flood.{changed}
 use Rattle.mn_flood.proofs.Sounds.{sound_changed}
 use Rattle.mn_flood.proofs.flood.Flood.change.Goals as goal
 

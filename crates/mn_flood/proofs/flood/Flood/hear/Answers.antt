@@ -1,6 +1,6 @@
 use Rattle.std.proofs.Common.{rules, ◌≡◌, ◌<◌, ◌≤◌, ◌+◌, ◌∙◌, ap, sym, subst, length, Some, None, arith}
 use Rattle.mn_wiring.specs.Wiring.{receiver}
-use Rattle.mn_flooding.specs.Flood.{Advert, first_on, without_first, taken_in}
+use Rattle.mn_flood_laws.specs.Flood.{Advert, first_on, without_first, taken_in}
 use Rattle.mn_flood.specs.World.{WorldNow}
 use Rattle.mn_flood.specs.Floods.{IsSound}
 use Rattle.mn_flood.proofs.Queues.{none_taken}

@@ -1,6 +1,6 @@
 use Rattle.std.proofs.Common.{arith, sym, subst}
-use Rattle.mn_flooding.specs.Flood.{start}
-use Rattle.mn_flooding.proofs.Start.{start_is, first_age}
+use Rattle.mn_flood_laws.specs.Flood.{start}
+use Rattle.mn_flood_laws.proofs.Start.{start_is, first_age}
 use Rattle.mn_flood.specs.World.{WorldNow}
 use Rattle.mn_flood.specs.Floods.{IsSound}
 use Rattle.mn_topo.specs.Network.{wiring_of}

@@ -1,7 +1,7 @@
 use Rattle.std.proofs.Common.{rules, ◌≡◌, ◌<◌, ◌∙◌, ap, sym, subst, length, [], IfOk}
 use Rattle.mn_linkdb.specs.Trees.{IsTree}
-use Rattle.mn_flooding.specs.Flood.{flooded}
-use Rattle.mn_flooding.proofs.Quiet.{trees}
+use Rattle.mn_flood_laws.specs.Flood.{flooded}
+use Rattle.mn_flood_laws.proofs.Quiet.{trees}
 use Rattle.mn_flood.specs.Floods.{FloodNow}
 use Rattle.mn_flood.proofs.Sounds.{if_ok_so}
 use Rattle.mn_flood.proofs.flood.Flood.tree.Goals as goal

@@ -4,7 +4,7 @@ use Rattle.std.specs.List.{AllByRecursion}
 use Rattle.mn_flight.specs.Flying.{off_channel}
 use Rattle.mn_wiring.specs.Wiring.{channel}
 use Rattle.mn_wiring.specs.declared.links.Dir.TheVariants.{Forth, Back}
-use Rattle.mn_flooding.specs.Flood.{Sent}
+use Rattle.mn_flood_laws.specs.Flood.{Sent}
 use Rattle.mn_flood.specs.Queue.{Queued, IsInPlace, sents_of}
 use Rattle.mn_flood.proofs.Queues.{sending_less, all_off, off_link}
 use Rattle.mn_flood.proofs.queue.Queue.drop_link.Goals as goal

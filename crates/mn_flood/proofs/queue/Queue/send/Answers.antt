@@ -1,6 +1,6 @@
 use Rattle.std.proofs.Common.{◌≡◌, ◌∙◌, ap}
 use Rattle.mn_wiring.specs.Wiring.{channel}
-use Rattle.mn_flooding.specs.Flood.{Sent}
+use Rattle.mn_flood_laws.specs.Flood.{Sent}
 use Rattle.mn_flood.proofs.Queues.{sending_more}
 use Rattle.mn_flood.proofs.queue.Queue.send.Goals as goal
 

@@ -4,7 +4,7 @@ use Rattle.std.specs.List.{AllByRecursion}
 use Rattle.mn_flight.specs.declared.Item.{Item}
 use Rattle.mn_flight.specs.Flying.{on_channel}
 use Rattle.mn_wiring.specs.Wiring.{channel}
-use Rattle.mn_flooding.specs.Flood.{Sent, first_on, without_first}
+use Rattle.mn_flood_laws.specs.Flood.{Sent, first_on, without_first}
 use Rattle.mn_flood.specs.Queue.{Queued, IsInPlace, sents_of}
 use Rattle.mn_flood.proofs.Queues.{sending_less, all_without, first_is, left_is}
 use Rattle.mn_flood.proofs.queue.Queue.take.Goals.{in-Some, in-None}

@@ -1,8 +1,8 @@
 use Rattle.std.proofs.Common.{◌≡◌, ◌<◌, ◌+◌, ◌-◌, ◌++◌, List, length, take, Some, None, sym, ◌∙◌, subst, arith}
 use Rattle.std.specs.Prelude.{slice_get}
 use Rattle.std.specs.List.{flat_map}
-use Rattle.mn_perform.proofs.Adding.{on_err, framed_then}
-use Rattle.mn_legs.specs.Course.{Exit}
+use Rattle.mn_perform.proofs.Adding.{on_err, framed_then, writes_out}
+use Rattle.mn_leg_laws.specs.Course.{Exit}
 use Rattle.mn_join_report.specs.Report.{exit_record}
 use Rattle.mn_join_run.specs.Outside.{Holding}
 use Rattle.mn_join_run.proofs.Files.{both_grow, second_grows, first_grows, exit_within, no_exit_more, exits_begin, exits_more}
@@ -72,3 +72,8 @@ returns-clause-grown g c = λ bytes holding.
     let none : slice_get exits c.exits.k ≡ None = rw c.in_default.is at (sym c.delivery.ensures.told) in
     subst (λ l. Holding c.args.self.now.names (bytes ++ flat_map exit_record l) c.exits.self.held (g.S.Shelf.files c.exits.shelf))
     (no_exit_more exits c.exits.k none) (c.exits.invariant.grown bytes holding)
+
+pub returns-in_err-put_exit-clause-writes : goal.returns-in_err-put_exit-clause-writes
+returns-in_err-put_exit-clause-writes g c =
+    writes_out c.args.self.now.names c.exits.self.names _ _ _ _ _ _ _ c.from_residual.ensures c.exits.invariant.names c.exits.invariant.framed
+    c.exits.invariant.writes c.in_err-put_exit.ensures.writes

@@ -16,7 +16,7 @@ use Rattle.mn_lsr.proofs.parts.Parts.close.Goals as goal
 
 pub tell-requires-clause-numbers : goal.tell-requires-clause-numbers
 tell-requires-clause-numbers c =
-    set-fits c.args.self.now.sessions.items c.set_session.new.self.sessions.items c.args.link.0 (length c.new-out.result.items) None c.set_session.ensures.set
+    set-fits c.args.self.now.sessions.items c.set_session.new.self.sessions.items c.args.link.0 (length c.new-out.result.items) None c.in_ok-set_session.ensures.set
     (omega arith) (by-ends c.args.self.now (length c.new-out.result.items) c.requires.numbers)
 
 pub tell-requires-clause-follow : goal.tell-requires-clause-follow
@@ -27,7 +27,7 @@ tell-requires-clause-follow c =
     let es = option_to_list c.closing-event.result in
     let happens = closing-as p st l c.requires.there c.requires.open c.session.result c.far.result es c.session.ensures c.far.ensures c.closing-event.ensures in
     may-follow-then p st (Closes l) es _ l says.Nothing happens.0 c.set_session.new.self c.set_session.new.self.sessions 0 c.set_session.ensures.others
-    c.set_session.ensures.set (happens.1 0)
+    c.in_ok-set_session.ensures.set (happens.1 0)
 
 pub returns-clause-stands : goal.returns-clause-stands
 returns-clause-stands c =
@@ -40,7 +40,7 @@ returns-clause-stands c =
     after-all p st (Closes l) es _ l says.Nothing happens.0 c.set_session.new.self c.set_session.new.self.sessions c.tell.new.self 0 c.args.tick
     (own_labels p.me.0 p.labels.labels)
     (map pdu_of c.new-out.result.items) (map pdu_of c.new-out.result.items)
-    (map pdu_of c.tell.new.out.items) c.set_session.ensures.others c.set_session.ensures.set (sym (append-nil (map pdu_of c.new-out.result.items)))
+    (map pdu_of c.tell.new.out.items) c.set_session.ensures.others c.in_ok-set_session.ensures.set (sym (append-nil (map pdu_of c.new-out.result.items)))
     (record {
       said = c.in_ok-tell.ensures.said;
       counted = c.in_ok-tell.ensures.counted;
@@ -64,7 +64,7 @@ returns-clause-node c =
     after-all p st (Closes l) es _ l says.Nothing happens.0 c.set_session.new.self c.set_session.new.self.sessions c.tell.new.self 0 c.args.tick
     (own_labels p.me.0 p.labels.labels)
     (map pdu_of c.new-out.result.items) (map pdu_of c.new-out.result.items)
-    (map pdu_of c.tell.new.out.items) c.set_session.ensures.others c.set_session.ensures.set (sym (append-nil (map pdu_of c.new-out.result.items)))
+    (map pdu_of c.tell.new.out.items) c.set_session.ensures.others c.in_ok-set_session.ensures.set (sym (append-nil (map pdu_of c.new-out.result.items)))
     (record {
       said = c.in_ok-tell.ensures.said;
       counted = c.in_ok-tell.ensures.counted;
@@ -88,7 +88,7 @@ returns-clause-labels c =
     after-all p st (Closes l) es _ l says.Nothing happens.0 c.set_session.new.self c.set_session.new.self.sessions c.tell.new.self 0 c.args.tick
     (own_labels p.me.0 p.labels.labels)
     (map pdu_of c.new-out.result.items) (map pdu_of c.new-out.result.items)
-    (map pdu_of c.tell.new.out.items) c.set_session.ensures.others c.set_session.ensures.set (sym (append-nil (map pdu_of c.new-out.result.items)))
+    (map pdu_of c.tell.new.out.items) c.set_session.ensures.others c.in_ok-set_session.ensures.set (sym (append-nil (map pdu_of c.new-out.result.items)))
     (record {
       said = c.in_ok-tell.ensures.said;
       counted = c.in_ok-tell.ensures.counted;
@@ -112,7 +112,7 @@ returns-clause-resting c =
     after-all p st (Closes l) es _ l says.Nothing happens.0 c.set_session.new.self c.set_session.new.self.sessions c.tell.new.self 0 c.args.tick
     (own_labels p.me.0 p.labels.labels)
     (map pdu_of c.new-out.result.items) (map pdu_of c.new-out.result.items)
-    (map pdu_of c.tell.new.out.items) c.set_session.ensures.others c.set_session.ensures.set (sym (append-nil (map pdu_of c.new-out.result.items)))
+    (map pdu_of c.tell.new.out.items) c.set_session.ensures.others c.in_ok-set_session.ensures.set (sym (append-nil (map pdu_of c.new-out.result.items)))
     (record {
       said = c.in_ok-tell.ensures.said;
       counted = c.in_ok-tell.ensures.counted;
@@ -136,7 +136,7 @@ returns-clause-said c =
     after-all p st (Closes l) es _ l says.Nothing happens.0 c.set_session.new.self c.set_session.new.self.sessions c.tell.new.self 0 c.args.tick
     (own_labels p.me.0 p.labels.labels)
     (map pdu_of c.new-out.result.items) (map pdu_of c.new-out.result.items)
-    (map pdu_of c.tell.new.out.items) c.set_session.ensures.others c.set_session.ensures.set (sym (append-nil (map pdu_of c.new-out.result.items)))
+    (map pdu_of c.tell.new.out.items) c.set_session.ensures.others c.in_ok-set_session.ensures.set (sym (append-nil (map pdu_of c.new-out.result.items)))
     (record {
       said = c.in_ok-tell.ensures.said;
       counted = c.in_ok-tell.ensures.counted;

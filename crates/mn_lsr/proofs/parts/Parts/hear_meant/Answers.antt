@@ -24,7 +24,7 @@ use Rattle.mn_lsr.proofs.parts.Parts.hear_meant.Goals as goal
 pub reply-requires-clause-numbers : goal.reply-requires-clause-numbers
 reply-requires-clause-numbers c =
     set-fits c.args.self.now.sessions.items c.set_session.new.self.sessions.items c.args.link.0 (length c.args.out.now.items)
-    (Some (record { session = c.hear.new.self; said = c.in-Some.was.said })) c.set_session.ensures.set
+    (Some (record { session = c.hear.new.self; said = c.in-Some.was.said })) c.in_ok-set_session.ensures.set
     (as-much c.args.self.now.sessions.items c.args.link.0 c.in-Some.was (sym c.session.ensures ∙ c.in-Some.is)) c.requires.numbers
 
 pub tell-requires-clause-numbers : goal.tell-requires-clause-numbers
@@ -33,7 +33,7 @@ tell-requires-clause-numbers c =
     said-fits (wiring_in q) q.me.0 (own_labels q.me.0 q.labels.labels) 0 q.sessions.items c.reply.new.self.sessions.items (said_on c.args.link.0 q.me.0 (replied c.in-Ok.reply)) c.args.out.now.items
     c.reply.new.out.items c.in_ok-reply.ensures.counted c.in_ok-reply.ensures.said
     (set-fits c.args.self.now.sessions.items c.set_session.new.self.sessions.items c.args.link.0 (length c.args.out.now.items)
-    (Some (record { session = c.hear.new.self; said = c.in-Some.was.said })) c.set_session.ensures.set
+    (Some (record { session = c.hear.new.self; said = c.in-Some.was.said })) c.in_ok-set_session.ensures.set
     (as-much c.args.self.now.sessions.items c.args.link.0 c.in-Some.was (sym c.session.ensures ∙ c.in-Some.is)) c.requires.numbers)
 
 pub returns-clause-numbers : goal.returns-clause-numbers
@@ -46,7 +46,7 @@ returns-clause-numbers c =
     (said-fits (wiring_in q) q.me.0 (own_labels q.me.0 q.labels.labels) 0 q.sessions.items r.sessions.items (said_on c.args.link.0 q.me.0 (replied c.in-Ok.reply)) c.args.out.now.items
     c.reply.new.out.items c.in_ok-reply.ensures.counted c.in_ok-reply.ensures.said
     (set-fits c.args.self.now.sessions.items c.set_session.new.self.sessions.items c.args.link.0 (length c.args.out.now.items)
-    (Some (record { session = c.hear.new.self; said = c.in-Some.was.said })) c.set_session.ensures.set
+    (Some (record { session = c.hear.new.self; said = c.in-Some.was.said })) c.in_ok-set_session.ensures.set
     (as-much c.args.self.now.sessions.items c.args.link.0 c.in-Some.was (sym c.session.ensures ∙ c.in-Some.is)) c.requires.numbers))
 
 pub tell-requires-clause-follow : goal.tell-requires-clause-follow
@@ -63,7 +63,7 @@ tell-requires-clause-follow c =
     hearing-as p st l c.requires.there c.in-Some.was (sym c.session.ensures ∙ c.in-Some.is) body m label c.in-Ok.reply c.hear.new.self c.far.result es
     c.set_session.new.self.sessions.items meant
     c.in-Ok.ensures.table c.in-Ok.ensures.ends c.far.ensures
-    (c.event_of-event.ensures ∙ ap (λ b. heard_by c.far.result b m label) c.begins.ensures) c.set_session.ensures.set in
+    (c.event_of-event.ensures ∙ ap (λ b. heard_by c.far.result b m label) c.begins.ensures) c.in_ok-set_session.ensures.set in
     let said =
     replied-then p c.set_session.new.self c.reply.new.self c.set_session.new.self.sessions.items l c.in-Ok.reply (map pdu_of c.args.out.now.items)
     (map pdu_of c.reply.new.out.items) c.set_session.ensures.others refl
@@ -85,7 +85,7 @@ returns-clause-stands c =
     hearing-as p st l c.requires.there c.in-Some.was (sym c.session.ensures ∙ c.in-Some.is) body m label c.in-Ok.reply c.hear.new.self c.far.result es
     c.set_session.new.self.sessions.items meant
     c.in-Ok.ensures.table c.in-Ok.ensures.ends c.far.ensures
-    (c.event_of-event.ensures ∙ ap (λ b. heard_by c.far.result b m label) c.begins.ensures) c.set_session.ensures.set in
+    (c.event_of-event.ensures ∙ ap (λ b. heard_by c.far.result b m label) c.begins.ensures) c.in_ok-set_session.ensures.set in
     let said =
     replied-then p c.set_session.new.self c.reply.new.self c.set_session.new.self.sessions.items l c.in-Ok.reply (map pdu_of c.args.out.now.items)
     (map pdu_of c.reply.new.out.items) c.set_session.ensures.others refl
@@ -120,7 +120,7 @@ returns-clause-kept c =
     hearing-as p st l c.requires.there c.in-Some.was (sym c.session.ensures ∙ c.in-Some.is) body m label c.in-Ok.reply c.hear.new.self c.far.result es
     c.set_session.new.self.sessions.items meant
     c.in-Ok.ensures.table c.in-Ok.ensures.ends c.far.ensures
-    (c.event_of-event.ensures ∙ ap (λ b. heard_by c.far.result b m label) c.begins.ensures) c.set_session.ensures.set in
+    (c.event_of-event.ensures ∙ ap (λ b. heard_by c.far.result b m label) c.begins.ensures) c.in_ok-set_session.ensures.set in
     let said =
     replied-then p c.set_session.new.self c.reply.new.self c.set_session.new.self.sessions.items l c.in-Ok.reply (map pdu_of c.args.out.now.items)
     (map pdu_of c.reply.new.out.items) c.set_session.ensures.others refl
@@ -155,7 +155,7 @@ returns-clause-said c =
     hearing-as p st l c.requires.there c.in-Some.was (sym c.session.ensures ∙ c.in-Some.is) body m label c.in-Ok.reply c.hear.new.self c.far.result es
     c.set_session.new.self.sessions.items meant
     c.in-Ok.ensures.table c.in-Ok.ensures.ends c.far.ensures
-    (c.event_of-event.ensures ∙ ap (λ b. heard_by c.far.result b m label) c.begins.ensures) c.set_session.ensures.set in
+    (c.event_of-event.ensures ∙ ap (λ b. heard_by c.far.result b m label) c.begins.ensures) c.in_ok-set_session.ensures.set in
     let said =
     replied-then p c.set_session.new.self c.reply.new.self c.set_session.new.self.sessions.items l c.in-Ok.reply (map pdu_of c.args.out.now.items)
     (map pdu_of c.reply.new.out.items) c.set_session.ensures.others refl
@@ -192,7 +192,7 @@ returns-clause-machine c =
     hearing-as p st l c.requires.there c.in-Some.was (sym c.session.ensures ∙ c.in-Some.is) body m label c.in-Ok.reply c.hear.new.self c.far.result es
     c.set_session.new.self.sessions.items meant
     c.in-Ok.ensures.table c.in-Ok.ensures.ends c.far.ensures
-    (c.event_of-event.ensures ∙ ap (λ b. heard_by c.far.result b m label) c.begins.ensures) c.set_session.ensures.set in
+    (c.event_of-event.ensures ∙ ap (λ b. heard_by c.far.result b m label) c.begins.ensures) c.in_ok-set_session.ensures.set in
     let said =
     replied-then p c.set_session.new.self c.reply.new.self c.set_session.new.self.sessions.items l c.in-Ok.reply (map pdu_of c.args.out.now.items)
     (map pdu_of c.reply.new.out.items) c.set_session.ensures.others refl
@@ -213,7 +213,7 @@ returns-clause-machine c =
     }))
     ∙ machine-heard p st l c.requires.there c.in-Some.was
     (sym c.session.ensures ∙ c.in-Some.is) body c.in-Ok.reply c.hear.new.self c.set_session.new.self.sessions.items c.in-Ok.ensures.table
-    c.in-Ok.ensures.ends c.set_session.ensures.set
+    c.in-Ok.ensures.ends c.in_ok-set_session.ensures.set
 
 pub tell-requires-clause-owed : goal.tell-requires-clause-owed
 tell-requires-clause-owed c =

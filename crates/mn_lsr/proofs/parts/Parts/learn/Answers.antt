@@ -1,7 +1,8 @@
-use Rattle.std.proofs.Common.{◌≡◌, ◌+◌, ◌++◌, ◌^◌, refl, List, [], map, length, ◌∙◌, sym, ap, subst, slice_index}
+use Rattle.std.proofs.Common.{Ok, true, arith, ◌≡◌, ◌+◌, ◌++◌, ◌^◌, refl, List, [], map, length, ◌∙◌, sym, ap, subst, slice_index}
 use Rattle.std.specs.List.{flat_map}
 use Rattle.std.proofs.Math.ListN.{length-set}
-use Rattle.mn_linkdb.specs.Learned.{Learned, after_learn}
+use Rattle.mn_linkdb.specs.Learned.{Learned, links_up, after_learn}
+use Rattle.mn_linkdb.specs.PathTable.{PathTable}
 use Rattle.mn_lib.specs.declared.event.LibEvent.{LibEvent}
 use Rattle.mn_lib.specs.Tells.{tells}
 use Rattle.mn_node.specs.Machine.{Learns}
@@ -11,20 +12,31 @@ use Rattle.mn_lsr.specs.Said.{pdu_of}
 use Rattle.mn_lsr.specs.Telling.{said_by_tell}
 use Rattle.mn_labels.specs.Labels.{own_labels}
 use Rattle.mn_lib.specs.Known.{AreFew}
-use Rattle.mn_lsr.specs.Parts.{Stands, kept_of, pdus_by, ends_after}
+use Rattle.mn_lsr.specs.Parts.{Stands, wiring_in, node_in, stays, kept_of, pdus_by, ends_after}
 use Rattle.mn_lsr.proofs.Learning.{learning, events-of, releases-of}
-use Rattle.mn_lsr.proofs.Mended.{link_there, turns, mended-then, tree-then}
+use Rattle.mn_lsr.proofs.Mended.{link_there, turns, tree-of, mended-then, tree-then}
+use Rattle.mn_lsr.proofs.Unmoved.{all_stay}
 use Rattle.mn_lsr.proofs.Numbers.{by-ends, few-owed}
 use Rattle.mn_lsr.proofs.After.{Happens, IsThen, may-follow, stands-then, kept-of, said-then, length-machines}
 use Rattle.mn_lsr.specs.Turns.{Kept}
 use Rattle.mn_lsr.proofs.parts.Parts.learn.Goals as goal
 
-pub turn-requires-clause-there : goal.turn-requires-clause-there
-turn-requires-clause-there c = link_there c.args.self.now c.requires.stands c.args.link.0 c.requires.there
+pub turn_telling-requires-clause-there : goal.turn_telling-requires-clause-there
+turn_telling-requires-clause-there c = link_there c.args.self.now c.requires.stands c.args.link.0 c.requires.there
 
-pub turn-requires-clause-turns : goal.turn-requires-clause-turns
-turn-requires-clause-turns c =
+pub turn_telling-requires-clause-turns : goal.turn_telling-requires-clause-turns
+turn_telling-requires-clause-turns c =
     turns c.args.self.now c.requires.stands c.args.link.0 c.requires.there c.learn.new.self c.in-Ok.ensures.learned c.up-up.result c.up-up.ensures
+
+pub new_hops-requires-clause-still : goal.new_hops-requires-clause-still
+new_hops-requires-clause-still c = λ still fec h.
+    let p = c.args.self.now in
+    let st = c.requires.stands in
+    let tree_is = tree-of (wiring_in p) (links_up p.view) p.me.0 p.mended st.mended c.tree-before.ensures.least in
+    subst (λ (t : PathTable). stays p.me.0 p.lib.bindings.hops t fec ≡ true)
+    (sym (c.tree-tree.ensures.value ∙ c.in-Ok-turn_telling.ensures.same (ap Ok still)))
+    (all_stay (wiring_in p) (node_in p) p.lib.bindings p.mended.tree st.wired.joins st.me st.tied tree_is fec
+    (omega (arith, h, c.nodes-nodes.ensures.value, ap (λ (v : Learned). v.nodes) c.in-Ok.ensures.learned, st.nodes)))
 
 pub follow-requires-clause-numbers : goal.follow-requires-clause-numbers
 follow-requires-clause-numbers c = by-ends c.args.self.now (length c.new-out.result.items) c.requires.numbers
@@ -35,15 +47,15 @@ follow-requires-clause-follow c =
     let st = c.requires.stands in
     let l = c.args.link.0 in
     let tree_is =
-    tree-then p st l c.requires.there c.learn.new.self c.in-Ok.ensures.learned c.up-up.result c.up-up.ensures c.turn.new.self
-    c.turn.ensures.of c.in-Ok-turn.ensures.turned c.in-Ok-turn.ensures.ok.1 c.tree-tree.result.now c.tree-tree.ensures.value c.tree-tree.ensures.least in
+    tree-then p st l c.requires.there c.learn.new.self c.in-Ok.ensures.learned c.up-up.result c.up-up.ensures c.turn_telling.new.self
+    c.turn_telling.ensures.of c.in-Ok-turn_telling.ensures.turned c.in-Ok-turn_telling.ensures.ok.1 c.tree-tree.result.now c.tree-tree.ensures.value c.tree-tree.ensures.least in
     let events_are =
-    events-of p st l c.learn.new.self c.tree-tree.result.now c.nodes.result c.in-Ok-next_hops.events.items c.deref.result.now c.in-Ok.ensures.learned
-    c.nodes.ensures.value c.in-Ok-next_hops.ensures c.deref.ensures.value in
+    events-of p st l c.learn.new.self c.tree-tree.result.now c.nodes-nodes.result c.in-Ok-new_hops.events.items c.deref.result.now c.in-Ok.ensures.learned
+    c.nodes-nodes.ensures.value c.in-Ok-new_hops.ensures c.deref.ensures.value in
     let happens =
     subst (λ (es : List LibEvent). Happens p (Learns l) (after_learn p.view l).counts es p.sessions.items 0 []) (sym events_are)
     (learning p st l c.tree-tree.result.now tree_is) in
-    may-follow p st (Learns l) (after_learn p.view l).counts c.deref.result.now p.sessions.items 0 [] happens c.learn.new.self c.turn.new.self p.sessions 0
+    may-follow p st (Learns l) (after_learn p.view l).counts c.deref.result.now p.sessions.items 0 [] happens c.learn.new.self c.turn_telling.new.self p.sessions 0
     c.in-Ok.ensures.learned (sym (length-machines p.sessions.items) ∙ st.ends.one_each)
     (releases-of p c.tree-tree.result.now 0 c.deref.result.now events_are)
 
@@ -57,14 +69,14 @@ returns-clause-stands c =
     let st = c.requires.stands in
     let l = c.args.link.0 in
     let tree_is =
-    tree-then p st l c.requires.there c.learn.new.self c.in-Ok.ensures.learned c.up-up.result c.up-up.ensures c.turn.new.self
-    c.turn.ensures.of c.in-Ok-turn.ensures.turned c.in-Ok-turn.ensures.ok.1 c.tree-tree.result.now c.tree-tree.ensures.value c.tree-tree.ensures.least in
+    tree-then p st l c.requires.there c.learn.new.self c.in-Ok.ensures.learned c.up-up.result c.up-up.ensures c.turn_telling.new.self
+    c.turn_telling.ensures.of c.in-Ok-turn_telling.ensures.turned c.in-Ok-turn_telling.ensures.ok.1 c.tree-tree.result.now c.tree-tree.ensures.value c.tree-tree.ensures.least in
     let mended_is =
-    mended-then p st l c.requires.there c.learn.new.self c.in-Ok.ensures.learned c.up-up.result c.up-up.ensures c.turn.new.self
-    c.turn.ensures.of c.in-Ok-turn.ensures.turned c.in-Ok-turn.ensures.ok.1 in
+    mended-then p st l c.requires.there c.learn.new.self c.in-Ok.ensures.learned c.up-up.result c.up-up.ensures c.turn_telling.new.self
+    c.turn_telling.ensures.of c.in-Ok-turn_telling.ensures.turned c.in-Ok-turn_telling.ensures.ok.1 in
     let events_are =
-    events-of p st l c.learn.new.self c.tree-tree.result.now c.nodes.result c.in-Ok-next_hops.events.items c.deref.result.now c.in-Ok.ensures.learned
-    c.nodes.ensures.value c.in-Ok-next_hops.ensures c.deref.ensures.value in
+    events-of p st l c.learn.new.self c.tree-tree.result.now c.nodes-nodes.result c.in-Ok-new_hops.events.items c.deref.result.now c.in-Ok.ensures.learned
+    c.nodes-nodes.ensures.value c.in-Ok-new_hops.ensures c.deref.ensures.value in
     let happens =
     subst (λ (es : List LibEvent). Happens p (Learns l) (after_learn p.view l).counts es p.sessions.items 0 []) (sym events_are)
     (learning p st l c.tree-tree.result.now tree_is) in
@@ -78,7 +90,7 @@ returns-clause-stands c =
     let is : IsThen p st (Learns l) (after_learn p.view l).counts c.deref.result.now p.sessions.items 0 [] happens c.args.tick c.learn.new.self q.sessions q.lib q.labels =
     record { view_is = c.in-Ok.ensures.learned; known_is = c.in-Ok-follow.ensures.known; ends_are = counted; labels_are = c.in-Ok-follow.ensures.labels } in
     subst Stands (sym c.in-Ok-follow.ensures.others)
-    (stands-then p st (Learns l) (after_learn p.view l).counts c.deref.result.now p.sessions.items 0 [] happens c.args.tick c.learn.new.self c.turn.new.self
+    (stands-then p st (Learns l) (after_learn p.view l).counts c.deref.result.now p.sessions.items 0 [] happens c.args.tick c.learn.new.self c.turn_telling.new.self
     q.sessions q.lib q.labels q.lfib is (length-set p.view.counts l (slice_index p.view.counts l + 1)) mended_is c.in-Ok-follow.ensures.have
     c.in-Ok-follow.ensures.table)
 
@@ -88,11 +100,11 @@ returns-clause-node c =
     let st = c.requires.stands in
     let l = c.args.link.0 in
     let tree_is =
-    tree-then p st l c.requires.there c.learn.new.self c.in-Ok.ensures.learned c.up-up.result c.up-up.ensures c.turn.new.self
-    c.turn.ensures.of c.in-Ok-turn.ensures.turned c.in-Ok-turn.ensures.ok.1 c.tree-tree.result.now c.tree-tree.ensures.value c.tree-tree.ensures.least in
+    tree-then p st l c.requires.there c.learn.new.self c.in-Ok.ensures.learned c.up-up.result c.up-up.ensures c.turn_telling.new.self
+    c.turn_telling.ensures.of c.in-Ok-turn_telling.ensures.turned c.in-Ok-turn_telling.ensures.ok.1 c.tree-tree.result.now c.tree-tree.ensures.value c.tree-tree.ensures.least in
     let events_are =
-    events-of p st l c.learn.new.self c.tree-tree.result.now c.nodes.result c.in-Ok-next_hops.events.items c.deref.result.now c.in-Ok.ensures.learned
-    c.nodes.ensures.value c.in-Ok-next_hops.ensures c.deref.ensures.value in
+    events-of p st l c.learn.new.self c.tree-tree.result.now c.nodes-nodes.result c.in-Ok-new_hops.events.items c.deref.result.now c.in-Ok.ensures.learned
+    c.nodes-nodes.ensures.value c.in-Ok-new_hops.ensures c.deref.ensures.value in
     let happens =
     subst (λ (es : List LibEvent). Happens p (Learns l) (after_learn p.view l).counts es p.sessions.items 0 []) (sym events_are)
     (learning p st l c.tree-tree.result.now tree_is) in
@@ -107,7 +119,7 @@ returns-clause-node c =
     record { view_is = c.in-Ok.ensures.learned; known_is = c.in-Ok-follow.ensures.known; ends_are = counted; labels_are = c.in-Ok-follow.ensures.labels } in
     ap (λ (k : Kept). k.node)
     (ap kept_of c.in-Ok-follow.ensures.others
-    ∙ kept-of p st (Learns l) (after_learn p.view l).counts c.deref.result.now p.sessions.items 0 [] happens c.args.tick c.learn.new.self c.turn.new.self q.sessions
+    ∙ kept-of p st (Learns l) (after_learn p.view l).counts c.deref.result.now p.sessions.items 0 [] happens c.args.tick c.learn.new.self c.turn_telling.new.self q.sessions
     q.lib q.labels q.lfib is)
 
 pub returns-clause-labels : goal.returns-clause-labels
@@ -116,11 +128,11 @@ returns-clause-labels c =
     let st = c.requires.stands in
     let l = c.args.link.0 in
     let tree_is =
-    tree-then p st l c.requires.there c.learn.new.self c.in-Ok.ensures.learned c.up-up.result c.up-up.ensures c.turn.new.self
-    c.turn.ensures.of c.in-Ok-turn.ensures.turned c.in-Ok-turn.ensures.ok.1 c.tree-tree.result.now c.tree-tree.ensures.value c.tree-tree.ensures.least in
+    tree-then p st l c.requires.there c.learn.new.self c.in-Ok.ensures.learned c.up-up.result c.up-up.ensures c.turn_telling.new.self
+    c.turn_telling.ensures.of c.in-Ok-turn_telling.ensures.turned c.in-Ok-turn_telling.ensures.ok.1 c.tree-tree.result.now c.tree-tree.ensures.value c.tree-tree.ensures.least in
     let events_are =
-    events-of p st l c.learn.new.self c.tree-tree.result.now c.nodes.result c.in-Ok-next_hops.events.items c.deref.result.now c.in-Ok.ensures.learned
-    c.nodes.ensures.value c.in-Ok-next_hops.ensures c.deref.ensures.value in
+    events-of p st l c.learn.new.self c.tree-tree.result.now c.nodes-nodes.result c.in-Ok-new_hops.events.items c.deref.result.now c.in-Ok.ensures.learned
+    c.nodes-nodes.ensures.value c.in-Ok-new_hops.ensures c.deref.ensures.value in
     let happens =
     subst (λ (es : List LibEvent). Happens p (Learns l) (after_learn p.view l).counts es p.sessions.items 0 []) (sym events_are)
     (learning p st l c.tree-tree.result.now tree_is) in
@@ -135,7 +147,7 @@ returns-clause-labels c =
     record { view_is = c.in-Ok.ensures.learned; known_is = c.in-Ok-follow.ensures.known; ends_are = counted; labels_are = c.in-Ok-follow.ensures.labels } in
     ap (λ (k : Kept). k.labels)
     (ap kept_of c.in-Ok-follow.ensures.others
-    ∙ kept-of p st (Learns l) (after_learn p.view l).counts c.deref.result.now p.sessions.items 0 [] happens c.args.tick c.learn.new.self c.turn.new.self q.sessions
+    ∙ kept-of p st (Learns l) (after_learn p.view l).counts c.deref.result.now p.sessions.items 0 [] happens c.args.tick c.learn.new.self c.turn_telling.new.self q.sessions
     q.lib q.labels q.lfib is)
 
 pub returns-clause-resting : goal.returns-clause-resting
@@ -144,11 +156,11 @@ returns-clause-resting c =
     let st = c.requires.stands in
     let l = c.args.link.0 in
     let tree_is =
-    tree-then p st l c.requires.there c.learn.new.self c.in-Ok.ensures.learned c.up-up.result c.up-up.ensures c.turn.new.self
-    c.turn.ensures.of c.in-Ok-turn.ensures.turned c.in-Ok-turn.ensures.ok.1 c.tree-tree.result.now c.tree-tree.ensures.value c.tree-tree.ensures.least in
+    tree-then p st l c.requires.there c.learn.new.self c.in-Ok.ensures.learned c.up-up.result c.up-up.ensures c.turn_telling.new.self
+    c.turn_telling.ensures.of c.in-Ok-turn_telling.ensures.turned c.in-Ok-turn_telling.ensures.ok.1 c.tree-tree.result.now c.tree-tree.ensures.value c.tree-tree.ensures.least in
     let events_are =
-    events-of p st l c.learn.new.self c.tree-tree.result.now c.nodes.result c.in-Ok-next_hops.events.items c.deref.result.now c.in-Ok.ensures.learned
-    c.nodes.ensures.value c.in-Ok-next_hops.ensures c.deref.ensures.value in
+    events-of p st l c.learn.new.self c.tree-tree.result.now c.nodes-nodes.result c.in-Ok-new_hops.events.items c.deref.result.now c.in-Ok.ensures.learned
+    c.nodes-nodes.ensures.value c.in-Ok-new_hops.ensures c.deref.ensures.value in
     let happens =
     subst (λ (es : List LibEvent). Happens p (Learns l) (after_learn p.view l).counts es p.sessions.items 0 []) (sym events_are)
     (learning p st l c.tree-tree.result.now tree_is) in
@@ -163,7 +175,7 @@ returns-clause-resting c =
     record { view_is = c.in-Ok.ensures.learned; known_is = c.in-Ok-follow.ensures.known; ends_are = counted; labels_are = c.in-Ok-follow.ensures.labels } in
     ap (λ (k : Kept). k.resting)
     (ap kept_of c.in-Ok-follow.ensures.others
-    ∙ kept-of p st (Learns l) (after_learn p.view l).counts c.deref.result.now p.sessions.items 0 [] happens c.args.tick c.learn.new.self c.turn.new.self q.sessions
+    ∙ kept-of p st (Learns l) (after_learn p.view l).counts c.deref.result.now p.sessions.items 0 [] happens c.args.tick c.learn.new.self c.turn_telling.new.self q.sessions
     q.lib q.labels q.lfib is)
 
 pub returns-clause-said : goal.returns-clause-said
@@ -172,11 +184,11 @@ returns-clause-said c =
     let st = c.requires.stands in
     let l = c.args.link.0 in
     let tree_is =
-    tree-then p st l c.requires.there c.learn.new.self c.in-Ok.ensures.learned c.up-up.result c.up-up.ensures c.turn.new.self
-    c.turn.ensures.of c.in-Ok-turn.ensures.turned c.in-Ok-turn.ensures.ok.1 c.tree-tree.result.now c.tree-tree.ensures.value c.tree-tree.ensures.least in
+    tree-then p st l c.requires.there c.learn.new.self c.in-Ok.ensures.learned c.up-up.result c.up-up.ensures c.turn_telling.new.self
+    c.turn_telling.ensures.of c.in-Ok-turn_telling.ensures.turned c.in-Ok-turn_telling.ensures.ok.1 c.tree-tree.result.now c.tree-tree.ensures.value c.tree-tree.ensures.least in
     let events_are =
-    events-of p st l c.learn.new.self c.tree-tree.result.now c.nodes.result c.in-Ok-next_hops.events.items c.deref.result.now c.in-Ok.ensures.learned
-    c.nodes.ensures.value c.in-Ok-next_hops.ensures c.deref.ensures.value in
+    events-of p st l c.learn.new.self c.tree-tree.result.now c.nodes-nodes.result c.in-Ok-new_hops.events.items c.deref.result.now c.in-Ok.ensures.learned
+    c.nodes-nodes.ensures.value c.in-Ok-new_hops.ensures c.deref.ensures.value in
     let happens =
     subst (λ (es : List LibEvent). Happens p (Learns l) (after_learn p.view l).counts es p.sessions.items 0 []) (sym events_are)
     (learning p st l c.tree-tree.result.now tree_is) in

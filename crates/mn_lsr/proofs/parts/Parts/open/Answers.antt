@@ -13,7 +13,7 @@ use Rattle.mn_lsr.proofs.parts.Parts.open.Goals as goal
 pub reply-requires-clause-numbers : goal.reply-requires-clause-numbers
 reply-requires-clause-numbers c =
     set-fits c.args.self.now.sessions.items c.set_session.new.self.sessions.items c.args.link.0 (length c.new-out.result.items)
-    (Some (record { session = c.open-session.result; said = 0 })) c.set_session.ensures.set (omega arith)
+    (Some (record { session = c.open-session.result; said = 0 })) c.in_ok-set_session.ensures.set (omega arith)
     (by-ends c.args.self.now (length c.new-out.result.items) c.requires.numbers)
 
 pub returns-clause-stands : goal.returns-clause-stands
@@ -27,7 +27,7 @@ returns-clause-stands c =
     (c.loopback-peer.ensures ∙ ap (loopback_of (wiring_in p)) c.far-far.ensures) c.first_reply.ensures in
     let said =
     replied-then p c.set_session.new.self c.reply.new.self _ l c.first_reply.result (map pdu_of c.new-out.result.items)
-    (map pdu_of c.reply.new.out.items) c.set_session.ensures.others c.set_session.ensures.set
+    (map pdu_of c.reply.new.out.items) c.set_session.ensures.others c.in_ok-set_session.ensures.set
     c.in_ok-reply.ensures.said c.in_ok-reply.ensures.counted c.in_ok-reply.ensures.others in
     let done =
     after-said p st (Opens l) _ l c.first_reply.result happens c.reply.new.self 0 0 (own_labels p.me.0 p.labels.labels) (map pdu_of c.new-out.result.items)
@@ -45,7 +45,7 @@ returns-clause-node c =
     (c.loopback-peer.ensures ∙ ap (loopback_of (wiring_in p)) c.far-far.ensures) c.first_reply.ensures in
     let said =
     replied-then p c.set_session.new.self c.reply.new.self _ l c.first_reply.result (map pdu_of c.new-out.result.items)
-    (map pdu_of c.reply.new.out.items) c.set_session.ensures.others c.set_session.ensures.set
+    (map pdu_of c.reply.new.out.items) c.set_session.ensures.others c.in_ok-set_session.ensures.set
     c.in_ok-reply.ensures.said c.in_ok-reply.ensures.counted c.in_ok-reply.ensures.others in
     let done =
     after-said p st (Opens l) _ l c.first_reply.result happens c.reply.new.self 0 0 (own_labels p.me.0 p.labels.labels) (map pdu_of c.new-out.result.items)
@@ -63,7 +63,7 @@ returns-clause-labels c = λ tick.
     (c.loopback-peer.ensures ∙ ap (loopback_of (wiring_in p)) c.far-far.ensures) c.first_reply.ensures in
     let said =
     replied-then p c.set_session.new.self c.reply.new.self _ l c.first_reply.result (map pdu_of c.new-out.result.items)
-    (map pdu_of c.reply.new.out.items) c.set_session.ensures.others c.set_session.ensures.set
+    (map pdu_of c.reply.new.out.items) c.set_session.ensures.others c.in_ok-set_session.ensures.set
     c.in_ok-reply.ensures.said c.in_ok-reply.ensures.counted c.in_ok-reply.ensures.others in
     let done =
     after-said p st (Opens l) _ l c.first_reply.result happens c.reply.new.self 0 tick (own_labels p.me.0 p.labels.labels) (map pdu_of c.new-out.result.items)
@@ -81,7 +81,7 @@ returns-clause-resting c = λ tick.
     (c.loopback-peer.ensures ∙ ap (loopback_of (wiring_in p)) c.far-far.ensures) c.first_reply.ensures in
     let said =
     replied-then p c.set_session.new.self c.reply.new.self _ l c.first_reply.result (map pdu_of c.new-out.result.items)
-    (map pdu_of c.reply.new.out.items) c.set_session.ensures.others c.set_session.ensures.set
+    (map pdu_of c.reply.new.out.items) c.set_session.ensures.others c.in_ok-set_session.ensures.set
     c.in_ok-reply.ensures.said c.in_ok-reply.ensures.counted c.in_ok-reply.ensures.others in
     let done =
     after-said p st (Opens l) _ l c.first_reply.result happens c.reply.new.self 0 tick (own_labels p.me.0 p.labels.labels) (map pdu_of c.new-out.result.items)
@@ -99,7 +99,7 @@ returns-clause-said c =
     (c.loopback-peer.ensures ∙ ap (loopback_of (wiring_in p)) c.far-far.ensures) c.first_reply.ensures in
     let said =
     replied-then p c.set_session.new.self c.reply.new.self _ l c.first_reply.result (map pdu_of c.new-out.result.items)
-    (map pdu_of c.reply.new.out.items) c.set_session.ensures.others c.set_session.ensures.set
+    (map pdu_of c.reply.new.out.items) c.set_session.ensures.others c.in_ok-set_session.ensures.set
     c.in_ok-reply.ensures.said c.in_ok-reply.ensures.counted c.in_ok-reply.ensures.others in
     let done =
     after-said p st (Opens l) _ l c.first_reply.result happens c.reply.new.self 0 0 (own_labels p.me.0 p.labels.labels) (map pdu_of c.new-out.result.items)

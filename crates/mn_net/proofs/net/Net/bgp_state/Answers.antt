@@ -1,8 +1,8 @@
 use Rattle.std.proofs.Common.{◌<◌, ◌∙◌, ap, sym, subst, length}
 use Rattle.mn_ledger.specs.Ledger.{world_of}
 use Rattle.mn_ledger.specs.Bgp.{bgp_state_of}
-use Rattle.mn_net_moves.specs.Now.{NetNow}
-use Rattle.mn_net_moves.proofs.Told.{net_is}
+use Rattle.mn_net_laws.specs.Now.{NetNow}
+use Rattle.mn_net_laws.proofs.Told.{net_is}
 use Rattle.mn_net.proofs.Held.{session_told, rows_length, row_length}
 use Rattle.mn_net.proofs.net.Net.bgp_state.Goals as goal
 

@@ -1,9 +1,9 @@
 use Rattle.std.proofs.Common.{[], ap, ◌∙◌, ◌+◌, ◌<◌, subst, sym, length, arith}
 use Rattle.std.specs.Prelude.{slice_index}
 use Rattle.mn_flight.specs.Flying.{IsFlight}
-use Rattle.mn_net_look.specs.Tallies.{Tally, frame_of}
+use Rattle.mn_net_refusals.specs.Tallies.{Tally, frame_of}
 use Rattle.mn_topo.specs.declared.steps.Step.TheVariants as step
-use Rattle.mn_net_moves.proofs.Moves.{net_may, net_done, as_it_is, numbers, frame_there, one_more, counted_so, few_frames, carry_done}
+use Rattle.mn_net_laws.proofs.Moves.{net_may, net_done, as_it_is, numbers, frame_there, one_more, counted_so, few_frames, carry_done}
 use Rattle.mn_net.proofs.Few.{made_fits, at_most_one}
 use Rattle.mn_net.proofs.Clocks.{clock_early}
 use Rattle.mn_net.proofs.net.Net.carry.Goals as goal
@@ -33,13 +33,13 @@ pub count_frame-requires-clause-each : goal.count_frame-requires-clause-each
 count_frame-requires-clause-each c =
     let may = net_may _ _ (step.Carry c.args.link c.args.dir c.args.place) [] c.self.view_is c.requires.may in
     let is = c.self.invariant may.works in
-    ap (λ (t : Tally). length t.sent) c.in_ok-reserve-2.ensures.kept ∙ is.stands.tally.each
+    ap (λ (t : Tally). length t.sent) c.in_ok-reserve.ensures.kept ∙ is.stands.tally.each
 
 pub count_frame-requires-clause-few : goal.count_frame-requires-clause-few
 count_frame-requires-clause-few c = λ n below.
     let may = net_may _ _ (step.Carry c.args.link c.args.dir c.args.place) [] c.self.view_is c.requires.may in
     let is = c.self.invariant may.works in
-    subst (λ (t : Tally). slice_index t.sent n < 4000000) (sym c.in_ok-reserve-2.ensures.kept)
+    subst (λ (t : Tally). slice_index t.sent n < 4000000) (sym c.in_ok-reserve.ensures.kept)
     (few_frames _ (step.Carry c.args.link c.args.dir c.args.place) [] c.laws.ensures is may n below)
 
 pub overflow_add-self : goal.overflow_add-self
@@ -52,26 +52,26 @@ overflow_add-self c =
 pub invariant_of-self-2 : goal.invariant_of-self-2
 invariant_of-self-2 c = λ works.
     let may = net_may _ _ (step.Carry c.args.link c.args.dir c.args.place) [] c.self.view_is c.requires.may in
-    (as_it_is _ _ (step.Carry c.args.link c.args.dir c.args.place) [] c.reserve.new.self.items c.push_reserved.new.self.items _
+    (as_it_is _ _ (step.Carry c.args.link c.args.dir c.args.place) [] c.reserve_entry.new.journal.items c.push_reserved.new.self.items _
     (carry_done _ c.carry-flies.new.self c.count_frame.new.tally c.args.link c.args.dir c.args.place c.carry-flies.result
     (c.self.inside.made + c.from.result) c.receiver-node.result.0
     c.node.result.now c.table-table.result.now c.a_transport_goes_on_as_it_was.ensures c.routes_stay_as_they_were.ensures c.laws.ensures
     (c.self.invariant may.works) may c.receiver-node.ensures.end
     c.node.ensures c.table-table.ensures.uses c.carry-flies.ensures.moved c.carry-flies.ensures.made c.carry-flies.ensures.counts
     (ap (λ n. c.self.inside.made + n) (c.from.ensures ∙ one_more c.carry-flies.result))
-    (counted_so c.self.inside.topology (frame_of c.self.inside.made c.carry-flies.new.self.flying) c.self.inside.tally c.reserve-2.new.self
-    c.count_frame.new.tally c.in_ok-reserve-2.ensures.kept c.count_frame.ensures.counted)) may.works c.reserve.ensures.items c.push_reserved.ensures.items).is
+    (counted_so c.self.inside.topology (frame_of c.self.inside.made c.carry-flies.new.self.flying) c.self.inside.tally c.reserve.new.self
+    c.count_frame.new.tally c.in_ok-reserve.ensures.kept c.count_frame.ensures.counted)) may.works c.reserve_entry.ensures.items c.push_reserved.ensures.items).is
 
 pub returns-clause-done : goal.returns-clause-done
 returns-clause-done c =
     let may = net_may _ _ (step.Carry c.args.link c.args.dir c.args.place) [] c.self.view_is c.requires.may in
     net_done _ _ _ (step.Carry c.args.link c.args.dir c.args.place) [] c.self.view_is
-    (as_it_is _ _ (step.Carry c.args.link c.args.dir c.args.place) [] c.reserve.new.self.items c.push_reserved.new.self.items _
+    (as_it_is _ _ (step.Carry c.args.link c.args.dir c.args.place) [] c.reserve_entry.new.journal.items c.push_reserved.new.self.items _
     (carry_done _ c.carry-flies.new.self c.count_frame.new.tally c.args.link c.args.dir c.args.place c.carry-flies.result
     (c.self.inside.made + c.from.result) c.receiver-node.result.0
     c.node.result.now c.table-table.result.now c.a_transport_goes_on_as_it_was.ensures c.routes_stay_as_they_were.ensures c.laws.ensures
     (c.self.invariant may.works) may c.receiver-node.ensures.end
     c.node.ensures c.table-table.ensures.uses c.carry-flies.ensures.moved c.carry-flies.ensures.made c.carry-flies.ensures.counts
     (ap (λ n. c.self.inside.made + n) (c.from.ensures ∙ one_more c.carry-flies.result))
-    (counted_so c.self.inside.topology (frame_of c.self.inside.made c.carry-flies.new.self.flying) c.self.inside.tally c.reserve-2.new.self
-    c.count_frame.new.tally c.in_ok-reserve-2.ensures.kept c.count_frame.ensures.counted)) may.works c.reserve.ensures.items c.push_reserved.ensures.items)
+    (counted_so c.self.inside.topology (frame_of c.self.inside.made c.carry-flies.new.self.flying) c.self.inside.tally c.reserve.new.self
+    c.count_frame.new.tally c.in_ok-reserve.ensures.kept c.count_frame.ensures.counted)) may.works c.reserve_entry.ensures.items c.push_reserved.ensures.items)

@@ -3,17 +3,17 @@ use Rattle.std.specs.Prelude.{IfSome}
 use Rattle.mn_topo.specs.Steps.{fits}
 use Rattle.mn_ledger.specs.Ledger.{injects}
 use Rattle.mn_ledger.specs.Time.{ticks_in}
-use Rattle.mn_laws.specs.Flight.{IsOpen}
-use Rattle.mn_course.specs.declared.coming.Coming.{Coming}
-use Rattle.mn_course.specs.Coming.{coming, delivery}
-use Rattle.mn_net_moves.specs.Now.{NetNow, StandsFor}
+use Rattle.mn_ledger_laws.specs.Flight.{IsOpen}
+use Rattle.mn_course_laws.specs.declared.coming.Coming.{Coming}
+use Rattle.mn_course_laws.specs.Coming.{coming, delivery}
+use Rattle.mn_net_laws.specs.Now.{NetNow, StandsFor}
 use Rattle.mn_net.proofs.Asked.{parts_stand, within, soon, fitting, open_to}
 use Rattle.mn_net.proofs.net.Net.coming.Goals as goal
 use Rattle.std.specs.List.{All}
 use Rattle.mn_ledger.specs.Items.{flight_of}
-use Rattle.mn_course.specs.Next.{first_due, IsNext}
-use Rattle.mn_course.proofs.Nexts.{frames_first}
-use Rattle.mn_net_moves.proofs.Times.{all_due}
+use Rattle.mn_course_laws.specs.Next.{first_due, IsNext}
+use Rattle.mn_course_laws.proofs.Nexts.{frames_first}
+use Rattle.mn_net_laws.proofs.Times.{all_due}
 
 pub coming-requires : goal.coming-requires
 coming-requires c =

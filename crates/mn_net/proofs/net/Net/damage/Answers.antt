@@ -3,11 +3,11 @@ use Rattle.std.proofs.lemmas.Result.{err_from_is_err_and}
 use Rattle.mn_topo.specs.Steps.{fits}
 use Rattle.mn_ledger.specs.Refusal.{refusal}
 use Rattle.mn_damage.specs.Refusals.{damage_refusal}
-use Rattle.mn_marks.specs.Marks.{marked_last}
-use Rattle.mn_net_moves.specs.Now.{NetNow, StandsFor}
-use Rattle.mn_net_moves.specs.Done.{IsDone}
-use Rattle.mn_net_moves.proofs.Refused.{refused_so}
-use Rattle.mn_net_moves.proofs.Means.{labels_mean}
+use Rattle.mn_mark_laws.specs.Marks.{marked_last}
+use Rattle.mn_net_laws.specs.Now.{NetNow, StandsFor}
+use Rattle.mn_net_laws.specs.Done.{IsDone}
+use Rattle.mn_net_laws.proofs.Refused.{refused_so}
+use Rattle.mn_net_laws.proofs.Means.{labels_mean}
 use Rattle.mn_net.specs.declared.net.Done.{Done}
 use Rattle.mn_net.proofs.Damages.{reads_next, rest_last, ending_fits, damaged_so, stands_so}
 use Rattle.mn_net.proofs.net.Net.damage.Goals as goal

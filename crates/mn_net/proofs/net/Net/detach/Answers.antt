@@ -1,8 +1,8 @@
 use Rattle.std.proofs.Common.{[], ◌+◌, refl, arith}
 use Rattle.mn_topo.specs.declared.steps.Step.TheVariants as step
-use Rattle.mn_net_moves.proofs.Moves.{net_may, net_done, as_it_is}
-use Rattle.mn_net_moves.proofs.Turns.{link_may, route_may, route_numbers}
-use Rattle.mn_net_moves.proofs.Sites.{detach_done}
+use Rattle.mn_net_laws.proofs.Moves.{net_may, net_done, as_it_is}
+use Rattle.mn_net_laws.proofs.Turns.{link_may, route_may, route_numbers}
+use Rattle.mn_net_laws.proofs.Sites.{detach_done}
 use Rattle.mn_net.proofs.Few.{made_fits, later_fits}
 use Rattle.mn_net.proofs.Clocks.{clock_early}
 use Rattle.mn_net.proofs.net.Net.detach.Goals as goal
@@ -23,13 +23,13 @@ detach-requires-clause-messages c =
     route_numbers _ (c.self.invariant may.works)
 
 pub detach-requires-clause-may : goal.detach-requires-clause-may
-detach-requires-clause-may c = λ works.
+detach-requires-clause-may c =
     let may = net_may _ _ (step.Detach c.args.site) [] c.self.view_is c.requires.may in
     route_may _ (step.Detach c.args.site) (c.self.invariant may.works) may
 
 pub detach-requires-2 : goal.detach-requires-2
 detach-requires-2 c = record {
-  may = λ works.
+  may =
       let may = net_may _ _ (step.Detach c.args.site) [] c.self.view_is c.requires.may in
       link_may _ (step.Detach c.args.site) c.laws.ensures (c.self.invariant may.works) may refl;
 }
@@ -46,16 +46,16 @@ overflow_add-self c =
 pub invariant_of-self-2 : goal.invariant_of-self-2
 invariant_of-self-2 c = λ works.
     let may = net_may _ _ (step.Detach c.args.site) [] c.self.view_is c.requires.may in
-    (as_it_is _ _ (step.Detach c.args.site) [] c.reserve.new.self.items c.push_reserved.new.self.items _
+    (as_it_is _ _ (step.Detach c.args.site) [] c.reserve_entry.new.journal.items c.push_reserved.new.self.items _
     (detach_done _ c.args.site c.detach-2.new.self c.detach.new.self c.begin.new.self c.in_ok-more.more (c.self.inside.made + c.in_ok-more.more)
     c.laws.ensures (c.self.invariant may.works) may c.detach-2.ensures.goes c.detach-2.ensures.notices c.detach-2.ensures.messages
-    c.in_ok-more.ensures.did c.begin.ensures.begun refl) may.works c.reserve.ensures.items c.push_reserved.ensures.items).is
+    c.in_ok-more.ensures.did c.begin.ensures.begun refl) may.works c.reserve_entry.ensures.items c.push_reserved.ensures.items).is
 
 pub returns-clause-done : goal.returns-clause-done
 returns-clause-done c =
     let may = net_may _ _ (step.Detach c.args.site) [] c.self.view_is c.requires.may in
     net_done _ _ _ (step.Detach c.args.site) [] c.self.view_is
-    (as_it_is _ _ (step.Detach c.args.site) [] c.reserve.new.self.items c.push_reserved.new.self.items _
+    (as_it_is _ _ (step.Detach c.args.site) [] c.reserve_entry.new.journal.items c.push_reserved.new.self.items _
     (detach_done _ c.args.site c.detach-2.new.self c.detach.new.self c.begin.new.self c.in_ok-more.more (c.self.inside.made + c.in_ok-more.more)
     c.laws.ensures (c.self.invariant may.works) may c.detach-2.ensures.goes c.detach-2.ensures.notices c.detach-2.ensures.messages
-    c.in_ok-more.ensures.did c.begin.ensures.begun refl) may.works c.reserve.ensures.items c.push_reserved.ensures.items)
+    c.in_ok-more.ensures.did c.begin.ensures.begun refl) may.works c.reserve_entry.ensures.items c.push_reserved.ensures.items)

@@ -1,12 +1,12 @@
 use Rattle.std.proofs.Common.{◌∙◌, sym, ap, subst, length}
 use Rattle.mn_flight.specs.Flying.{on_channel}
 use Rattle.mn_transit.specs.Stands as transit
-use Rattle.mn_net_moves.specs.Now.{NetNow}
-use Rattle.mn_frames.specs.Given.{given}
+use Rattle.mn_net_laws.specs.Now.{NetNow}
+use Rattle.mn_frame_laws.specs.Given.{given}
 use Rattle.mn_ledger.specs.Ledger.{packets_of}
 use Rattle.mn_ledger.specs.Packets.{channel}
 use Rattle.mn_ledger.specs.Items.{flight_of}
-use Rattle.mn_net_model.proofs.Counted.{count_on, counted_in, counted_on}
+use Rattle.mn_net_parts_laws.proofs.Counted.{count_on, counted_in, counted_on}
 use Rattle.mn_net.proofs.net.Net.flying.Goals as goal
 
 pub returns-clause-told : goal.returns-clause-told

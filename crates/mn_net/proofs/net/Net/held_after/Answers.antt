@@ -3,14 +3,14 @@ use Rattle.std.specs.Prelude.{option_map, slice_index_or}
 use Rattle.mn_ledger.specs.Ledger.{world_of}
 use Rattle.mn_ledger.specs.Places.{edge_of}
 use Rattle.mn_ledger.specs.Held.{held}
-use Rattle.mn_frames.specs.Given.{given}
-use Rattle.mn_frames.specs.Numbers.{labels_of}
+use Rattle.mn_frame_laws.specs.Given.{given}
+use Rattle.mn_frame_laws.specs.Numbers.{labels_of}
 use Rattle.mn_vrf.specs.Vrf.{IsHeldAt}
 use Rattle.mn_pe.specs.Entries.{as_held as given_held}
-use Rattle.mn_routing_model.specs.Sources.{as_held}
-use Rattle.mn_net_moves.specs.Now.{NetNow}
-use Rattle.mn_net_moves.proofs.Told.{net_is}
-use Rattle.mn_net.specs.Tables.{held_at}
+use Rattle.mn_routing_laws.specs.Sources.{as_held}
+use Rattle.mn_net_laws.specs.Now.{NetNow}
+use Rattle.mn_net_laws.proofs.Told.{net_is}
+use Rattle.mn_ledger.specs.Heads.{held_at}
 use Rattle.mn_net.proofs.Held.{edges_length, after_told, given_told, some_edge}
 use Rattle.mn_net.proofs.net.Net.held_after.Goals as goal
 

@@ -2,12 +2,12 @@ use Rattle.std.proofs.Common.{◌≡◌, ◌∙◌, ap, subst, sym, length, ◌<
 use Rattle.std.specs.Prelude.{option_map, Option}
 use Rattle.mn_base.specs.declared.numbers.NodeNo.{NodeNo}
 use Rattle.mn_ledger.specs.Transport.{usable}
-use Rattle.mn_frames.specs.Given.{given}
-use Rattle.mn_net_moves.specs.Told.{hop_to}
-use Rattle.mn_net_moves.proofs.Told.{net_is, hop_of}
+use Rattle.mn_frame_laws.specs.Given.{given}
+use Rattle.mn_net_laws.specs.Told.{hop_to}
+use Rattle.mn_net_laws.proofs.Told.{net_is, hop_of}
 use Rattle.std.proofs.Common.{ℕ}
 use Rattle.mn_ledger.specs.Ledger.{world_of}
-use Rattle.mn_net_moves.specs.Now.{NetNow}
+use Rattle.mn_net_laws.specs.Now.{NetNow}
 use Rattle.mn_ledger.specs.Settled.{IsSettled}
 use Rattle.mn_net.specs.Settled.{IsByLinks}
 use Rattle.mn_net.proofs.Settled.{by_links}

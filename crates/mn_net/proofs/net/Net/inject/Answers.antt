@@ -1,14 +1,14 @@
 use Rattle.std.proofs.Common.{ap, sym, ◌∙◌, ◌+◌, ◌<◌, subst, length, arith}
 use Rattle.std.specs.Prelude.{slice_index}
 use Rattle.mn_flight.specs.Flying.{IsFlight}
-use Rattle.mn_net_look.specs.Tallies.{Tally, frame_of}
+use Rattle.mn_net_refusals.specs.Tallies.{Tally, frame_of}
 use Rattle.mn_topo.specs.declared.steps.Step.TheVariants as step
 use Rattle.mn_ledger.specs.Ledger.{world_of}
-use Rattle.mn_frames.specs.Given.{given}
+use Rattle.mn_frame_laws.specs.Given.{given}
 use Rattle.mn_transit.specs.Entering.{IsWayOut}
-use Rattle.mn_net_moves.proofs.Moves.{net_may, net_done, as_it_is, numbers, one_more, counted_so, few_frames, size_small}
-use Rattle.mn_net_moves.proofs.Moves.{verdicts_few, copies_fit}
-use Rattle.mn_net_moves.proofs.Moves.{inject_done}
+use Rattle.mn_net_laws.proofs.Moves.{net_may, net_done, as_it_is, numbers, one_more, counted_so, few_frames, size_small}
+use Rattle.mn_net_laws.proofs.Moves.{verdicts_few, copies_fit}
+use Rattle.mn_net_laws.proofs.Moves.{inject_done}
 use Rattle.mn_net.proofs.Few.{made_fits, at_most_one}
 use Rattle.mn_net.proofs.Clocks.{clock_early}
 use Rattle.mn_net.proofs.net.Net.inject.Goals as goal
@@ -52,13 +52,13 @@ pub count_frame-requires-clause-each : goal.count_frame-requires-clause-each
 count_frame-requires-clause-each c =
     let may = net_may _ _ (step.Inject c.args.site c.args.number) c.args.packet.now c.self.view_is c.requires.may in
     let is = c.self.invariant may.works in
-    ap (λ (t : Tally). length t.sent) c.in_ok-reserve-2.ensures.kept ∙ is.stands.tally.each
+    ap (λ (t : Tally). length t.sent) c.in_ok-reserve.ensures.kept ∙ is.stands.tally.each
 
 pub count_frame-requires-clause-few : goal.count_frame-requires-clause-few
 count_frame-requires-clause-few c = λ n below.
     let may = net_may _ _ (step.Inject c.args.site c.args.number) c.args.packet.now c.self.view_is c.requires.may in
     let is = c.self.invariant may.works in
-    subst (λ (t : Tally). slice_index t.sent n < 4000000) (sym c.in_ok-reserve-2.ensures.kept)
+    subst (λ (t : Tally). slice_index t.sent n < 4000000) (sym c.in_ok-reserve.ensures.kept)
     (few_frames _ (step.Inject c.args.site c.args.number) c.args.packet.now c.laws.ensures is may n below)
 
 pub overflow_add-self : goal.overflow_add-self
@@ -72,7 +72,7 @@ pub invariant_of-self-2 : goal.invariant_of-self-2
 invariant_of-self-2 c = λ works.
     let may = net_may _ _ (step.Inject c.args.site c.args.number) c.args.packet.now c.self.view_is c.requires.may in
     let is = c.self.invariant may.works in
-    (as_it_is _ _ (step.Inject c.args.site c.args.number) c.args.packet.now c.reserve.new.self.items c.push_reserved.new.self.items _
+    (as_it_is _ _ (step.Inject c.args.site c.args.number) c.args.packet.now c.reserve_entry.new.journal.items c.push_reserved.new.self.items _
     (inject_done _ c.inject.new.self c.count_frame.new.tally c.args.site c.args.number c.args.packet.now c.home_of-node.result c.in_ok-entry.entry.entered
     c.in_ok-entry.entry.outer c.in_ok-flies.flies
     (c.self.inside.made + c.from.result) c.a_transport_goes_on_as_it_was.ensures c.routes_stay_as_they_were.ensures c.laws.ensures is may
@@ -85,15 +85,15 @@ invariant_of-self-2 c = λ works.
     c.in_ok-entry.entry.entered c.in_ok-entry.entry.outer) (sym c.home_of-node.ensures.home) (c.in_ok-entry.ensures.way es stands))
     c.in_ok-flies.ensures.moved c.in_ok-flies.ensures.made c.in_ok-flies.ensures.counts
     (ap (λ n. c.self.inside.made + n) (c.from.ensures ∙ one_more c.in_ok-flies.flies))
-    (counted_so c.self.inside.topology (frame_of c.self.inside.made c.inject.new.self.flying) c.self.inside.tally c.reserve-2.new.self
-    c.count_frame.new.tally c.in_ok-reserve-2.ensures.kept c.count_frame.ensures.counted)) may.works c.reserve.ensures.items c.push_reserved.ensures.items).is
+    (counted_so c.self.inside.topology (frame_of c.self.inside.made c.inject.new.self.flying) c.self.inside.tally c.reserve.new.self
+    c.count_frame.new.tally c.in_ok-reserve.ensures.kept c.count_frame.ensures.counted)) may.works c.reserve_entry.ensures.items c.push_reserved.ensures.items).is
 
 pub returns-clause-done : goal.returns-clause-done
 returns-clause-done c =
     let may = net_may _ _ (step.Inject c.args.site c.args.number) c.args.packet.now c.self.view_is c.requires.may in
     let is = c.self.invariant may.works in
     net_done _ _ _ (step.Inject c.args.site c.args.number) c.args.packet.now c.self.view_is
-    (as_it_is _ _ (step.Inject c.args.site c.args.number) c.args.packet.now c.reserve.new.self.items c.push_reserved.new.self.items _
+    (as_it_is _ _ (step.Inject c.args.site c.args.number) c.args.packet.now c.reserve_entry.new.journal.items c.push_reserved.new.self.items _
     (inject_done _ c.inject.new.self c.count_frame.new.tally c.args.site c.args.number c.args.packet.now c.home_of-node.result c.in_ok-entry.entry.entered
     c.in_ok-entry.entry.outer c.in_ok-flies.flies
     (c.self.inside.made + c.from.result) c.a_transport_goes_on_as_it_was.ensures c.routes_stay_as_they_were.ensures c.laws.ensures is may
@@ -106,5 +106,5 @@ returns-clause-done c =
     c.in_ok-entry.entry.entered c.in_ok-entry.entry.outer) (sym c.home_of-node.ensures.home) (c.in_ok-entry.ensures.way es stands))
     c.in_ok-flies.ensures.moved c.in_ok-flies.ensures.made c.in_ok-flies.ensures.counts
     (ap (λ n. c.self.inside.made + n) (c.from.ensures ∙ one_more c.in_ok-flies.flies))
-    (counted_so c.self.inside.topology (frame_of c.self.inside.made c.inject.new.self.flying) c.self.inside.tally c.reserve-2.new.self
-    c.count_frame.new.tally c.in_ok-reserve-2.ensures.kept c.count_frame.ensures.counted)) may.works c.reserve.ensures.items c.push_reserved.ensures.items)
+    (counted_so c.self.inside.topology (frame_of c.self.inside.made c.inject.new.self.flying) c.self.inside.tally c.reserve.new.self
+    c.count_frame.new.tally c.in_ok-reserve.ensures.kept c.count_frame.ensures.counted)) may.works c.reserve_entry.ensures.items c.push_reserved.ensures.items)

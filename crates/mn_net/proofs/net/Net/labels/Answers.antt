@@ -1,9 +1,9 @@
 use Rattle.std.proofs.Common.{◌<◌, ◌∙◌, ap, length, subst, sym}
 use Rattle.mn_labels.specs.Labels.{Labels, IsTold}
-use Rattle.mn_frames.specs.Given.{given}
-use Rattle.mn_net_moves.specs.Told.{ChangedOnceFree}
-use Rattle.mn_net_moves.proofs.Told.{changed_once_free, net_is, node_in}
-use Rattle.mn_net_moves.specs.Now.{NetNow}
+use Rattle.mn_frame_laws.specs.Given.{given}
+use Rattle.mn_net_laws.specs.Told.{ChangedOnceFree}
+use Rattle.mn_net_laws.proofs.Told.{changed_once_free, net_is, node_in}
+use Rattle.mn_net_laws.specs.Now.{NetNow}
 use Rattle.mn_net.proofs.net.Net.labels.Goals as goal
 
 pub node-requires : goal.node-requires

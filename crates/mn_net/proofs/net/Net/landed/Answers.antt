@@ -1,7 +1,7 @@
 use Rattle.std.proofs.Common.{ap, subst}
 use Rattle.mn_transit.specs.Landed.{HasLanded}
-use Rattle.mn_net_moves.specs.Now.{NetNow}
-use Rattle.mn_frames.specs.Given.{given}
+use Rattle.mn_net_laws.specs.Now.{NetNow}
+use Rattle.mn_frame_laws.specs.Given.{given}
 use Rattle.mn_net.proofs.Landed.{landing}
 use Rattle.mn_net.proofs.net.Net.landed.Goals as goal
 

@@ -2,9 +2,9 @@ use Rattle.std.proofs.Common.{◌≤◌, length, subst, sym}
 use Rattle.mn_ledger.specs.Ledger.{packets_of}
 use Rattle.mn_ledger.specs.Lawful.{GoesForward}
 use Rattle.mn_ledger.specs.OneMore.{tick_from}
-use Rattle.mn_net_moves.specs.Now.{NetNow, StandsFor}
-use Rattle.mn_net_moves.proofs.Told.{net_is}
-use Rattle.mn_net_moves.proofs.Times.{goes_forward}
+use Rattle.mn_net_laws.specs.Now.{NetNow, StandsFor}
+use Rattle.mn_net_laws.proofs.Told.{net_is}
+use Rattle.mn_net_laws.proofs.Times.{goes_forward}
 use Rattle.mn_net.proofs.Asked.{few_steps, few_packets}
 use Rattle.mn_net.proofs.net.Net.laws.Goals as goal
 

@@ -1,10 +1,10 @@
 use Rattle.std.proofs.Common.{◌<◌, ◌∙◌, ap, sym, subst}
 use Rattle.mn_wiring.specs.Wiring.{sender}
 use Rattle.mn_topo.specs.Network.{wiring_of}
-use Rattle.mn_net_moves.specs.Told.{state_at}
-use Rattle.mn_net_moves.proofs.Told.{net_is, link_of, state_told}
+use Rattle.mn_net_laws.specs.Told.{state_at}
+use Rattle.mn_net_laws.proofs.Told.{net_is, link_of, state_told}
 use Rattle.mn_ledger.specs.Ledger.{world_of}
-use Rattle.mn_net_moves.specs.Now.{NetNow}
+use Rattle.mn_net_laws.specs.Now.{NetNow}
 use Rattle.mn_net.proofs.net.Net.ldp_state.Goals as goal
 
 pub node-requires : goal.node-requires

@@ -1,7 +1,7 @@
 use Rattle.std.proofs.Common.{[], ◌+◌, refl, arith}
 use Rattle.mn_topo.specs.declared.steps.Step.TheVariants as step
-use Rattle.mn_net_moves.proofs.Moves.{net_may, net_done, as_it_is}
-use Rattle.mn_net_moves.proofs.Turns.{link_may, notice_numbers, message_numbers, down_done}
+use Rattle.mn_net_laws.proofs.Moves.{net_may, net_done, as_it_is}
+use Rattle.mn_net_laws.proofs.Turns.{link_may, notice_numbers, message_numbers, down_done}
 use Rattle.mn_net.proofs.Few.{made_fits, changes_fit, later_fits}
 use Rattle.mn_net.proofs.Clocks.{clock_early}
 use Rattle.mn_net.proofs.net.Net.link_down.Goals as goal
@@ -27,12 +27,12 @@ link_down-requires-clause-numbers c =
     made_fits _ c.laws.ensures (c.self.invariant may.works)
 
 pub link_down-requires-clause-changes : goal.link_down-requires-clause-changes
-link_down-requires-clause-changes c = λ works.
+link_down-requires-clause-changes c =
     let may = net_may _ _ (step.LinkDown c.args.link) [] c.self.view_is c.requires.may in
     changes_fit _ c.laws.ensures (c.self.invariant may.works) c.args.link.0
 
 pub link_down-requires-clause-may : goal.link_down-requires-clause-may
-link_down-requires-clause-may c = λ works.
+link_down-requires-clause-may c =
     let may = net_may _ _ (step.LinkDown c.args.link) [] c.self.view_is c.requires.may in
     link_may _ (step.LinkDown c.args.link) c.laws.ensures (c.self.invariant may.works) may refl
 
@@ -49,18 +49,18 @@ overflow_add-self c =
 pub invariant_of-self-2 : goal.invariant_of-self-2
 invariant_of-self-2 c = λ works.
     let may = net_may _ _ (step.LinkDown c.args.link) [] c.self.view_is c.requires.may in
-    (as_it_is _ _ (step.LinkDown c.args.link) [] c.reserve.new.self.items c.push_reserved.new.self.items _
+    (as_it_is _ _ (step.LinkDown c.args.link) [] c.reserve_entry.new.journal.items c.push_reserved.new.self.items _
     (down_done _ c.args.link c.link_down.new.self c.link_down-2.new.self c.in_ok-more.more (c.self.inside.made + c.in_ok-more.more) c.routes_stay_as_they_were.ensures
     c.laws.ensures
     (c.self.invariant may.works) may c.in_ok-more.ensures.did c.link_down-2.ensures.moved c.link_down-2.ensures.left c.link_down-2.ensures.counts
-    refl) may.works c.reserve.ensures.items c.push_reserved.ensures.items).is
+    refl) may.works c.reserve_entry.ensures.items c.push_reserved.ensures.items).is
 
 pub returns-clause-done : goal.returns-clause-done
 returns-clause-done c =
     let may = net_may _ _ (step.LinkDown c.args.link) [] c.self.view_is c.requires.may in
     net_done _ _ _ (step.LinkDown c.args.link) [] c.self.view_is
-    (as_it_is _ _ (step.LinkDown c.args.link) [] c.reserve.new.self.items c.push_reserved.new.self.items _
+    (as_it_is _ _ (step.LinkDown c.args.link) [] c.reserve_entry.new.journal.items c.push_reserved.new.self.items _
     (down_done _ c.args.link c.link_down.new.self c.link_down-2.new.self c.in_ok-more.more (c.self.inside.made + c.in_ok-more.more) c.routes_stay_as_they_were.ensures
     c.laws.ensures
     (c.self.invariant may.works) may c.in_ok-more.ensures.did c.link_down-2.ensures.moved c.link_down-2.ensures.left c.link_down-2.ensures.counts
-    refl) may.works c.reserve.ensures.items c.push_reserved.ensures.items)
+    refl) may.works c.reserve_entry.ensures.items c.push_reserved.ensures.items)

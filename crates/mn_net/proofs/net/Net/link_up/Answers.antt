@@ -1,7 +1,7 @@
 use Rattle.std.proofs.Common.{◌∙◌, ap}
-use Rattle.mn_net_moves.proofs.Told.{net_is, link_in, link_of, up_told}
+use Rattle.mn_net_laws.proofs.Told.{net_is, link_in, link_of, up_told}
 use Rattle.mn_ledger.specs.Ledger.{world_of}
-use Rattle.mn_net_moves.specs.Now.{NetNow}
+use Rattle.mn_net_laws.specs.Now.{NetNow}
 use Rattle.mn_net.proofs.net.Net.link_up.Goals as goal
 
 pub is_link_up-requires : goal.is_link_up-requires

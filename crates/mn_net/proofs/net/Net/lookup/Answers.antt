@@ -9,13 +9,13 @@ use Rattle.mn_ledger.specs.Places.{edge_of}
 use Rattle.mn_ledger.specs.Held.{held, best}
 use Rattle.mn_ledger.specs.Eligible.{eligible, is_resolved, only_if, some_resolves}
 use Rattle.mn_ledger.specs.Settled.{IsSettled}
-use Rattle.mn_settled.specs.Routes.{eligible_of}
-use Rattle.mn_frames.specs.Entries.{AreWays}
-use Rattle.mn_frames.specs.Numbers.{labels_of}
+use Rattle.mn_settled_laws.specs.Routes.{eligible_of}
+use Rattle.mn_frame_laws.specs.Entries.{AreWays}
+use Rattle.mn_frame_laws.specs.Numbers.{labels_of}
 use Rattle.mn_vrf.specs.declared.source.Source.{Source}
-use Rattle.mn_routing_model.specs.Sources.{as_held}
-use Rattle.mn_net_moves.specs.Now.{NetNow, IsNet}
-use Rattle.mn_net_moves.proofs.Told.{net_is}
+use Rattle.mn_routing_laws.specs.Sources.{as_held}
+use Rattle.mn_net_laws.specs.Now.{NetNow, IsNet}
+use Rattle.mn_net_laws.proofs.Told.{net_is}
 use Rattle.mn_net.proofs.Settled.{from_scratch}
 use Rattle.mn_net.proofs.net.Net.lookup.Goals as goal
 

@@ -1,7 +1,7 @@
 use Rattle.std.proofs.Common.{[], ap}
 use Rattle.mn_transit.specs.Moving.{Moving}
-use Rattle.mn_net_moves.proofs.Starts.{starts_with}
-use Rattle.mn_net_moves.proofs.Means.{labels_mean}
+use Rattle.mn_net_laws.proofs.Starts.{starts_with}
+use Rattle.mn_net_laws.proofs.Means.{labels_mean}
 use Rattle.mn_net.proofs.net.Net.new.Goals as goal
 
 pub invariant_of-result : goal.invariant_of-result

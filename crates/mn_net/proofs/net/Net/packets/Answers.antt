@@ -1,8 +1,8 @@
 use Rattle.std.proofs.Common.{◌∙◌, sym, ap, subst}
 use Rattle.mn_transit.specs.Stands as transit
-use Rattle.mn_net_moves.specs.Now.{NetNow}
+use Rattle.mn_net_laws.specs.Now.{NetNow}
 use Rattle.mn_ledger.proofs.OnePlace.{in_one_place}
-use Rattle.mn_frames.specs.Given.{given}
+use Rattle.mn_frame_laws.specs.Given.{given}
 use Rattle.mn_ledger.specs.Ledger.{packets_of}
 use Rattle.mn_net.proofs.net.Net.packets.Goals as goal
 

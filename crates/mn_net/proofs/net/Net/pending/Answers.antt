@@ -1,7 +1,7 @@
 use Rattle.std.proofs.Common.{◌∙◌, ◌<◌, ◌≤◌, ◌+◌, arith, ap, sym, subst, length}
 use Rattle.mn_ledger.specs.Items.{flight_of}
-use Rattle.mn_net_moves.specs.Now.{NetNow, StandsFor}
-use Rattle.mn_net_moves.proofs.Told.{net_is}
+use Rattle.mn_net_laws.specs.Now.{NetNow, StandsFor}
+use Rattle.mn_net_laws.proofs.Told.{net_is}
 use Rattle.mn_net.specs.Tables.{count_of}
 use Rattle.mn_net.proofs.Pieces.{pending_told, few_messages}
 use Rattle.mn_net.proofs.net.Net.pending.Goals as goal

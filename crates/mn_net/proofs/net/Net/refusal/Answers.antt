@@ -1,8 +1,8 @@
 use Rattle.std.proofs.Common.{◌≡◌, ◌∙◌, true, sym, ap, subst}
 use Rattle.mn_topo.specs.Steps.{fits}
 use Rattle.mn_ledger.specs.Refusal.{refusal}
-use Rattle.mn_net_moves.specs.Now.{NetNow, StandsFor}
-use Rattle.mn_net_moves.proofs.Told.{net_is}
+use Rattle.mn_net_laws.specs.Now.{NetNow, StandsFor}
+use Rattle.mn_net_laws.proofs.Told.{net_is}
 use Rattle.mn_net.proofs.Asked.{parts_stand}
 use Rattle.mn_net.proofs.net.Net.refusal.Goals as goal
 

@@ -4,12 +4,12 @@ use Rattle.mn_ledger.specs.Ledger.{world_of}
 use Rattle.mn_ledger.specs.Places.{edge_of}
 use Rattle.mn_ledger.specs.Held.{HeldRoute, held}
 use Rattle.mn_ledger.specs.Eligible.{is_resolved}
-use Rattle.mn_frames.specs.Entries.{AreWays}
-use Rattle.mn_frames.specs.Given.{given}
+use Rattle.mn_frame_laws.specs.Entries.{AreWays}
+use Rattle.mn_frame_laws.specs.Given.{given}
 use Rattle.mn_pe.specs.Entries.{source_of}
-use Rattle.mn_net_moves.specs.Now.{NetNow}
-use Rattle.mn_net_moves.proofs.Told.{net_is}
-use Rattle.mn_net.specs.Tables.{best_for}
+use Rattle.mn_net_laws.specs.Now.{NetNow}
+use Rattle.mn_net_laws.proofs.Told.{net_is}
+use Rattle.mn_ledger.specs.Heads.{best_for}
 use Rattle.mn_net.proofs.Held.{edges_length, some_edge}
 use Rattle.mn_net.proofs.Open.{open_told}
 use Rattle.mn_net.proofs.net.Net.resolved_at.Goals as goal

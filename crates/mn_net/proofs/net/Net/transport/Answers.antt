@@ -1,10 +1,10 @@
 use Rattle.std.proofs.Common.{subst}
-use Rattle.mn_frames.specs.Given.{given}
-use Rattle.mn_frames.specs.Resting.{rested_of}
-use Rattle.mn_transport_model.specs.Stands.{IsNode}
-use Rattle.mn_net_moves.proofs.Told.{net_is, node_in}
+use Rattle.mn_frame_laws.specs.Given.{given}
+use Rattle.mn_frame_laws.specs.Resting.{rested_of}
+use Rattle.mn_transport_laws.specs.Stands.{IsNode}
+use Rattle.mn_net_laws.proofs.Told.{net_is, node_in}
 use Rattle.mn_ledger.specs.Ledger.{world_of}
-use Rattle.mn_net_moves.specs.Now.{NetNow}
+use Rattle.mn_net_laws.specs.Now.{NetNow}
 use Rattle.mn_net.proofs.net.Net.transport.Goals as goal
 
 pub node-requires : goal.node-requires

@@ -2,9 +2,9 @@ use Rattle.std.proofs.Common.{subst}
 use Rattle.mn_linkdb.specs.Trees.{IsTree}
 use Rattle.mn_topo.specs.Network.{wiring_of}
 use Rattle.mn_ledger.specs.Transport.{view_of}
-use Rattle.mn_net_moves.proofs.Told.{net_is, node_in, tree_told}
+use Rattle.mn_net_laws.proofs.Told.{net_is, node_in, tree_told}
 use Rattle.mn_ledger.specs.Ledger.{world_of}
-use Rattle.mn_net_moves.specs.Now.{NetNow}
+use Rattle.mn_net_laws.specs.Now.{NetNow}
 use Rattle.mn_net.proofs.net.Net.tree.Goals as goal
 
 pub node-requires : goal.node-requires

@@ -1,6 +1,6 @@
 use Rattle.std.proofs.Common.{[], ◌+◌, ◌∙◌, refl, arith}
-use Rattle.mn_net_moves.proofs.Moves.{net_may, net_done, as_it_is}
-use Rattle.mn_net_moves.proofs.Turns.{touched, link_may, notice_numbers, message_numbers, link_done}
+use Rattle.mn_net_laws.proofs.Moves.{net_may, net_done, as_it_is}
+use Rattle.mn_net_laws.proofs.Turns.{touched, link_may, notice_numbers, message_numbers, link_done}
 use Rattle.mn_net.specs.Turns.{link_step}
 use Rattle.mn_net.proofs.Few.{made_fits, changes_fit, later_fits}
 use Rattle.mn_net.proofs.Clocks.{clock_early}
@@ -28,12 +28,12 @@ act-requires-clause-numbers c =
     made_fits _ c.laws.ensures (c.self.invariant may.works)
 
 pub act-requires-clause-changes : goal.act-requires-clause-changes
-act-requires-clause-changes c = λ works.
+act-requires-clause-changes c =
     let may = net_may _ _ (link_step c.args.turn) [] c.self.view_is c.requires.may in
     changes_fit _ c.laws.ensures (c.self.invariant may.works)
 
 pub act-requires-clause-may : goal.act-requires-clause-may
-act-requires-clause-may c = λ works.
+act-requires-clause-may c =
     let may = net_may _ _ (link_step c.args.turn) [] c.self.view_is c.requires.may in
     link_may _ (link_step c.args.turn) c.laws.ensures (c.self.invariant may.works) may (touched (link_step c.args.turn) (of_transport c.args.turn))
 
@@ -49,18 +49,18 @@ overflow_add-self c =
 pub invariant_of-self-2 : goal.invariant_of-self-2
 invariant_of-self-2 c = λ works.
     let may = net_may _ _ (link_step c.args.turn) [] c.self.view_is c.requires.may in
-    (as_it_is _ _ (link_step c.args.turn) [] c.reserve.new.self.items c.push_reserved.new.self.items _
+    (as_it_is _ _ (link_step c.args.turn) [] c.reserve_entry.new.journal.items c.push_reserved.new.self.items _
     (link_done _ (link_step c.args.turn) c.act.new.transport c.begin.new.self c.in_ok-more.more (c.self.inside.made + c.in_ok-more.more) c.routes_stay_as_they_were.ensures
     c.laws.ensures
     (c.self.invariant may.works) may (of_transport c.args.turn) (moves_nothing c.args.turn) c.in_ok-more.ensures.did c.begin.ensures.begun refl) may.works
-    c.reserve.ensures.items (c.push_reserved.ensures.items ∙ as_said _ _ _ c.step.ensures)).is
+    c.reserve_entry.ensures.items (c.push_reserved.ensures.items ∙ as_said _ _ _ c.step.ensures)).is
 
 pub returns-clause-done : goal.returns-clause-done
 returns-clause-done c =
     let may = net_may _ _ (link_step c.args.turn) [] c.self.view_is c.requires.may in
     net_done _ _ _ (link_step c.args.turn) [] c.self.view_is
-    (as_it_is _ _ (link_step c.args.turn) [] c.reserve.new.self.items c.push_reserved.new.self.items _
+    (as_it_is _ _ (link_step c.args.turn) [] c.reserve_entry.new.journal.items c.push_reserved.new.self.items _
     (link_done _ (link_step c.args.turn) c.act.new.transport c.begin.new.self c.in_ok-more.more (c.self.inside.made + c.in_ok-more.more) c.routes_stay_as_they_were.ensures
     c.laws.ensures
     (c.self.invariant may.works) may (of_transport c.args.turn) (moves_nothing c.args.turn) c.in_ok-more.ensures.did c.begin.ensures.begun refl) may.works
-    c.reserve.ensures.items (c.push_reserved.ensures.items ∙ as_said _ _ _ c.step.ensures))
+    c.reserve_entry.ensures.items (c.push_reserved.ensures.items ∙ as_said _ _ _ c.step.ensures))

@@ -1,6 +1,6 @@
 use Rattle.std.proofs.Common.{[], ◌+◌, ◌∙◌, refl, arith}
-use Rattle.mn_net_moves.proofs.Moves.{net_may, net_done, as_it_is}
-use Rattle.mn_net_moves.proofs.Turns.{route_may, route_numbers, told_done, may_count}
+use Rattle.mn_net_laws.proofs.Moves.{net_may, net_done, as_it_is}
+use Rattle.mn_net_laws.proofs.Turns.{route_may, route_numbers, told_done, may_count}
 use Rattle.mn_net.specs.Turns.{route_step}
 use Rattle.mn_net.proofs.Few.{made_fits, later_fits}
 use Rattle.mn_net.proofs.Clocks.{clock_early}
@@ -23,7 +23,7 @@ act-requires-clause-messages c =
     route_numbers _ (c.self.invariant may.works)
 
 pub act-requires-clause-may : goal.act-requires-clause-may
-act-requires-clause-may c = λ works.
+act-requires-clause-may c =
     let may = net_may _ _ (route_step c.args.turn) [] c.self.view_is c.requires.may in
     route_may _ (route_step c.args.turn) (c.self.invariant may.works) may
 
@@ -45,18 +45,18 @@ overflow_add-self c =
 pub invariant_of-self-2 : goal.invariant_of-self-2
 invariant_of-self-2 c = λ works.
     let may = net_may _ _ (route_step c.args.turn) [] c.self.view_is c.requires.may in
-    (as_it_is _ _ (route_step c.args.turn) [] c.reserve.new.self.items c.push_reserved.new.self.items _
+    (as_it_is _ _ (route_step c.args.turn) [] c.reserve_entry.new.journal.items c.push_reserved.new.self.items _
     (told_done _ (route_step c.args.turn) c.act.new.routes c.begin.new.self c.count_static.new.tally c.in_ok-more.more (c.self.inside.made + c.in_ok-more.more)
     c.a_transport_goes_on_as_it_was.ensures c.laws.ensures
     (c.self.invariant may.works) may (of_routes c.args.turn) (of_routes_alone c.args.turn) c.in_ok-more.ensures.did c.begin.ensures.begun refl
-    (c.count_static.ensures ∙ counts_as _ c.step-step.ensures)) may.works c.reserve.ensures.items (c.push_reserved.ensures.items ∙ as_said _ _ _ c.step-step.ensures)).is
+    (c.count_static.ensures ∙ counts_as _ c.step-step.ensures)) may.works c.reserve_entry.ensures.items (c.push_reserved.ensures.items ∙ as_said _ _ _ c.step-step.ensures)).is
 
 pub returns-clause-done : goal.returns-clause-done
 returns-clause-done c =
     let may = net_may _ _ (route_step c.args.turn) [] c.self.view_is c.requires.may in
     net_done _ _ _ (route_step c.args.turn) [] c.self.view_is
-    (as_it_is _ _ (route_step c.args.turn) [] c.reserve.new.self.items c.push_reserved.new.self.items _
+    (as_it_is _ _ (route_step c.args.turn) [] c.reserve_entry.new.journal.items c.push_reserved.new.self.items _
     (told_done _ (route_step c.args.turn) c.act.new.routes c.begin.new.self c.count_static.new.tally c.in_ok-more.more (c.self.inside.made + c.in_ok-more.more)
     c.a_transport_goes_on_as_it_was.ensures c.laws.ensures
     (c.self.invariant may.works) may (of_routes c.args.turn) (of_routes_alone c.args.turn) c.in_ok-more.ensures.did c.begin.ensures.begun refl
-    (c.count_static.ensures ∙ counts_as _ c.step-step.ensures)) may.works c.reserve.ensures.items (c.push_reserved.ensures.items ∙ as_said _ _ _ c.step-step.ensures))
+    (c.count_static.ensures ∙ counts_as _ c.step-step.ensures)) may.works c.reserve_entry.ensures.items (c.push_reserved.ensures.items ∙ as_said _ _ _ c.step-step.ensures))

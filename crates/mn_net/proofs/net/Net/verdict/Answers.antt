@@ -1,7 +1,7 @@
 use Rattle.std.proofs.Common.{sym, ap, subst}
 use Rattle.mn_transit.specs.Stands as transit
-use Rattle.mn_net_moves.specs.Now.{NetNow}
-use Rattle.mn_frames.specs.Given.{given}
+use Rattle.mn_net_laws.specs.Now.{NetNow}
+use Rattle.mn_frame_laws.specs.Given.{given}
 use Rattle.mn_ledger.specs.Ledger.{packets_of}
 use Rattle.mn_net.proofs.net.Net.verdict.Goals as goal
 

@@ -3,9 +3,9 @@ use Rattle.mn_wiring.specs.Wiring.{links_of}
 use Rattle.mn_topo.specs.Network.{wiring_of}
 use Rattle.mn_wiring.specs.Wiring.{Wiring}
 use Rattle.mn_node.specs.Node.{Node}
-use Rattle.mn_net_moves.proofs.Told.{net_is, node_in}
+use Rattle.mn_net_laws.proofs.Told.{net_is, node_in}
 use Rattle.mn_ledger.specs.Ledger.{world_of}
-use Rattle.mn_net_moves.specs.Now.{NetNow}
+use Rattle.mn_net_laws.specs.Now.{NetNow}
 use Rattle.mn_net.proofs.net.Net.view.Goals as goal
 
 pub node-requires : goal.node-requires

@@ -1,9 +1,9 @@
 use Rattle.std.proofs.Common.{subst}
 use Rattle.mn_ledger.specs.Ledger.{world_of}
 use Rattle.mn_ledger.specs.Places.{edge_of}
-use Rattle.mn_frames.specs.Entries.{AreWays}
-use Rattle.mn_net_moves.specs.Now.{NetNow}
-use Rattle.mn_net_moves.proofs.Told.{net_is}
+use Rattle.mn_frame_laws.specs.Entries.{AreWays}
+use Rattle.mn_net_laws.specs.Now.{NetNow}
+use Rattle.mn_net_laws.proofs.Told.{net_is}
 use Rattle.mn_net.proofs.net.Net.ways_of.Goals as goal
 
 pub ways-requires-clause-stands : goal.ways-requires-clause-stands

@@ -1,5 +1,5 @@
 use Rattle.std.proofs.Common.{◌∙◌, ap, refl}
-use Rattle.mn_by_key.proofs.ByKey.{found}
+use Rattle.mn_by_key_laws.proofs.ByKey.{found}
 use Rattle.mn_offers.specs.Heard.{place_of, heard_at}
 use Rattle.mn_offers.proofs.ByName.{by_name}
 use Rattle.mn_offers.proofs.offers.Offers.get.Goals as goal

@@ -1,6 +1,6 @@
 use Rattle.std.proofs.Common.{◌∙◌, ap, refl, subst, sym}
 use Rattle.std.specs.Map.{values_of}
-use Rattle.mn_by_key.proofs.ByKey.{without_taken, kept_taken}
+use Rattle.mn_by_key_laws.proofs.ByKey.{without_taken, kept_taken}
 use Rattle.mn_offers.specs.Heard.{place_of, without_heard}
 use Rattle.mn_offers.specs.Kept.{AreByName}
 use Rattle.mn_offers.proofs.ByName.{by_name}

@@ -1,5 +1,5 @@
 use Rattle.std.proofs.Common.{◌∙◌, ap}
-use Rattle.mn_by_key.proofs.ByKey.{with_put, kept_put}
+use Rattle.mn_by_key_laws.proofs.ByKey.{with_put, kept_put}
 use Rattle.mn_offers.specs.Heard.{with_heard}
 use Rattle.mn_offers.specs.Kept.{name_of}
 use Rattle.mn_offers.proofs.ByName.{by_name}

@@ -1,5 +1,5 @@
 use Rattle.std.proofs.Common.{Ok, Err, Some, ◌∙◌, ap, sym, subst}
-use Rattle.mn_legs.specs.declared.leg.Which.TheVariants.{First, Second}
+use Rattle.mn_leg_laws.specs.declared.leg.Which.TheVariants.{First, Second}
 use Rattle.mn_option_a.specs.Pairs.{PairNow, PairStands}
 use Rattle.mn_option_a.specs.Moves.{Arrives, ArrivesIn}
 use Rattle.mn_option_a.proofs.Sending.{first_arrives, second_arrives}

@@ -1,5 +1,5 @@
 use Rattle.std.proofs.Common.{refl, sym, subst}
-use Rattle.mn_legs.specs.declared.leg.Which.TheVariants.{First, Second}
+use Rattle.mn_leg_laws.specs.declared.leg.Which.TheVariants.{First, Second}
 use Rattle.mn_option_a.specs.Pairs.{PairNow, PairStands}
 use Rattle.mn_option_a.specs.Moves.{Standing, HandsOver, Crosses}
 use Rattle.mn_option_a.proofs.HandedOver.{to_standing, first_crosses, second_crosses}

@@ -1,8 +1,8 @@
 use Rattle.std.proofs.Common.{refl, sym, subst}
 use Rattle.mn_entry.specs.Damages.{ending, mark_of}
 use Rattle.mn_damage.specs.Refusals.{damage_refusal}
-use Rattle.mn_legs.specs.Pairing.{network, side, with_damage}
-use Rattle.mn_legs.specs.declared.leg.Which.TheVariants.{First, Second}
+use Rattle.mn_leg_laws.specs.Pairing.{network, side, with_damage}
+use Rattle.mn_leg_laws.specs.declared.leg.Which.TheVariants.{First, Second}
 use Rattle.mn_option_a.specs.Pairs.{PairNow, PairStands}
 use Rattle.mn_option_a.specs.Moves.{Tries}
 use Rattle.mn_option_a.proofs.Sending.{first_tries, second_tries}

@@ -1,5 +1,5 @@
 use Rattle.std.proofs.Common.{◌≡◌, ◌≤◌, None, length}
-use Rattle.mn_legs.specs.Pairing.{Pairing, Both}
+use Rattle.mn_leg_laws.specs.Pairing.{Pairing, Both}
 use Rattle.mn_option_a.specs.Pairs.{PairStands}
 use Rattle.mn_option_a.specs.Moves.{PairGoesOn}
 use Rattle.mn_option_a.proofs.Coursing.{ComesOn}

@@ -1,7 +1,7 @@
 use Rattle.std.proofs.Common.{◌∙◌}
 use Rattle.mn_damage.specs.Refusals.{damage_refusal}
-use Rattle.mn_legs.specs.Pairing.{network, side, with_damage}
-use Rattle.mn_legs.specs.Course.{tried}
+use Rattle.mn_leg_laws.specs.Pairing.{network, side, with_damage}
+use Rattle.mn_leg_laws.specs.Course.{tried}
 use Rattle.mn_option_a.proofs.Growing.{damaged_before}
 use Rattle.mn_option_a.proofs.Coursing.{has_begun, tried_done, tried_not}
 use Rattle.mn_option_a.proofs.pair.Pair.do_damage.Goals as goal

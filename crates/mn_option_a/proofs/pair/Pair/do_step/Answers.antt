@@ -2,8 +2,8 @@ use Rattle.std.proofs.Common.{◌≡◌, false, [], Ok, Err, OnErr, ◌∙◌, a
 use Rattle.mn_topo.specs.declared.steps.Step.TheVariants.{Inject}
 use Rattle.mn_ledger.specs.Ledger.{injects}
 use Rattle.mn_sched.proofs.Telling.{not_inject}
-use Rattle.mn_legs.specs.Pairing.{with_plain_step}
-use Rattle.mn_legs.specs.Course.{PairCourse, refusal_on, tried, stepped}
+use Rattle.mn_leg_laws.specs.Pairing.{with_plain_step}
+use Rattle.mn_leg_laws.specs.Course.{PairCourse, refusal_on, tried, stepped}
 use Rattle.mn_option_a.specs.Pairs.{PairNow}
 use Rattle.mn_option_a.specs.Plays.{Plays}
 use Rattle.mn_option_a.specs.Moves.{Tries, StoodStill, sent, as_played, ended_by}

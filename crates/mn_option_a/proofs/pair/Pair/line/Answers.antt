@@ -1,6 +1,6 @@
 use Rattle.std.proofs.Common.{sym, subst}
-use Rattle.mn_course.specs.declared.coming.Arrivals.TheVariants.{News, AllFrames}
-use Rattle.mn_legs.specs.Course.{played, deliver}
+use Rattle.mn_course_laws.specs.declared.coming.Arrivals.TheVariants.{News, AllFrames}
+use Rattle.mn_leg_laws.specs.Course.{played, deliver}
 use Rattle.mn_option_a.specs.Plays.{Plays}
 use Rattle.mn_option_a.specs.Moves.{Takes}
 use Rattle.mn_option_a.proofs.Coursing.{takes_plays}

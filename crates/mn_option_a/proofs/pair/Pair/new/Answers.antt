@@ -1,6 +1,6 @@
 use Rattle.std.proofs.Common.{◌≤◌, ap, sym, subst, arith, length}
 use Rattle.mn_topo.specs.Network.{Network}
-use Rattle.mn_legs.specs.declared.leg.Which.TheVariants.{First, Second}
+use Rattle.mn_leg_laws.specs.declared.leg.Which.TheVariants.{First, Second}
 use Rattle.mn_option_a.specs.Ends.{LeadBelow}
 use Rattle.mn_option_a.specs.Pairs.{pairing_of}
 use Rattle.mn_option_a.proofs.Starting.{starts_side, starts, none_of, paced_first}

@@ -1,5 +1,5 @@
 use Rattle.std.proofs.Common.{Err, Some, refl, ap, sym, subst}
-use Rattle.mn_legs.specs.Course.{played}
+use Rattle.mn_leg_laws.specs.Course.{played}
 use Rattle.mn_option_a.specs.Pairs.{PairNow}
 use Rattle.mn_option_a.specs.Plays.{Plays}
 use Rattle.mn_option_a.proofs.Starting.{same_stands, same_plays}

@@ -1,7 +1,7 @@
 use Rattle.std.proofs.Common.{◌≡◌, ◌++◌, ◌∷◌, [], Ok, None, ◌∙◌, ap, sym, subst, arith, length}
 use Rattle.mn_topo.specs.declared.steps.Step.TheVariants.{Inject}
-use Rattle.mn_legs.specs.declared.leg.Which.TheVariants.{First, Second}
-use Rattle.mn_legs.specs.Course.{refusal_on}
+use Rattle.mn_leg_laws.specs.declared.leg.Which.TheVariants.{First, Second}
+use Rattle.mn_leg_laws.specs.Course.{refusal_on}
 use Rattle.mn_option_a.specs.Pairs.{PairNow, PairStands}
 use Rattle.mn_option_a.specs.Moves.{Enters, Tries, PairGoesOn, sent}
 use Rattle.mn_option_a.proofs.Sending.{first_sends, second_sends}

@@ -1,8 +1,8 @@
 use Rattle.std.proofs.Common.{[], refl, sym, subst}
 use Rattle.mn_topo.specs.declared.steps.Damaged.TheVariants.{Undamaged}
-use Rattle.mn_legs.specs.Pairing.{with_plain_step}
-use Rattle.mn_legs.specs.Course.{refusal_on}
-use Rattle.mn_legs.specs.declared.leg.Which.TheVariants.{First, Second}
+use Rattle.mn_leg_laws.specs.Pairing.{with_plain_step}
+use Rattle.mn_leg_laws.specs.Course.{refusal_on}
+use Rattle.mn_leg_laws.specs.declared.leg.Which.TheVariants.{First, Second}
 use Rattle.mn_option_a.specs.Pairs.{PairNow, PairStands}
 use Rattle.mn_option_a.specs.Moves.{Tries}
 use Rattle.mn_option_a.proofs.Sending.{first_tries, second_tries}

@@ -1,7 +1,7 @@
 use Rattle.std.proofs.Common.{ℕ, List, OnErr, sym, subst}
 use Rattle.mn_ledger.specs.Ledger.{packets_of}
 use Rattle.mn_lines.specs.Putting.{PutsPart}
-use Rattle.mn_net_now.specs.Now.{StandsFor}
+use Rattle.mn_net_laws.specs.Now.{StandsFor}
 use Rattle.mn_perform.specs.Whole.{last_text}
 use Rattle.mn_perform.proofs.Results.{on_err}
 use Rattle.mn_perform.proofs.desk.Desk.tell_end.Goals as goal

@@ -1,6 +1,6 @@
 use Rattle.std.proofs.Common.{ap}
 use Rattle.mn_record.proofs.Adding.{on_err, ok_then, err_then}
-use Rattle.mn_record.proofs.Closing.{labels_part, end_part, end_whole, end_framed}
+use Rattle.mn_record.proofs.Closing.{labels_part, end_part, end_whole, end_framed, end_writes}
 use Rattle.mn_record.proofs.books.Books.close.Goals as goal
 
 pub returns-in_err-put_labels-clause-part : goal.returns-in_err-put_labels-clause-part
@@ -29,3 +29,8 @@ returns-clause-framed g c =
     end_framed c.self.inside.output c.args.self.now c.put_labels.new.output (g.S.Shelf.files c.args.shelf.now) (g.S.Shelf.files c.put_labels.new.shelf)
     (g.S.Shelf.files c.end.new.shelf) c.self.view_is c.in_ok-put_labels.ensures.names
     c.in_ok-put_labels.ensures.framed c.end.ensures.framed
+
+pub returns-clause-writes : goal.returns-clause-writes
+returns-clause-writes g c =
+    end_writes c.self.inside.output c.args.self.now c.put_labels.new.output (g.S.Shelf.files c.args.shelf.now) (g.S.Shelf.files c.put_labels.new.shelf) _ _ _
+    c.end.result c.self.view_is c.in_ok-put_labels.ensures.names c.in_ok-put_labels.ensures.framed c.in_ok-put_labels.ensures.writes c.end.ensures.writes

@@ -1,7 +1,7 @@
 use Rattle.std.proofs.Common.{◌≡◌, ◌++◌, ◌∙◌, ap}
 use Rattle.mn_edge.specs.Written.{texts}
 use Rattle.mn_journal.specs.Lines.{line_of}
-use Rattle.mn_output.specs.Files.{Journal}
+use Rattle.mn_output_laws.specs.Files.{Journal}
 use Rattle.mn_files.proofs.Places.{one_number, journal_is}
 use Rattle.mn_record.proofs.Adding.{on_err, ok_then, err_then, seen_adds, seen_may, none_may}
 use Rattle.mn_record.proofs.output.Output.put_entry.Goals as goal

@@ -1,8 +1,8 @@
 use Rattle.std.proofs.Common.{◌≡◌, ◌++◌, ◌∙◌, ap}
 use Rattle.mn_edge.specs.Written.{texts}
-use Rattle.mn_output.specs.Files.{Labels}
+use Rattle.mn_output_laws.specs.Files.{Labels}
 use Rattle.mn_files.proofs.Places.{one_number, labels_are}
-use Rattle.mn_output.specs.Contents.{label_line}
+use Rattle.mn_output_laws.specs.Contents.{label_line}
 use Rattle.mn_record.proofs.Adding.{on_err, ok_then, err_then, seen_adds, seen_may, none_may}
 use Rattle.mn_record.proofs.output.Output.put_label.Goals as goal
 

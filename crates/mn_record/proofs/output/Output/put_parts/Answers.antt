@@ -1,7 +1,7 @@
 use Rattle.std.proofs.Common.{◌++◌, ◌∙◌}
 use Rattle.mn_pcap.specs.Format.{record_of}
 use Rattle.mn_record.specs.Adding.{only_in}
-use Rattle.mn_record.proofs.Adding.{on_err, ok_then, err_then, both_add, first_may, second_may, adds_as, may_as, three_in, framed_then}
+use Rattle.mn_record.proofs.Adding.{on_err, ok_then, err_then, both_add, first_may, second_may, adds_as, may_as, three_in, framed_then, writes_then, writes_out}
 use Rattle.mn_record.proofs.output.Output.put_parts.Goals as goal
 
 pub returns-in_err-put-clause-may : goal.returns-in_err-put-clause-may
@@ -56,3 +56,14 @@ returns-clause-framed g c =
     framed_then c.args.self.now.names c.put-2.new.self.names _ _ _ (c.in_ok-put-2.ensures.names ∙ c.in_ok-put.ensures.names)
     (framed_then c.args.self.now.names c.put.new.self.names _ _ _ c.in_ok-put.ensures.names c.in_ok-put.ensures.framed c.in_ok-put-2.ensures.framed)
     c.put-3.ensures.framed
+
+pub returns-in_err-put-2-clause-writes : goal.returns-in_err-put-2-clause-writes
+returns-in_err-put-2-clause-writes g c =
+    writes_out c.args.self.now.names c.put.new.self.names _ _ _ _ _ _ _ c.from_residual-in_err-put-2.ensures c.in_ok-put.ensures.names
+    c.in_ok-put.ensures.framed c.in_ok-put.ensures.writes c.in_err-put-2.ensures.writes
+
+pub returns-clause-writes : goal.returns-clause-writes
+returns-clause-writes g c =
+    writes_then c.args.self.now.names c.put-2.new.self.names _ _ _ _ _ c.put-3.result (c.in_ok-put-2.ensures.names ∙ c.in_ok-put.ensures.names)
+    (framed_then c.args.self.now.names c.put.new.self.names _ _ _ c.in_ok-put.ensures.names c.in_ok-put.ensures.framed c.in_ok-put-2.ensures.framed)
+    (c.in_ok-put-2.ensures.writes ∙ c.in_ok-put.ensures.writes) c.put-3.ensures.writes

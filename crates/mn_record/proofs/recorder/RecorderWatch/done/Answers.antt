@@ -1,4 +1,5 @@
-use Rattle.mn_record.proofs.Recording.{step_holds, step_begins}
+use Rattle.mn_record.proofs.Recording.{step_holds, step_begins, lacking_untold}
+use Rattle.mn_edge.specs.FaultLaws.{grew_by}
 use Rattle.mn_record.proofs.recorder.RecorderWatch.done.Goals as goal
 
 pub returns-in-Ok-clause-stands : goal.returns-in-Ok-clause-stands
@@ -26,3 +27,12 @@ returns-in-Err-NoMemory-clause-begins g c = λ all told.
     step_begins c.args.net.now all c.args.self.now.output.now c.write_step.new.output c.args.self.now.capture.now _ _ told
     c.write_step.ensures.names c.write_step.ensures.framed before.1
     (λ for. c.in-Err-NoMemory.ensures.may all before.0 made for)
+
+pub returns-in-Err-Failed-clause-cause : goal.returns-in-Err-Failed-clause-cause
+returns-in-Err-Failed-clause-cause g c = (
+  grew_by _ _ _ _
+      (lacking_untold c.args.self.now.output.now c.args.self.now.capture.now (g.S.Shelf.files c.args.self.now.shelf.now) _ _
+      (λ all told. (c.requires.stood all told).1))
+      (rw c.in-Err-Failed.field-0-is at c.in-Err-Failed.ensures.writes),
+  c.write_step.ensures.reads,
+)

@@ -1,8 +1,9 @@
 use Rattle.std.proofs.Common.{◌≡◌, ◌∙◌, sym, ap, refl, true, Some, length}
+use Rattle.mn_edge.specs.FaultLaws.{grew_by}
 use Rattle.mn_pcap.specs.Reading.{packet_of}
 use Rattle.mn_sched.specs.Watching.{is_record}
 use Rattle.mn_record.specs.Laws.{goes_on_same, goes_on_stays, packets_stay, holding_stays}
-use Rattle.mn_record.proofs.Recording.{record_within, is_its_packet}
+use Rattle.mn_record.proofs.Recording.{record_within, is_its_packet, absent_untold}
 use Rattle.mn_record.proofs.recorder.RecorderWatch.packet.Goals as goal
 
 pub returns-then-not-is_record : goal.returns-then-not-is_record
@@ -55,7 +56,12 @@ returns-in-Err-Failed g c = (
     refl,
     (λ _. tt),
     (
-      (rw c.in-Err-Failed.field-0-is at c.in-Err-Failed.ensures.reads, c.fetch.ensures.writes),
+      (
+        grew_by _ _ _ _
+            (absent_untold (g.S.Shelf.files c.args.self.now.shelf.now) c.args.self.now.output.now.names c.args.self.now.capture.now)
+            (rw c.in-Err-Failed.field-0-is at c.in-Err-Failed.ensures.reads),
+        c.fetch.ensures.writes,
+      ),
       refl,
       packets_stay c.args.self.now.output.now.names
           c.args.self.now.capture.now (g.S.Shelf.files c.args.self.now.shelf.now) (g.S.Shelf.files c.fetch.new.shelf) c.fetch.ensures.same,

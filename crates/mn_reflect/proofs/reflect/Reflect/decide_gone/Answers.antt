@@ -1,10 +1,10 @@
 use Rattle.std.proofs.Common.{◌≡◌, ◌<◌, List, [], ◌∷◌, length, ap, sym, subst, ◌∙◌, rules}
 use Rattle.std.specs.List.{AllByRecursion}
 use Rattle.mn_offers.specs.Heard.{Heard}
-use Rattle.mn_reflection.specs.Words.{Key}
-use Rattle.mn_reflect_model.specs.Now.{ReflectNow}
-use Rattle.mn_reflect_model.specs.Choice.{row_at, names_in}
-use Rattle.mn_reflect_model.specs.Goes.{decide_all}
+use Rattle.mn_reflection_laws.specs.Words.{Key}
+use Rattle.mn_reflect_laws.specs.Now.{ReflectNow}
+use Rattle.mn_reflect_laws.specs.Choice.{row_at, names_in}
+use Rattle.mn_reflect_laws.specs.Goes.{decide_all}
 use Rattle.mn_reflect_telling.specs.Names.{named}
 use Rattle.mn_reflect_telling.specs.Mentions.{key_of_heard}
 use Rattle.mn_reflect_telling.specs.Passing.{IsPassable}

@@ -1,6 +1,6 @@
 use Rattle.std.proofs.Common.{◌<◌, refl, subst, sym, length}
 use Rattle.std.specs.List.{AllByRecursion}
-use Rattle.mn_reflect_model.specs.Now.{ReflectNow}
+use Rattle.mn_reflect_laws.specs.Now.{ReflectNow}
 use Rattle.mn_reflect.proofs.Turns.{nodes_are}
 use Rattle.mn_reflect.proofs.Views.{view_of, kept_there}
 use Rattle.mn_reflect.proofs.reflect.Reflect.decision.Goals as goal

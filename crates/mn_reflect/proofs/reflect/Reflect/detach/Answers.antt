@@ -2,12 +2,12 @@ use Rattle.std.proofs.Common.{◌∙◌, ap, subst, sym, false}
 use Rattle.mn_ledger.specs.Places.{home_of}
 use Rattle.mn_pe.specs.Edge.{after_detach}
 use Rattle.mn_pe.specs.Exports.{exports_over}
-use Rattle.mn_reflect_model.specs.Now.{ReflectNow}
-use Rattle.mn_reflect_model.specs.Goes.{edge_of_node}
+use Rattle.mn_reflect_laws.specs.Now.{ReflectNow}
+use Rattle.mn_reflect_laws.specs.Goes.{edge_of_node}
 use Rattle.mn_reflect.specs.Doing.{IsEdgeAt, changed_edge}
 use Rattle.mn_reflect_telling.proofs.Results.{on_ok}
 use Rattle.mn_reflect.proofs.Edging.{told_so}
-use Rattle.mn_routing_model.specs.Doing.{AreSayable}
+use Rattle.mn_routing_laws.specs.Doing.{AreSayable}
 use Rattle.mn_reflect.proofs.reflect.Reflect.detach.Goals as goal
 
 pub detach_on_edge-requires-clause-there : goal.detach_on_edge-requires-clause-there

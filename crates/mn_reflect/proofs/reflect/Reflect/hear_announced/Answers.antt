@@ -1,9 +1,9 @@
 use Rattle.std.proofs.Common.{◌≡◌, ◌<◌, Some, length, ap, subst, sym, ◌∙◌}
 use Rattle.std.specs.Prelude.{OnOk}
 use Rattle.mn_reflect_telling.proofs.Results.{on_ok}
-use Rattle.mn_reflection.specs.Words.{Key}
-use Rattle.mn_reflection.specs.Picks.{is_reflector}
-use Rattle.mn_reflect_model.specs.Now.{ReflectNow}
+use Rattle.mn_reflection_laws.specs.Words.{Key}
+use Rattle.mn_reflection_laws.specs.Picks.{is_reflector}
+use Rattle.mn_reflect_laws.specs.Now.{ReflectNow}
 use Rattle.mn_reflect_telling.specs.Names.{named}
 use Rattle.mn_reflect_telling.specs.Mentions.{key_of_heard}
 use Rattle.mn_reflect.specs.Doing.{MayTurn, route_heard}

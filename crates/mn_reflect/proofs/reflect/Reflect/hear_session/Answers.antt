@@ -1,11 +1,11 @@
 use Rattle.std.proofs.Common.{◌<◌, ◌∙◌, ap, refl, subst, sym, length, [], Some, None}
-use Rattle.mn_reflect_model.specs.Now.{ReflectNow}
+use Rattle.mn_reflect_laws.specs.Now.{ReflectNow}
 use Rattle.mn_reflect.specs.Doing.{with_end}
 use Rattle.mn_reflect.proofs.Views.{view_of}
 use Rattle.std.proofs.lemmas.Option.{same_Some}
 use Rattle.std.specs.Prelude.{slice_index_or}
 use Rattle.mn_bgp_session.specs.Table.{after_message}
-use Rattle.mn_reflect_model.specs.Goes.{end_in}
+use Rattle.mn_reflect_laws.specs.Goes.{end_in}
 use Rattle.mn_reflect.specs.Doing.{state_of_word, next_of}
 use Rattle.mn_reflect.proofs.Ends.{its_end, end_put, end_whole}
 use Rattle.mn_reflect.proofs.Hearing.{it_becomes, one_word}

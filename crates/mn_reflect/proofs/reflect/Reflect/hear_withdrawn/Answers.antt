@@ -1,7 +1,7 @@
 use Rattle.std.proofs.Common.{◌<◌, None, length, ap, subst, sym, ◌∙◌}
 use Rattle.mn_reflect_telling.proofs.Results.{on_ok}
-use Rattle.mn_reflection.specs.Picks.{is_reflector}
-use Rattle.mn_reflect_model.specs.Now.{ReflectNow}
+use Rattle.mn_reflection_laws.specs.Picks.{is_reflector}
+use Rattle.mn_reflect_laws.specs.Now.{ReflectNow}
 use Rattle.mn_reflect_telling.specs.Names.{named}
 use Rattle.mn_reflect.specs.Doing.{MayTurn}
 use Rattle.mn_reflect.proofs.Turns.{as_told, may_keep, told_and_kept, kept_and_decided}

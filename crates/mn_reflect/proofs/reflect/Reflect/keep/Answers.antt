@@ -1,6 +1,6 @@
 use Rattle.std.proofs.Common.{◌<◌, ◌∙◌, ap, refl, subst, sym, length}
-use Rattle.mn_reflect_model.specs.Now.{ReflectNow}
-use Rattle.mn_reflect_model.specs.Choice.{row_at}
+use Rattle.mn_reflect_laws.specs.Now.{ReflectNow}
+use Rattle.mn_reflect_laws.specs.Choice.{row_at}
 use Rattle.mn_reflect_telling.specs.Names.{named}
 use Rattle.mn_reflect.specs.Doing.{with_row, mentioned_in}
 use Rattle.mn_reflect_telling.proofs.Results.{on_ok}

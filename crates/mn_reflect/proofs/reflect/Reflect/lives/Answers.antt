@@ -1,5 +1,5 @@
 use Rattle.std.proofs.Common.{◌<◌, refl, subst, sym, length}
-use Rattle.mn_reflect_model.specs.Now.{ReflectNow}
+use Rattle.mn_reflect_laws.specs.Now.{ReflectNow}
 use Rattle.mn_reflect.proofs.Views.{view_of}
 use Rattle.mn_reflect.proofs.Ends.{has_end}
 use Rattle.mn_reflect.proofs.reflect.Reflect.lives.Goals as goal

@@ -3,9 +3,9 @@ use Rattle.mn_ledger.specs.Places.{edge_of}
 use Rattle.mn_vrf.specs.Vrf.{VrfState, set_refused}
 use Rattle.mn_pe.specs.Pe.{found_in}
 use Rattle.mn_pe.specs.Exports.{exports_at}
-use Rattle.mn_routing_model.specs.Doing.{AreSayable, AreNews}
-use Rattle.mn_reflect_model.specs.Now.{ReflectNow}
-use Rattle.mn_reflect_model.specs.Goes.{edge_of_node}
+use Rattle.mn_routing_laws.specs.Doing.{AreSayable, AreNews}
+use Rattle.mn_reflect_laws.specs.Now.{ReflectNow}
+use Rattle.mn_reflect_laws.specs.Goes.{edge_of_node}
 use Rattle.mn_reflect.specs.Changing.{exports_changed}
 use Rattle.mn_reflect.specs.Doing.{IsEdgeAt, changed_edge}
 use Rattle.mn_reflect_telling.proofs.Results.{on_ok}

@@ -1,5 +1,5 @@
 use Rattle.std.proofs.Common.{◌<◌, ◌∙◌, [], ap, refl, subst, sym, length}
-use Rattle.mn_reflect_model.specs.Now.{ReflectNow}
+use Rattle.mn_reflect_laws.specs.Now.{ReflectNow}
 use Rattle.mn_reflect.specs.Doing.{with_row}
 use Rattle.mn_reflect.proofs.Views.{view_of, has_place, row_put, whole_then}
 use Rattle.mn_reflect.proofs.reflect.Reflect.take_row.Goals as goal

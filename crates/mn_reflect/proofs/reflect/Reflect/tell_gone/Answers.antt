@@ -2,10 +2,10 @@ use Rattle.std.proofs.Common.{List, [], ◌<◌, ◌∙◌, ap, refl, subst, sym
 use Rattle.std.specs.Prelude.{slice_index_or}
 use Rattle.std.specs.List.{AllByRecursion}
 use Rattle.mn_base.specs.declared.numbers.NodeNo.{NodeNo}
-use Rattle.mn_reflect_model.specs.Now.{ReflectNow}
-use Rattle.mn_reflect_model.specs.Choice.{row_at, names_in}
-use Rattle.mn_reflect_model.specs.Letters.{reflector_news}
-use Rattle.mn_reflect_model.specs.Goes.{steady_of}
+use Rattle.mn_reflect_laws.specs.Now.{ReflectNow}
+use Rattle.mn_reflect_laws.specs.Choice.{row_at, names_in}
+use Rattle.mn_reflect_laws.specs.Letters.{reflector_news}
+use Rattle.mn_reflect_laws.specs.Goes.{steady_of}
 use Rattle.mn_reflect_telling.specs.Mentions.{numbers_of, row_with}
 use Rattle.mn_reflect_telling.specs.Passing.{IsPassable}
 use Rattle.mn_reflect.specs.Doing.{with_letters}

@@ -1,5 +1,5 @@
 use Rattle.std.proofs.Common.{◌<◌, ◌∙◌, refl, subst, sym, length}
-use Rattle.mn_reflect_model.specs.Now.{ReflectNow}
+use Rattle.mn_reflect_laws.specs.Now.{ReflectNow}
 use Rattle.mn_reflect.proofs.Views.{view_of, few_ends, peers_there}
 use Rattle.mn_reflect.proofs.reflect.Reflect.tell_peers.Goals as goal
 

@@ -2,9 +2,9 @@ use Rattle.std.proofs.Common.{List, [], ◌<◌, ◌∙◌, ap, map, refl, subst
 use Rattle.std.specs.Prelude.{slice_index_or}
 use Rattle.std.specs.List.{AllByRecursion}
 use Rattle.mn_base.specs.declared.numbers.NodeNo.{NodeNo}
-use Rattle.mn_reflect_model.specs.Now.{ReflectNow}
-use Rattle.mn_reflect_model.specs.Choice.{row_at, all_names}
-use Rattle.mn_reflect_model.specs.Letters.{reflector_offers}
+use Rattle.mn_reflect_laws.specs.Now.{ReflectNow}
+use Rattle.mn_reflect_laws.specs.Choice.{row_at, all_names}
+use Rattle.mn_reflect_laws.specs.Letters.{reflector_offers}
 use Rattle.mn_reflect_telling.specs.Mentions.{numbers_of, AreKept}
 use Rattle.mn_reflect_telling.specs.Names.{key_in}
 use Rattle.mn_reflect.specs.Doing.{with_letters}

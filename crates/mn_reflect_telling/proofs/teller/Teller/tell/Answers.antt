@@ -1,7 +1,7 @@
 use Rattle.std.proofs.Common.{◌≡◌, length, arith, sym, ◌∙◌}
 use Rattle.mn_base.specs.declared.numbers.NodeNo.{NodeNo}
-use Rattle.mn_reflect_model.specs.Choice.{offered_of}
-use Rattle.mn_reflect_model.specs.Letters.{change_letters}
+use Rattle.mn_reflect_laws.specs.Choice.{offered_of}
+use Rattle.mn_reflect_laws.specs.Letters.{change_letters}
 use Rattle.mn_reflect_telling.specs.Mentions.{numbers_of}
 use Rattle.mn_reflect_telling.specs.Names.{named}
 use Rattle.mn_reflect_telling.proofs.Posting.{told_at, told_all}

@@ -1,7 +1,7 @@
 use Rattle.std.proofs.Common.{◌≡◌, None, length, arith, sym, ap, ◌∙◌}
-use Rattle.mn_reflection.specs.Words.{Key}
-use Rattle.mn_reflect_model.specs.Choice.{offered_of}
-use Rattle.mn_reflect_model.specs.Letters.{change_letters}
+use Rattle.mn_reflection_laws.specs.Words.{Key}
+use Rattle.mn_reflect_laws.specs.Choice.{offered_of}
+use Rattle.mn_reflect_laws.specs.Letters.{change_letters}
 use Rattle.mn_reflect_telling.specs.declared.name.Name.{Name}
 use Rattle.mn_reflect_telling.specs.Mentions.{numbers_of, row_in}
 use Rattle.mn_reflect_telling.specs.Names.{named, key_in}

@@ -1,7 +1,7 @@
 use Rattle.std.proofs.Common.{◌∙◌, ap, refl, subst, sym}
 use Rattle.std.specs.Option.{is_some}
 use Rattle.std.specs.Map.{values_of}
-use Rattle.mn_by_key.proofs.ByKey.{without_taken, kept_taken, found, has_found}
+use Rattle.mn_by_key_laws.proofs.ByKey.{without_taken, kept_taken, found, has_found}
 use Rattle.mn_rib_in.specs.Heard.{heard_before, place_of, without_heard, has_heard}
 use Rattle.mn_rib_in.specs.Kept.{AreByPlace}
 use Rattle.mn_rib_in.proofs.ByPlace.{by_place}

@@ -1,5 +1,5 @@
 use Rattle.std.proofs.Common.{◌∙◌, ap, refl}
-use Rattle.mn_by_key.proofs.ByKey.{with_put, kept_put}
+use Rattle.mn_by_key_laws.proofs.ByKey.{with_put, kept_put}
 use Rattle.mn_rib_in.specs.Heard.{Heard, with_heard}
 use Rattle.mn_rib_in.proofs.ByPlace.{by_place}
 use Rattle.mn_rib_in.proofs.rib.RibIn.set.Goals as goal

@@ -1,8 +1,8 @@
 use Rattle.std.proofs.Common.{true, false, ◌∙◌}
 use Rattle.mn_ledger.specs.Places.{home_of}
 use Rattle.mn_pe.specs.Exports.{export_of}
-use Rattle.mn_routing_model.specs.Doing.{edge_at, those_of, static_added}
-use Rattle.mn_routing_model.proofs.Said.{told_on}
+use Rattle.mn_routing_laws.specs.Doing.{edge_at, those_of, static_added}
+use Rattle.mn_routing_laws.proofs.Said.{told_on}
 use Rattle.mn_routing.proofs.routes.Routes.add_at.Goals as goal
 
 pub returns : goal.returns

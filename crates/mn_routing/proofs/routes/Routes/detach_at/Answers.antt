@@ -2,8 +2,8 @@ use Rattle.std.proofs.Common.{true, false, ◌∙◌}
 use Rattle.mn_ledger.specs.Places.{home_of}
 use Rattle.mn_pe.specs.Edge.{after_detach}
 use Rattle.mn_pe.specs.Exports.{exports_over}
-use Rattle.mn_routing_model.specs.Doing.{edge_at}
-use Rattle.mn_routing_model.proofs.Said.{told_on}
+use Rattle.mn_routing_laws.specs.Doing.{edge_at}
+use Rattle.mn_routing_laws.proofs.Said.{told_on}
 use Rattle.mn_routing.proofs.routes.Routes.detach_at.Goals as goal
 
 pub returns : goal.returns

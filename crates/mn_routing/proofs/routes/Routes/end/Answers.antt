@@ -1,4 +1,4 @@
-use Rattle.mn_routing_model.proofs.Opening.{ends_so, second_there}
+use Rattle.mn_routing_laws.proofs.Opening.{ends_so, second_there}
 use Rattle.mn_routing.proofs.routes.Routes.end.Goals as goal
 
 pub forget-requires-2 : goal.forget-requires-2

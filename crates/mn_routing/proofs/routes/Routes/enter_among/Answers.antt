@@ -2,9 +2,9 @@ use Rattle.std.proofs.Common.{◌≡◌, ◌<◌, ◌∙◌, ap, subst, sym, ref
 use Rattle.std.specs.Prelude.{slice_index_or, option_map}
 use Rattle.mn_ledger.specs.Places.{vrf_of}
 use Rattle.mn_ledger.specs.Ledger.{world_of}
-use Rattle.mn_laws.proofs.There.{vrf_there}
-use Rattle.mn_frames.specs.Given.{given}
-use Rattle.mn_routing_model.proofs.Enters.{some_edge, enters_among}
+use Rattle.mn_ledger_laws.proofs.There.{vrf_there}
+use Rattle.mn_frame_laws.specs.Given.{given}
+use Rattle.mn_routing_laws.proofs.Enters.{some_edge, enters_among}
 use Rattle.mn_routing.proofs.Rows.{if_ok}
 use Rattle.mn_routing.proofs.Edges.{within}
 use Rattle.mn_routing.proofs.routes.Routes.enter_among.Goals as goal

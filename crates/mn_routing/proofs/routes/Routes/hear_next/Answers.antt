@@ -2,7 +2,7 @@ use Rattle.std.proofs.Common.{◌≡◌, ◌∙◌, subst, sym}
 use Rattle.mn_bgp_wire.specs.declared.message.BgpMessage.{BgpMessage}
 use Rattle.mn_bgp_wire.specs.Grammar.{IsBgp}
 use Rattle.mn_bgp_session.specs.declared.table.BgpReply.{BgpReply}
-use Rattle.mn_routing_model.specs.Doing.{MayHear}
+use Rattle.mn_routing_laws.specs.Doing.{MayHear}
 use Rattle.mn_routing.proofs.Chains.{found_labels, answered, three_has, three_exports, three_one, three_below, hears_so}
 use Rattle.mn_routing.proofs.routes.Routes.hear_next.Goals as goal
 

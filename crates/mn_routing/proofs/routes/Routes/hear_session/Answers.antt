@@ -2,9 +2,9 @@ use Rattle.std.proofs.Common.{◌≡◌, ◌<◌, ◌∙◌, ap, refl, subst, sy
 use Rattle.std.specs.Prelude.{slice_get, slice_index_or, option_map}
 use Rattle.mn_bgp_session.specs.declared.session.BgpSession.{BgpSession}
 use Rattle.mn_bgp_session.specs.Table as table
-use Rattle.mn_routing_model.specs.Routed.{Routed}
-use Rattle.mn_routing_model.specs.Doing.{with_end}
-use Rattle.mn_routing_model.proofs.Placed.{index_of}
+use Rattle.mn_routing_laws.specs.Routed.{Routed}
+use Rattle.mn_routing_laws.specs.Doing.{with_end}
+use Rattle.mn_routing_laws.proofs.Placed.{index_of}
 use Rattle.mn_routing.proofs.Rows.{row_set, session_is, same_ok}
 use Rattle.mn_routing.proofs.routes.Routes.hear_session.Goals as goal
 
@@ -18,7 +18,7 @@ returns-clause-heard c =
     c.from-2.ensures within
     c.index_mut-2.result.now c.in-Some.end answered.session c.index_mut-2.ensures.value c.in-Some.is
     (ap (λ (x : Routed). slice_get (slice_index_or x.sessions c.args.edge.0 []) c.args.peer.0) c.self.view_is ∙ answered.lives) in
-    ap (λ rows. let r : Routed = record { edges = i.edges.items; sessions = rows; messages = i.messages.items; failed = i.failed } in r)
+    ap (λ rows. let r : Routed = record { edges = i.edges.items; sessions = rows; messages = i.messages.items } in r)
     (row_set _ i.sessions.items c.from.result c.from-2.result c.args.edge.0 c.args.peer.0 c.index_mut.result.now c.index_mut.ensures.value c.from.ensures
     c.from-2.ensures within _ (Some c.hear.new.self) refl)
     ∙ ap (with_end c.args.edge.0 c.args.peer.0 (Some c.hear.new.self)) c.self.view_is

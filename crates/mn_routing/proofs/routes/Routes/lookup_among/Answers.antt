@@ -1,6 +1,6 @@
 use Rattle.std.proofs.Common.{◌≡◌, ◌<◌, ◌∙◌, ap, subst, sym, refl, length, Some, None}
 use Rattle.std.specs.Prelude.{slice_index_or, option_map}
-use Rattle.mn_routing_model.proofs.Enters.{some_edge, looks_among}
+use Rattle.mn_routing_laws.proofs.Enters.{some_edge, looks_among}
 use Rattle.mn_routing.proofs.Edges.{within}
 use Rattle.mn_routing.proofs.routes.Routes.lookup_among.Goals as goal
 

@@ -2,7 +2,7 @@ use Rattle.std.proofs.Common.{◌≡◌, length, refl, sym, ◌∙◌, ap, subst
 use Rattle.std.proofs.lemmas.List.{length-map}
 use Rattle.mn_flight.proofs.Kept.{none_flies}
 use Rattle.mn_flight.specs.Flying.{IsFlight}
-use Rattle.mn_routing_model.proofs.Starts.{stands_first, channels_first}
+use Rattle.mn_routing_laws.proofs.Starts.{stands_first, channels_first}
 use Rattle.mn_routing.proofs.routes.Routes.new.Goals as goal
 
 pub invariant_of-result : goal.invariant_of-result
@@ -20,4 +20,4 @@ pub returns-clause-stands : goal.returns-clause-stands
 returns-clause-stands c =
     let t = c.args.topology.now in
     let many : length c.nodes-nodes.result.now ≡ length t.loopbacks = ap length c.nodes-nodes.ensures ∙ length-map t.loopbacks _ in
-    stands_first t _ (length c.nodes-nodes.result.now) many refl c.in_ok-edges.ensures c.in_ok-sessions.ensures c.in_ok-messages.ensures.items
+    stands_first t _ (length c.nodes-nodes.result.now) many c.in_ok-edges.ensures c.in_ok-sessions.ensures c.in_ok-messages.ensures.items

@@ -1,5 +1,5 @@
 use Rattle.std.proofs.Common.{Some}
-use Rattle.mn_routing_model.proofs.Opening.{cut_below, opens_so}
+use Rattle.mn_routing_laws.proofs.Opening.{cut_below, opens_so}
 use Rattle.mn_routing.proofs.routes.Routes.open.Goals as goal
 
 pub say_open-requires-clause-number : goal.say_open-requires-clause-number

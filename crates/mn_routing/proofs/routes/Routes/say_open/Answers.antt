@@ -1,6 +1,6 @@
 use Rattle.std.proofs.Common.{◌<◌, refl, subst, sym}
 use Rattle.std.specs.List.{All}
-use Rattle.mn_routing_model.specs.Routed.{Routed}
+use Rattle.mn_routing_laws.specs.Routed.{Routed}
 use Rattle.mn_routing.proofs.Rows.{sent_below}
 use Rattle.mn_routing.proofs.routes.Routes.say_open.Goals as goal
 

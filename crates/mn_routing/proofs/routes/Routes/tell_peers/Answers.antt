@@ -1,7 +1,7 @@
 use Rattle.std.proofs.Common.{◌≡◌, ◌∙◌, ap, length, []}
 use Rattle.std.specs.Prelude.{slice_index_or}
-use Rattle.mn_routing_model.specs.Routed.{Routed}
-use Rattle.mn_routing_model.proofs.Putting.{told_to_nodes}
+use Rattle.mn_routing_laws.specs.Routed.{Routed}
+use Rattle.mn_routing_laws.proofs.Putting.{told_to_nodes}
 use Rattle.mn_routing.proofs.routes.Routes.tell_peers.Goals as goal
 
 pub tell-requires-clause-peers : goal.tell-requires-clause-peers

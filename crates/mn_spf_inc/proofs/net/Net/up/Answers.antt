@@ -12,4 +12,4 @@ returns c =
     let l = c.args.number.0 in
     let there : l < length ups = omega (arith, c.requires, c.self.invariant.one_each, ap (λ (v : Learned). length v.ends) c.self.view_is) in
     c.index.ensures ∙ ap (λ n. get_or ups n c.index.result.now) c.from.ensures ∙ get_or_default ups l c.index.result.now false there
-    ∙ sym (up_is (length c.self.inside.at.items) l c.self.inside.ends.items ups there) ∙ ap (λ (v : Learned). is_up (links_up v) l) c.self.view_is
+    ∙ sym (up_is (length c.self.inside.at) l c.self.inside.ends ups there) ∙ ap (λ (v : Learned). is_up (links_up v) l) c.self.view_is

@@ -3,7 +3,7 @@ use Rattle.mn_wiring.specs.Wiring.{sender}
 use Rattle.mn_flight.specs.Flying.{off_channel}
 use Rattle.mn_topo.specs.Network.{wiring_of}
 use Rattle.mn_ledger.specs.Packets.{Packets, channel}
-use Rattle.mn_frames.specs.Given.{Labelling}
+use Rattle.mn_frame_laws.specs.Given.{Labelling}
 use Rattle.mn_transit.specs.Moving.{CountsOn}
 use Rattle.mn_transit.specs.Stands.{StandsFor}
 use Rattle.mn_transit.proofs.Going.{CutsTo}

@@ -1,8 +1,8 @@
 use Rattle.std.proofs.Common.{◌<◌, length, refl, ap, ◌∙◌, arith}
 use Rattle.mn_wiring.specs.declared.links.LinkEnds.{LinkEnds}
 use Rattle.std.specs.Prelude.{List, not}
-use Rattle.mn_timetable.specs.Keys.{Key, keys_in, is_past}
-use Rattle.mn_timetable.proofs.Timed.{keys_kept}
+use Rattle.mn_timetable_laws.specs.Keys.{Key, keys_in, is_past}
+use Rattle.mn_timetable_laws.proofs.Timed.{keys_kept}
 use Rattle.mn_transit.proofs.Aging.{ages_start, ages_next, ages_end, below_none, below_next, below_all}
 use Rattle.mn_transit.proofs.Counts.{counts_then, counts_still}
 use Rattle.mn_transit.proofs.transit.Transit.expire.Goals as goal

@@ -1,7 +1,7 @@
 use Rattle.std.proofs.Common.{◌≡◌, ◌≤◌, filter, length}
 use Rattle.mn_ledger.specs.Packets.{Packets}
-use Rattle.mn_frames.specs.Given.{Labelling}
-use Rattle.mn_timetable.specs.Keys.{keys_in, FlyInOrder}
+use Rattle.mn_frame_laws.specs.Given.{Labelling}
+use Rattle.mn_timetable_laws.specs.Keys.{keys_in, FlyInOrder}
 use Rattle.mn_transit.specs.Moving.{CountsOn}
 use Rattle.mn_transit.specs.Stands.{StandsFor}
 use Rattle.mn_transit.specs.Aging.{DueAsSent}

@@ -2,8 +2,8 @@ use Rattle.std.proofs.Common.{◌≡◌, length, filter}
 use Rattle.mn_wiring.specs.Wiring.{sender}
 use Rattle.mn_topo.specs.Network.{wiring_of}
 use Rattle.mn_ledger.specs.Packets.{Packets, channel}
-use Rattle.mn_frames.specs.Given.{Labelling}
-use Rattle.mn_timetable.specs.Keys.{keys_in, FlyInOrder}
+use Rattle.mn_frame_laws.specs.Given.{Labelling}
+use Rattle.mn_timetable_laws.specs.Keys.{keys_in, FlyInOrder}
 use Rattle.mn_transit.specs.Moving.{CountsOn}
 use Rattle.mn_transit.specs.Stands.{StandsFor}
 use Rattle.mn_transit.specs.Aging.{DueAsSent, limit_on}

@@ -1,29 +1,20 @@
 use Rattle.std.proofs.Common.{ℕ, ◌≡◌, ◌↔◌, ◌+◌, length, Ok, Err}
 use Rattle.std.specs.Prelude.{IsErrOf, Result}
+use Rattle.std.proofs.lemmas.Result.{err_from_is_err_and}
 use Rattle.mn_labels.specs.declared.refusal.LabelBad.{LabelBad}
 use Rattle.mn_labels.specs.declared.refusal.LabelBad.TheVariants as bad
-use Rattle.mn_transport_model.specs.Carried.{Carried}
-use Rattle.mn_transport_model.proofs.Attaching.{IsAttached, IsSpent}
-use Rattle.mn_transport_model.proofs.Sited.{attached-goes, attached-label, attached-next, still-stands}
+use Rattle.mn_transport_laws.specs.Carried.{Carried}
+use Rattle.mn_transport.specs.Inside.{carried_in}
+use Rattle.mn_transport_laws.proofs.Attaching.{IsAttached, IsSpent}
+use Rattle.mn_transport_laws.proofs.Sited.{attached-goes, attached-label, attached-next, still-stands}
 use Rattle.mn_transport.proofs.Spent.{spent-at}
 use Rattle.mn_transport.proofs.transport.Transport.attach.Goals as goal
 
-pub returns-in-Ok-clause-goes : goal.returns-in-Ok-clause-goes
-returns-in-Ok-clause-goes c =
-    let i = c.self.inside in
-    let old : Carried =
-    record {
-      nodes = i.nodes.items;
-      changes = i.changes;
-      switches = i.switches.items;
-      labels = i.labels.items;
-      notices = i.notices.items;
-      messages =
-          i.messages.items;
-      failed = i.failed;
-    } in
-    let done = c.in-Ok.ensures in
-    let did : IsAttached c.args.site c.index_mut-edge.result.now c.attach.new.self c.in-Ok.label =
+pub returns-clause-goes : goal.returns-clause-goes
+returns-clause-goes c =
+    let old : Carried = carried_in c.self.inside in
+    let done = c.in_ok-label.ensures in
+    let did : IsAttached c.args.site c.index_mut-edge.result.now c.attach.new.self c.in_ok-label.label =
     record {
       label_is = done.label;
       labels_are = done.given;
@@ -36,24 +27,13 @@ returns-in-Ok-clause-goes c =
     λ journal tick stands turn.
     attached-goes c.args.topology.now c.laws.ensures old c.args.self.now c.self.view_is c.args.site c.home_of-home.result.0 c.from.result
     c.home_of-home.ensures.home c.from.ensures c.home_of-home.ensures.there
-    c.index_mut-edge.result.now c.index_mut-edge.ensures.value c.attach.new.self c.in-Ok.label c.from-in-Ok.result c.from-in-Ok.ensures did journal stands turn tick
+    c.index_mut-edge.result.now c.index_mut-edge.ensures.value c.attach.new.self c.in_ok-label.label c.from-2.result c.from-2.ensures did journal stands turn tick
 
-pub returns-in-Ok-clause-label : goal.returns-in-Ok-clause-label
-returns-in-Ok-clause-label c =
-    let i = c.self.inside in
-    let old : Carried =
-    record {
-      nodes = i.nodes.items;
-      changes = i.changes;
-      switches = i.switches.items;
-      labels = i.labels.items;
-      notices = i.notices.items;
-      messages =
-          i.messages.items;
-      failed = i.failed;
-    } in
-    let done = c.in-Ok.ensures in
-    let did : IsAttached c.args.site c.index_mut-edge.result.now c.attach.new.self c.in-Ok.label =
+pub returns-clause-label : goal.returns-clause-label
+returns-clause-label c =
+    let old : Carried = carried_in c.self.inside in
+    let done = c.in_ok-label.ensures in
+    let did : IsAttached c.args.site c.index_mut-edge.result.now c.attach.new.self c.in_ok-label.label =
     record {
       label_is = done.label;
       labels_are = done.given;
@@ -66,24 +46,13 @@ returns-in-Ok-clause-label c =
     λ journal tick stands turn.
     attached-label c.args.topology.now c.laws.ensures old c.args.self.now c.self.view_is c.args.site c.home_of-home.result.0 c.from.result
     c.home_of-home.ensures.home c.from.ensures c.home_of-home.ensures.there
-    c.index_mut-edge.result.now c.index_mut-edge.ensures.value c.attach.new.self c.in-Ok.label c.from-in-Ok.result c.from-in-Ok.ensures did journal stands turn tick
+    c.index_mut-edge.result.now c.index_mut-edge.ensures.value c.attach.new.self c.in_ok-label.label c.from-2.result c.from-2.ensures did journal stands turn tick
 
-pub returns-in-Ok-clause-next : goal.returns-in-Ok-clause-next
-returns-in-Ok-clause-next c =
-    let i = c.self.inside in
-    let old : Carried =
-    record {
-      nodes = i.nodes.items;
-      changes = i.changes;
-      switches = i.switches.items;
-      labels = i.labels.items;
-      notices = i.notices.items;
-      messages =
-          i.messages.items;
-      failed = i.failed;
-    } in
-    let done = c.in-Ok.ensures in
-    let did : IsAttached c.args.site c.index_mut-edge.result.now c.attach.new.self c.in-Ok.label =
+pub returns-clause-next : goal.returns-clause-next
+returns-clause-next c =
+    let old : Carried = carried_in c.self.inside in
+    let done = c.in_ok-label.ensures in
+    let did : IsAttached c.args.site c.index_mut-edge.result.now c.attach.new.self c.in_ok-label.label =
     record {
       label_is = done.label;
       labels_are = done.given;
@@ -96,81 +65,28 @@ returns-in-Ok-clause-next c =
     λ journal stands turn.
     attached-next c.args.topology.now c.laws.ensures old c.args.self.now c.self.view_is c.args.site c.home_of-home.result.0 c.from.result
     c.home_of-home.ensures.home c.from.ensures c.home_of-home.ensures.there
-    c.index_mut-edge.result.now c.index_mut-edge.ensures.value c.attach.new.self c.in-Ok.label c.from-in-Ok.result c.from-in-Ok.ensures did journal stands turn
+    c.index_mut-edge.result.now c.index_mut-edge.ensures.value c.attach.new.self c.in_ok-label.label c.from-2.result c.from-2.ensures did journal stands turn
 
-pub returns-in-Ok-clause-spent : goal.returns-in-Ok-clause-spent
-returns-in-Ok-clause-spent c =
-    let i = c.self.inside in
-    let old : Carried =
-    record {
-      nodes = i.nodes.items;
-      changes = i.changes;
-      switches = i.switches.items;
-      labels = i.labels.items;
-      notices = i.notices.items;
-      messages =
-          i.messages.items;
-      failed = i.failed;
-    } in
-    λ works.
-    spent-at c.args.topology.now c.args.site old c.args.self.now c.self.view_is (c.requires.may works) c.home_of-home.result.0 c.from.result
-    c.home_of-home.ensures.home c.from.ensures c.index_mut-edge.result.now c.index_mut-edge.ensures.value (let r : Result ℕ LabelBad = Ok c.in-Ok.label in IsErrOf r bad.Spent) c.in-Ok.ensures.spent
+pub returns-clause-spent : goal.returns-clause-spent
+returns-clause-spent c =
+    let old : Carried = carried_in c.self.inside in
+    spent-at c.args.topology.now c.args.site old c.args.self.now c.self.view_is c.requires.may c.home_of-home.result.0 c.from.result
+    c.home_of-home.ensures.home c.from.ensures c.index_mut-edge.result.now c.index_mut-edge.ensures.value (let r : Result ℕ LabelBad = Ok c.in_ok-label.label in IsErrOf r bad.Spent) c.in_ok-label.ensures.spent
 
-pub returns-in-Err-Spent-clause-spent : goal.returns-in-Err-Spent-clause-spent
-returns-in-Err-Spent-clause-spent c =
-    let i = c.self.inside in
-    let old : Carried =
-    record {
-      nodes = i.nodes.items;
-      changes = i.changes;
-      switches = i.switches.items;
-      labels = i.labels.items;
-      notices = i.notices.items;
-      messages =
-          i.messages.items;
-      failed = i.failed;
-    } in
-    λ works.
-    spent-at c.args.topology.now c.args.site old c.args.self.now c.self.view_is (c.requires.may works) c.home_of-home.result.0 c.from.result
-    c.home_of-home.ensures.home c.from.ensures c.index_mut-edge.result.now c.index_mut-edge.ensures.value (let r : Result ℕ LabelBad = Err bad.Spent in IsErrOf r bad.Spent)
-    (rw c.in-Err-Spent.field-0-is at c.in-Err-Spent.ensures.spent)
+pub returns-in_err-label-clause-spent : goal.returns-in_err-label-clause-spent
+returns-in_err-label-clause-spent c =
+    let old : Carried = carried_in c.self.inside in
+    let handed = err_from_is_err_and c.from_residual.result c.from_residual.ensures.1 in
+    rw (handed.1, handed.2) (spent-at c.args.topology.now c.args.site old c.args.self.now c.self.view_is c.requires.may c.home_of-home.result.0 c.from.result
+    c.home_of-home.ensures.home c.from.ensures c.index_mut-edge.result.now c.index_mut-edge.ensures.value
+    (let r : Result ℕ LabelBad = Err c.in_err-label.field-0.0 in IsErrOf r bad.Spent) c.in_err-label.ensures.spent)
 
-pub returns-in-Err-Spent-clause-still : goal.returns-in-Err-Spent-clause-still
-returns-in-Err-Spent-clause-still c =
-    let i = c.self.inside in
-    let old : Carried =
-    record {
-      nodes = i.nodes.items;
-      changes = i.changes;
-      switches = i.switches.items;
-      labels = i.labels.items;
-      notices = i.notices.items;
-      messages =
-          i.messages.items;
-      failed = i.failed;
-    } in
+pub returns-in_err-label-clause-still : goal.returns-in_err-label-clause-still
+returns-in_err-label-clause-still c =
+    let old : Carried = carried_in c.self.inside in
     let did : IsSpent c.index_mut-edge.result.now c.attach.new.self =
-    record { labels_are = c.in-Err-Spent.ensures.unchanged.0; uses_are = c.in-Err-Spent.ensures.unchanged.1; kept = c.in-Err-Spent.ensures.kept } in
+    record { labels_are = c.in_err-label.ensures.unchanged.0; uses_are = c.in_err-label.ensures.unchanged.1; kept = c.in_err-label.ensures.kept } in
     λ same journal stands.
     still-stands c.args.topology.now c.laws.ensures old c.args.self.now c.self.view_is c.args.site c.home_of-home.result.0 c.from.result
     c.home_of-home.ensures.home c.from.ensures c.home_of-home.ensures.there
     c.index_mut-edge.result.now c.index_mut-edge.ensures.value c.attach.new.self did journal stands
-
-pub returns-in-Err-NoMemory-clause-spent : goal.returns-in-Err-NoMemory-clause-spent
-returns-in-Err-NoMemory-clause-spent c =
-    let i = c.self.inside in
-    let old : Carried =
-    record {
-      nodes = i.nodes.items;
-      changes = i.changes;
-      switches = i.switches.items;
-      labels = i.labels.items;
-      notices = i.notices.items;
-      messages =
-          i.messages.items;
-      failed = i.failed;
-    } in
-    λ works.
-    spent-at c.args.topology.now c.args.site old c.args.self.now c.self.view_is (c.requires.may works) c.home_of-home.result.0 c.from.result
-    c.home_of-home.ensures.home c.from.ensures c.index_mut-edge.result.now c.index_mut-edge.ensures.value (let r : Result ℕ LabelBad = Err bad.NoMemory in IsErrOf r bad.Spent)
-    (rw c.in-Err-NoMemory.field-0-is at c.in-Err-NoMemory.ensures.spent)

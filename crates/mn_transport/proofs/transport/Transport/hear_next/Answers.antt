@@ -1,48 +1,27 @@
 use Rattle.std.proofs.Common.{rules, ℕ, ◌≡◌, ◌<◌, ◌∙◌, ◌++◌, sym, subst, arith, refl, length, map}
 use Rattle.std.specs.Prelude.{Ok}
 use Rattle.mn_lsr.specs.Said.{pdu_of}
-use Rattle.mn_transport_model.specs.Sending.{put_pdus}
+use Rattle.mn_transport_laws.specs.Sending.{put_pdus}
 use Rattle.std.specs.List.{All}
 use Rattle.mn_wiring.specs.Wiring.{receiver}
 use Rattle.mn_topo.specs.Network.{wiring_of}
-use Rattle.mn_transport_model.specs.Carried.{Carried}
-use Rattle.mn_transport_model.proofs.Acted.{session-lives, flies-next, heard-so, hears-on-links, hears-acts}
-use Rattle.mn_transport_model.proofs.Turned.{below-taken}
+use Rattle.mn_transport_laws.specs.Carried.{Carried}
+use Rattle.mn_transport.specs.Inside.{carried_in}
+use Rattle.mn_transport_laws.proofs.Acted.{session-lives, flies-next, heard-so, hears-on-links, hears-acts}
+use Rattle.mn_transport_laws.proofs.Turned.{below-taken}
 use Rattle.mn_transport.proofs.Few.{few_acted, hearer_has_numbers}
 use Rattle.mn_transport.proofs.transport.Transport.hear_next.Goals as goal
 
 pub hear_ldp-requires-clause-numbers : goal.hear_ldp-requires-clause-numbers
 hear_ldp-requires-clause-numbers c =
-    let i = c.self.inside in
-    let old : Carried =
-    record {
-      nodes = i.nodes.items;
-      changes = i.changes;
-      switches = i.switches.items;
-      labels = i.labels.items;
-      notices = i.notices.items;
-      messages =
-          i.messages.items;
-      failed = i.failed;
-    } in
+    let old : Carried = carried_in c.self.inside in
     let at : c.from.result ≡ receiver (wiring_of c.args.topology.now) c.args.link.0 c.args.dir = c.from.ensures ∙ c.receiver-node.ensures.end in
     hearer_has_numbers c.args.topology.now old c.args.self.now c.self.view_is c.args.link.0 c.args.dir c.requires.may.event c.requires.may.may c.from.result at
     c.index_mut-hearer.result.now c.index_mut-hearer.ensures.value
 
 pub send-requires-clause-links : goal.send-requires-clause-links
 send-requires-clause-links c =
-    let i = c.self.inside in
-    let old : Carried =
-    record {
-      nodes = i.nodes.items;
-      changes = i.changes;
-      switches = i.switches.items;
-      labels = i.labels.items;
-      notices = i.notices.items;
-      messages =
-          i.messages.items;
-      failed = i.failed;
-    } in
+    let old : Carried = carried_in c.self.inside in
     let at : c.from.result ≡ receiver (wiring_of c.args.topology.now) c.args.link.0 c.args.dir = c.from.ensures ∙ c.receiver-node.ensures.end in
     hears-on-links c.args.topology.now old c.args.self.now c.self.view_is c.args.link.0 c.args.dir c.requires.may.event c.requires.may.may c.from.result at
     c.index_mut-hearer.result.now c.index_mut-hearer.ensures.value
@@ -56,18 +35,7 @@ send-requires-clause-number c =
 
 pub send-requires-clause-numbers : goal.send-requires-clause-numbers
 send-requires-clause-numbers c =
-    let i = c.self.inside in
-    let old : Carried =
-    record {
-      nodes = i.nodes.items;
-      changes = i.changes;
-      switches = i.switches.items;
-      labels = i.labels.items;
-      notices = i.notices.items;
-      messages =
-          i.messages.items;
-      failed = i.failed;
-    } in
+    let old : Carried = carried_in c.self.inside in
     let at : c.from.result ≡ receiver (wiring_of c.args.topology.now) c.args.link.0 c.args.dir = c.from.ensures ∙ c.receiver-node.ensures.end in
     let acts =
     hears-acts c.args.topology.now old c.args.self.now c.self.view_is c.args.link.0 c.args.dir c.requires.may.event c.requires.may.may c.from.result at
@@ -85,18 +53,7 @@ send-requires-clause-numbers c =
 
 pub returns-clause-hears : goal.returns-clause-hears
 returns-clause-hears c =
-    let i = c.self.inside in
-    let old : Carried =
-    record {
-      nodes = i.nodes.items;
-      changes = i.changes;
-      switches = i.switches.items;
-      labels = i.labels.items;
-      notices = i.notices.items;
-      messages =
-          i.messages.items;
-      failed = i.failed;
-    } in
+    let old : Carried = carried_in c.self.inside in
     let at : c.from.result ≡ receiver (wiring_of c.args.topology.now) c.args.link.0 c.args.dir = c.from.ensures ∙ c.receiver-node.ensures.end in
     λ event may. hears-acts c.args.topology.now old c.args.self.now c.self.view_is c.args.link.0 c.args.dir event may c.from.result at
     c.index_mut-hearer.result.now c.index_mut-hearer.ensures.value
@@ -107,18 +64,7 @@ returns-clause-hears c =
 
 pub unreachable-requires-in-Err : goal.unreachable-requires-in-Err
 unreachable-requires-in-Err c =
-    let i = c.self.inside in
-    let old : Carried =
-    record {
-      nodes = i.nodes.items;
-      changes = i.changes;
-      switches = i.switches.items;
-      labels = i.labels.items;
-      notices = i.notices.items;
-      messages =
-          i.messages.items;
-      failed = i.failed;
-    } in
+    let old : Carried = carried_in c.self.inside in
     let at : c.from.result ≡ receiver (wiring_of c.args.topology.now) c.args.link.0 c.args.dir = c.from.ensures ∙ c.receiver-node.ensures.end in
     let lives =
     session-lives c.args.topology.now old c.args.self.now c.self.view_is c.args.link.0 c.args.dir c.requires.may.event c.requires.may.may c.from.result at

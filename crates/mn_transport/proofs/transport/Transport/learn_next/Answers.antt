@@ -1,27 +1,17 @@
 use Rattle.std.proofs.Common.{◌≡◌, subst, arith}
 use Rattle.mn_flight.specs.Flying.{IsFlight}
 use Rattle.mn_node.specs.Machine.{Learns}
-use Rattle.mn_transport_model.specs.Carried.{Carried}
-use Rattle.mn_transport_model.specs.Doing.{noticed}
-use Rattle.mn_transport_model.proofs.Acted.{becomes-by, out-on-links, acted, noticed-is, may-noticed}
-use Rattle.mn_transport_model.proofs.Turned.{always}
+use Rattle.mn_transport_laws.specs.Carried.{Carried}
+use Rattle.mn_transport.specs.Inside.{carried_in}
+use Rattle.mn_transport_laws.specs.Doing.{noticed}
+use Rattle.mn_transport_laws.proofs.Acted.{becomes-by, out-on-links, acted, noticed-is, may-noticed}
+use Rattle.mn_transport_laws.proofs.Turned.{always}
 use Rattle.mn_transport.proofs.Few.{few_out, said_in, has_numbers}
 use Rattle.mn_transport.proofs.transport.Transport.learn_next.Goals as goal
 
 pub learn-requires-clause-numbers : goal.learn-requires-clause-numbers
 learn-requires-clause-numbers c =
-    let i = c.self.inside in
-    let old : Carried =
-    record {
-      nodes = i.nodes.items;
-      changes = i.changes;
-      switches = i.switches.items;
-      labels = i.labels.items;
-      notices = i.notices.items;
-      messages =
-          i.messages.items;
-      failed = i.failed;
-    } in
+    let old : Carried = carried_in c.self.inside in
     let taken : Carried = record old { notices = c.take.new.self.items } in
     let is : taken ≡ noticed c.args.topology.now c.args.node.0 c.args.link.0 c.args.self.now =
     noticed-is c.args.topology.now old c.args.self.now c.args.node.0 c.args.link.0 c.channel_to.result c.take.new.self.items c.take.result c.self.view_is
@@ -32,18 +22,7 @@ learn-requires-clause-numbers c =
 
 pub send-requires-clause-links : goal.send-requires-clause-links
 send-requires-clause-links c =
-    let i = c.self.inside in
-    let old : Carried =
-    record {
-      nodes = i.nodes.items;
-      changes = i.changes;
-      switches = i.switches.items;
-      labels = i.labels.items;
-      notices = i.notices.items;
-      messages =
-          i.messages.items;
-      failed = i.failed;
-    } in
+    let old : Carried = carried_in c.self.inside in
     let taken : Carried = record old { notices = c.take.new.self.items } in
     let is : taken ≡ noticed c.args.topology.now c.args.node.0 c.args.link.0 c.args.self.now =
     noticed-is c.args.topology.now old c.args.self.now c.args.node.0 c.args.link.0 c.channel_to.result c.take.new.self.items c.take.result c.self.view_is
@@ -55,18 +34,7 @@ send-requires-clause-links c =
 
 pub send-requires-clause-numbers : goal.send-requires-clause-numbers
 send-requires-clause-numbers c =
-    let i = c.self.inside in
-    let old : Carried =
-    record {
-      nodes = i.nodes.items;
-      changes = i.changes;
-      switches = i.switches.items;
-      labels = i.labels.items;
-      notices = i.notices.items;
-      messages =
-          i.messages.items;
-      failed = i.failed;
-    } in
+    let old : Carried = carried_in c.self.inside in
     let taken : Carried = record old { notices = c.take.new.self.items } in
     let is : taken ≡ noticed c.args.topology.now c.args.node.0 c.args.link.0 c.args.self.now =
     noticed-is c.args.topology.now old c.args.self.now c.args.node.0 c.args.link.0 c.channel_to.result c.take.new.self.items c.take.result c.self.view_is
@@ -81,18 +49,7 @@ send-requires-clause-numbers c =
 
 pub returns-clause-learns : goal.returns-clause-learns
 returns-clause-learns c =
-    let i = c.self.inside in
-    let old : Carried =
-    record {
-      nodes = i.nodes.items;
-      changes = i.changes;
-      switches = i.switches.items;
-      labels = i.labels.items;
-      notices = i.notices.items;
-      messages =
-          i.messages.items;
-      failed = i.failed;
-    } in
+    let old : Carried = carried_in c.self.inside in
     let taken : Carried = record old { notices = c.take.new.self.items } in
     let is : taken ≡ noticed c.args.topology.now c.args.node.0 c.args.link.0 c.args.self.now =
     noticed-is c.args.topology.now old c.args.self.now c.args.node.0 c.args.link.0 c.channel_to.result c.take.new.self.items c.take.result c.self.view_is

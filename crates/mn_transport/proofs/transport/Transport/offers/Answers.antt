@@ -2,7 +2,7 @@ use Rattle.std.proofs.Common.{◌∙◌, ap, sym}
 use Rattle.std.specs.Prelude.{◌||◌, is_some}
 use Rattle.mn_base.proofs.Bools.{test_same, other_test}
 use Rattle.mn_ledger.specs.Ledger.{world_of}
-use Rattle.mn_frames.specs.Given.{given}
+use Rattle.mn_frame_laws.specs.Given.{given}
 use Rattle.mn_transport.proofs.Ways.{offers_so}
 use Rattle.mn_transport.proofs.transport.Transport.offers.Goals as goal
 

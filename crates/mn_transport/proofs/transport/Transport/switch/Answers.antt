@@ -1,7 +1,7 @@
 use Rattle.std.proofs.Common.{◌<◌, arith, sym, subst}
 use Rattle.std.specs.List.{All}
-use Rattle.mn_transport_model.specs.Carried.{Carried}
-use Rattle.mn_transport_model.proofs.Turned.{below-cut}
+use Rattle.mn_transport_laws.specs.Carried.{Carried}
+use Rattle.mn_transport_laws.proofs.Turned.{below-cut}
 use Rattle.mn_transport.proofs.transport.Transport.switch.Goals as goal
 
 pub returns-then-not-is_link_up-clause-number : goal.returns-then-not-is_link_up-clause-number

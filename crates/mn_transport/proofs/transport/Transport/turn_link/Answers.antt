@@ -1,7 +1,7 @@
 use Rattle.std.proofs.Common.{◌≡◌, ◌<◌, ◌≤◌, ◌∙◌, arith, ap, sym, subst}
 use Rattle.std.specs.List.{All}
-use Rattle.mn_transport_model.specs.Carried.{Carried}
-use Rattle.mn_transport_model.proofs.Turned.{below-cut, below-more}
+use Rattle.mn_transport_laws.specs.Carried.{Carried}
+use Rattle.mn_transport_laws.proofs.Turned.{below-cut, below-more}
 use Rattle.mn_transport.proofs.transport.Transport.turn_link.Goals as goal
 
 pub returns-then-not-ldp_on-clause-messages_below : goal.returns-then-not-ldp_on-clause-messages_below

@@ -1,5 +1,5 @@
 use Rattle.std.proofs.Common.{arith}
-use Rattle.mn_transport_model.specs.Acting.{turned_by}
+use Rattle.mn_transport_laws.specs.Acting.{turned_by}
 use Rattle.mn_transport.proofs.Few.{few_acted}
 use Rattle.mn_transport.proofs.transport.Transport.turn_session.Goals as goal
 

@@ -4,7 +4,7 @@ use Rattle.mn_topo.specs.Network.{wiring_of}
 use Rattle.mn_topo.specs.declared.steps.JournalEntry.{JournalEntry}
 use Rattle.mn_ledger.specs.Ledger.{world_of}
 use Rattle.mn_ledger.specs.Transport.{known, offers}
-use Rattle.mn_transport_model.specs.Stands.{IsTransport}
+use Rattle.mn_transport_laws.specs.Stands.{IsTransport}
 use Rattle.mn_transport.proofs.transport.Transport.ways.Given as goal
 
 -- the nodes before this one are told

@@ -1,5 +1,5 @@
 use Rattle.std.proofs.Common.{◌∙◌, ap, refl}
-use Rattle.mn_by_key.proofs.ByKey.{found}
+use Rattle.mn_by_key_laws.proofs.ByKey.{found}
 use Rattle.mn_vrf.specs.Vrf.{static_of}
 use Rattle.mn_vrf.proofs.ByPrefix.{by_prefix}
 use Rattle.mn_vrf.proofs.statics.Statics.of_prefix.Goals as goal

@@ -1,7 +1,7 @@
 use Rattle.std.proofs.Common.{◌∙◌, ap, subst, sym}
 use Rattle.std.specs.Map.{values_of}
 use Rattle.mn_base.specs.Ordered.{without_one}
-use Rattle.mn_by_key.proofs.ByKey.{without_taken, kept_taken}
+use Rattle.mn_by_key_laws.proofs.ByKey.{without_taken, kept_taken}
 use Rattle.mn_vrf.specs.Vrf.{Static, static_before}
 use Rattle.mn_vrf.specs.Kept.{AreByPrefix}
 use Rattle.mn_vrf.proofs.ByPrefix.{by_prefix}

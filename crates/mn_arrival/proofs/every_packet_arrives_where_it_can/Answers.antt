@@ -1,5 +1,0 @@
-use Rattle.mn_arrival.proofs.Resolving.{arrives_where_it_can}
-use Rattle.mn_arrival.proofs.every_packet_arrives_where_it_can.Goals as goal
-
-pub returns : goal.returns
-returns c = arrives_where_it_can

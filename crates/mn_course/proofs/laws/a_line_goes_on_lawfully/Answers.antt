@@ -1,5 +1,0 @@
-use Rattle.mn_course.proofs.Going.{played_goes}
-use Rattle.mn_course.proofs.laws.a_line_goes_on_lawfully.Goals as goal
-
-pub returns : goal.returns
-returns c = λ t capture past command lawful good fit. played_goes t lawful capture past command good fit

@@ -1,5 +1,0 @@
-use Rattle.mn_course.proofs.Draining.{drains_all}
-use Rattle.mn_course.proofs.laws.a_whole_drain_settles.Goals as goal
-
-pub returns : goal.returns
-returns c = λ t capture past lawful good early. drains_all t lawful capture past good early

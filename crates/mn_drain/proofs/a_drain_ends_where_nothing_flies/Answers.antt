@@ -1,5 +1,0 @@
-use Rattle.mn_drain.proofs.Taking.{drained_where_none_flies}
-use Rattle.mn_drain.proofs.a_drain_ends_where_nothing_flies.Goals as goal
-
-pub returns : goal.returns
-returns c = drained_where_none_flies

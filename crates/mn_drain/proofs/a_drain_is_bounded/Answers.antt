@@ -1,5 +1,0 @@
-use Rattle.mn_drain.proofs.Drain.{drain_is_bounded}
-use Rattle.mn_drain.proofs.a_drain_is_bounded.Goals as goal
-
-pub returns : goal.returns
-returns c = drain_is_bounded

@@ -1,5 +1,0 @@
-use Rattle.mn_drain.proofs.Drained.{drained_is_settled}
-use Rattle.mn_drain.proofs.a_drained_world_is_settled.Goals as goal
-
-pub returns : goal.returns
-returns c = drained_is_settled

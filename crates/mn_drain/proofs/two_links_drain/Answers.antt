@@ -1,5 +1,0 @@
-use Rattle.mn_drain.proofs.Witness.{they_drain}
-use Rattle.mn_drain.proofs.two_links_drain.Goals as goal
-
-pub returns : goal.returns
-returns c = they_drain

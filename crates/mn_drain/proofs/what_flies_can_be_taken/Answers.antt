@@ -1,5 +1,0 @@
-use Rattle.mn_drain.proofs.Taking.{takes_what_flies}
-use Rattle.mn_drain.proofs.what_flies_can_be_taken.Goals as goal
-
-pub returns : goal.returns
-returns c = takes_what_flies

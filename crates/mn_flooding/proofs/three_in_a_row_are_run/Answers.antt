@@ -1,5 +1,0 @@
-use Rattle.mn_flooding.proofs.ThreeInARow.{are_run}
-use Rattle.mn_flooding.proofs.three_in_a_row_are_run.Goals as goal
-
-pub returns : goal.returns
-returns c = are_run

@@ -1,0 +1,21 @@
+pub mod Links
+pub mod Forwarding
+pub mod Entering
+pub mod Labels
+pub mod Bridge
+pub mod Ranges
+pub mod Stays
+pub mod Keeping
+pub mod Mapped
+pub mod Unmoved
+pub mod Spent
+pub mod Fit
+pub mod Attaching
+pub mod Next
+pub mod Anew
+pub mod Named
+pub mod Leaving
+pub use Rattle.mn_ledger_laws.proofs.Entering as LawsEntering
+pub mod Premises
+pub mod Runs
+pub use Rattle.mn_reuse_laws.proofs.Labelling

@@ -1,0 +1,12 @@
+pub mod Given
+pub mod Frames
+pub mod Tables
+pub mod Arrivals
+pub mod Entries
+pub mod Laws
+pub mod Attachments
+pub mod Numbers
+pub mod Attached
+pub mod Departures
+pub use Rattle.mn_reuse_laws.specs.Labels
+pub use Rattle.mn_reuse_laws.specs.Resting

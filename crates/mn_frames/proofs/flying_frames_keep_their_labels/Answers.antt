@@ -1,5 +1,0 @@
-use Rattle.mn_frames.proofs.Keeping.{frames_keep_labels}
-use Rattle.mn_frames.proofs.flying_frames_keep_their_labels.Goals as goal
-
-pub returns : goal.returns
-returns c = frames_keep_labels

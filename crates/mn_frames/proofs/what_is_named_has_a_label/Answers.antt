@@ -1,5 +1,0 @@
-use Rattle.mn_frames.proofs.Named.{all_have_labels}
-use Rattle.mn_frames.proofs.what_is_named_has_a_label.Goals as goal
-
-pub returns : goal.returns
-returns c = all_have_labels

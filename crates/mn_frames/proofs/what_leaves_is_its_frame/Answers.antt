@@ -1,8 +1,0 @@
-use Rattle.mn_frames.proofs.Leaving.{leaves_as_told, stays_as_told}
-use Rattle.mn_frames.proofs.what_leaves_is_its_frame.Goals as goal
-
-pub returns-clause-leaves : goal.returns-clause-leaves
-returns-clause-leaves c = leaves_as_told
-
-pub returns-clause-stays : goal.returns-clause-stays
-returns-clause-stays c = stays_as_told

@@ -1,5 +1,0 @@
-use Rattle.mn_laws.proofs.Counted.{flies_as_counted}
-use Rattle.mn_laws.proofs.what_flies_counts.Goals as goal
-
-pub returns : goal.returns
-returns c = flies_as_counted

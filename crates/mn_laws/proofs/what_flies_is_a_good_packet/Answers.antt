@@ -1,5 +1,0 @@
-use Rattle.mn_laws.proofs.Accounted.{frames_good}
-use Rattle.mn_laws.proofs.what_flies_is_a_good_packet.Goals as goal
-
-pub returns : goal.returns
-returns c = frames_good

@@ -1,5 +1,0 @@
-use Rattle.mn_laws.proofs.Holding.{names_what_exists}
-use Rattle.mn_laws.proofs.what_is_named_exists.Goals as goal
-
-pub returns : goal.returns
-returns c = names_what_exists

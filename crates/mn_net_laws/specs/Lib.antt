@@ -1,0 +1,12 @@
+pub mod Seen
+pub mod Refusal
+pub mod Coming
+pub mod Alike
+pub mod Now
+pub mod Done
+pub mod Labels
+pub mod Bound
+pub mod Told
+pub use Rattle.mn_net_tally.specs.Rising
+pub use Rattle.mn_net_tally.specs.Tallies
+pub use Rattle.mn_net_tally.specs.Laws

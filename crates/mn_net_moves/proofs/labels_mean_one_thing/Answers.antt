@@ -1,5 +1,0 @@
-use Rattle.mn_net_moves.proofs.Means.{labels_mean}
-use Rattle.mn_net_moves.proofs.labels_mean_one_thing.Goals as goal
-
-pub returns : goal.returns
-returns c = labels_mean

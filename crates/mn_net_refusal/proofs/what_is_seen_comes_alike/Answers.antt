@@ -1,5 +1,0 @@
-use Rattle.mn_net_refusal.proofs.Comes.{comes_alike}
-use Rattle.mn_net_refusal.proofs.what_is_seen_comes_alike.Goals as goal
-
-pub returns : goal.returns
-returns c = comes_alike

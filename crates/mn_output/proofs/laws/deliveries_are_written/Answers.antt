@@ -1,5 +1,0 @@
-use Rattle.mn_output.proofs.Deliveries as deliveries
-use Rattle.mn_output.proofs.laws.deliveries_are_written.Goals as goal
-
-pub returns : goal.returns
-returns c = deliveries.deliveries_are_written

@@ -1,5 +1,0 @@
-use Rattle.mn_output.proofs.Adding.{adding}
-use Rattle.mn_output.proofs.laws.each_step_adds_its_part.Goals as goal
-
-pub returns : goal.returns
-returns c = adding

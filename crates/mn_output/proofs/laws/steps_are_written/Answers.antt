@@ -1,5 +1,0 @@
-use Rattle.mn_output.proofs.Adding as adding
-use Rattle.mn_output.proofs.laws.steps_are_written.Goals as goal
-
-pub returns : goal.returns
-returns c = adding.steps_are_written

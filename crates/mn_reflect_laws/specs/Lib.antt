@@ -1,0 +1,14 @@
+pub mod Labels
+pub mod Spelling
+pub mod Kept
+pub mod Edges
+pub mod Now
+pub mod Steps
+pub mod Laws
+pub mod Choice
+pub mod Letters
+pub mod Goes
+pub mod Known
+pub mod Starts
+pub mod Onward
+pub mod AtRest

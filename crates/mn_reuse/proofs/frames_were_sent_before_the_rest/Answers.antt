@@ -1,5 +1,0 @@
-use Rattle.mn_reuse.proofs.Flying.{sent_before}
-use Rattle.mn_reuse.proofs.frames_were_sent_before_the_rest.Goals as goal
-
-pub returns : goal.returns
-returns c = sent_before

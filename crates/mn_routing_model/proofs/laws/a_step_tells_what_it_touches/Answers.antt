@@ -1,5 +1,0 @@
-use Rattle.mn_routing_model.proofs.Telling.{tells_what_is_touched}
-use Rattle.mn_routing_model.proofs.laws.a_step_tells_what_it_touches.Goals as goal
-
-pub returns : goal.returns
-returns c = tells_what_is_touched

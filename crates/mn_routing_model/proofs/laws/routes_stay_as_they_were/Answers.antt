@@ -1,5 +1,0 @@
-use Rattle.mn_routing_model.proofs.Others.{stay}
-use Rattle.mn_routing_model.proofs.laws.routes_stay_as_they_were.Goals as goal
-
-pub returns : goal.returns
-returns c = stay

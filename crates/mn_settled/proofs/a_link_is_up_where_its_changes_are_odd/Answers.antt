@@ -1,5 +1,0 @@
-use Rattle.mn_settled.proofs.Parity.{up_where_odd}
-use Rattle.mn_settled.proofs.a_link_is_up_where_its_changes_are_odd.Goals as goal
-
-pub returns : goal.returns
-returns c = up_where_odd

@@ -1,5 +1,0 @@
-use Rattle.mn_settled.proofs.Offering.{says_its_offers}
-use Rattle.mn_settled.proofs.each_end_says_what_it_offers.Goals as goal
-
-pub returns : goal.returns
-returns c = says_its_offers

@@ -1,5 +1,0 @@
-use Rattle.mn_settled.proofs.Witness.{they_carry_a_packet}
-use Rattle.mn_settled.proofs.two_links_carry_a_packet.Goals as goal
-
-pub returns : goal.returns
-returns c = they_carry_a_packet

@@ -1,0 +1,25 @@
+//! Laws of the definitions, each the contract of a function that does nothing.
+ghost use Rattle.std.specs.Prelude.{◌≡◌, ℕ, true, false};
+ghost use Rattle.mn_topo.specs.Network.{Network, wiring_of};
+ghost use Rattle.mn_topo.specs.Lawful.{IsLawful};
+ghost use Rattle.mn_topo.specs.Steps.{fits};
+ghost use Rattle.mn_topo.specs.declared.steps.Step.{Step};
+ghost use Rattle.mn_node.specs.Machine.{fresh_node};
+ghost use Rattle.mn_ledger.specs.World.{World};
+ghost use Rattle.mn_ledger.specs.Packets.{Packets};
+ghost use Rattle.mn_ledger.specs.Ledger.{start};
+ghost use Rattle.mn_ledger.specs.Refusal.{is_unchanged, is_empty};
+ghost use Rattle.mn_ledger.specs.Turns.{IsInTurn};
+ghost use Rattle.mn_slice_laws.specs.Slice.{node_at};
+ghost use Rattle.mn_slice_laws.specs.Steps.{IsByNodes};
+
+/// A step that isn't refused is, for each node, what happens to it, and what is said in it is what the acting nodes say.
+pub fn a_step_is_its_nodes()
+    ensures { (topology : Network) (world : World) (packets : Packets) (step : Step) → IsLawful topology → IsInTurn topology world →
+        fits topology step ≡ true → is_unchanged world.config step ≡ false → is_empty topology world packets step ≡ false → IsByNodes topology world step }
+{}
+
+/// At the start each node has learned nothing, and has no session.
+pub fn a_node_begins_fresh()
+    ensures { (topology : Network) (node : ℕ) → node_at topology (start topology) node ≡ fresh_node (wiring_of topology) node }
+{}

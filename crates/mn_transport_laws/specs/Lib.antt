@@ -1,0 +1,10 @@
+pub mod Carried
+pub mod Sending
+pub mod Acting
+pub mod Doing
+pub mod Resting
+pub mod Stands
+pub mod Steps
+pub mod Starting
+pub use Rattle.mn_frame_laws.specs.Given
+pub use Rattle.mn_frame_laws.specs.Tables

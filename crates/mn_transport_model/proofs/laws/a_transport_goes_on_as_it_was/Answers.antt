@@ -1,5 +1,0 @@
-use Rattle.mn_transport_model.proofs.Others.{as-it-was}
-use Rattle.mn_transport_model.proofs.laws.a_transport_goes_on_as_it_was.Goals as goal
-
-pub returns : goal.returns
-returns c = λ topology journal tick step carried. as-it-was topology journal tick step carried
