@@ -1,4 +1,4 @@
-use Rattle.std.proofs.Common.{◌≡◌, ◌<◌, true, length, get_or, refl, sym, ap, ◌∙◌, arith}
+use Rattle.std.proofs.Common.{◌≡◌, ◌<◌, ℕ, true, length, get_or, refl, sym, ap, ◌∙◌, arith}
 use Rattle.mn_wiring.specs.declared.links.LinkEnds.{LinkEnds}
 use Rattle.mn_linkdb.specs.PathTable.{dist_at}
 use Rattle.mn_spf.specs.Ways.{goes, beyond, other_end}
@@ -9,7 +9,9 @@ use Rattle.mn_spf_inc.proofs.Nets.{all_there}
 use Rattle.mn_spf_inc.proofs.Places.{place_goes, sum_fits_cut}
 use Rattle.mn_spf_inc.proofs.Lost.{held_from}
 use Rattle.mn_spf_inc.proofs.Spared.{over_none}
+use Rattle.mn_spf_inc.proofs.mend.Mend.is_held.Given.{Over}
 use Rattle.mn_spf_inc.proofs.mend.Mend.is_held.Goals as goal
+use Rattle.mn_spf_inc.proofs.mend.Mend.is_held.Goals.{After-other_end}
 
 pub up-requires : goal.up-requires
 up-requires g c =
@@ -23,51 +25,47 @@ link-link-requires g c =
     let i = c.loop-number.number-index in
     all_there c.args.net.now c.args.way.to (get_or at.result.now i (record { 0 = 0 })).0 (at.ensures.links.each i (record { 0 = 0 }) c.loop-number-test.true)
 
-pub comes_from-requires-clause-there : goal.comes_from-requires-clause-there
-comes_from-requires-clause-there g c =
-    let v = c.args.net.now in
-    let at = c.links_at-number-items in
-    let i = c.loop-number.number-index in
-    let l = (get_or at.result.now i (record { 0 = 0 })).0 in
-    let goes_on : goes v c.args.way.to l ≡ true =
-    place_goes v c.args.way.to at.result.now at.ensures.links i l (record { 0 = 0 }) c.loop-number-test.true refl (sym c.up.ensures ∙ c.if-up.true) in
-    let is : c.other_end.result.0 ≡ beyond v c.args.way.to l =
-    c.other_end.ensures ∙ ap (λ (e : LinkEnds). other_end e c.args.way.to) c.link-link.ensures.value in
-    omega (arith, is, beyond_below v at.ensures.form.network c.args.way.to l goes_on, c.requires.cutting.one_each.dists)
+-- the number of the link in this place
+abbrev number : (g : Over) → After-other_end g → ℕ
+number g c = (get_or c.links_at-number-items.result.now c.loop-number.number-index (record { 0 = 0 })).0
 
-pub comes_from-requires-clause-fits : goal.comes_from-requires-clause-fits
-comes_from-requires-clause-fits g c = λ known e.
+-- it goes on, to the node that the call found
+onward : (g : Over) (c : After-other_end g) → (goes c.args.net.now c.args.way.to (number g c) ≡ true)
+    × (c.other_end.result.0 ≡ beyond c.args.net.now c.args.way.to (number g c))
+onward g c =
+    let at = c.links_at-number-items in (
+      place_goes c.args.net.now c.args.way.to at.result.now at.ensures.links c.loop-number.number-index (number g c)
+          (record { 0 = 0 }) c.loop-number-test.true refl (sym c.up.ensures ∙ c.if-up.true),
+      c.other_end.ensures ∙ ap (λ (e : LinkEnds). other_end e c.args.way.to) c.link-link.ensures.value,
+    )
+
+pub comes_from-requires : goal.comes_from-requires
+comes_from-requires g c =
     let v = c.args.net.now in
     let at = c.links_at-number-items in
-    let i = c.loop-number.number-index in
-    let l = (get_or at.result.now i (record { 0 = 0 })).0 in
-    let goes_on : goes v c.args.way.to l ≡ true =
-    place_goes v c.args.way.to at.result.now at.ensures.links i l (record { 0 = 0 }) c.loop-number-test.true refl (sym c.up.ensures ∙ c.if-up.true) in
-    let is : c.other_end.result.0 ≡ beyond v c.args.way.to l =
-    c.other_end.ensures ∙ ap (λ (e : LinkEnds). other_end e c.args.way.to) c.link-link.ensures.value in
-    let there : l < length v.ends = all_there v c.args.way.to l (at.ensures.links.each i (record { 0 = 0 }) c.loop-number-test.true) in
-    omega (
-      arith,
-      sum_fits_cut v c.args.root.0 at.ensures.form.network c.requires.root (OneLate c.args.way.to) (state_of c.args.self.now)
-          (beyond v c.args.way.to l) known l c.requires.cutting (beyond_below v at.ensures.form.network c.args.way.to l goes_on) there
-          (ap (dist_at c.args.self.now.tree) (sym is) ∙ e),
-      ap (λ (e : LinkEnds). e.cost) c.link-link.ensures.value,
-    )
+    let here = (goal.at.comes_from-requires g c).After-other_end in
+    let l = number g here in
+    let on = onward g here in
+    let there : l < length v.ends = all_there v c.args.way.to l (at.ensures.links.each c.loop-number.number-index (record { 0 = 0 }) c.loop-number-test.true) in
+    let below = beyond_below v at.ensures.form.network c.args.way.to l on.0 in
+    record {
+      there = omega (arith, on.1, below, c.requires.cutting.one_each.dists);
+      fits = λ known e. omega (
+        arith,
+        sum_fits_cut v c.args.root.0 at.ensures.form.network c.requires.root (OneLate c.args.way.to) (state_of c.args.self.now)
+            (beyond v c.args.way.to l) known l c.requires.cutting below there (ap (dist_at c.args.self.now.tree) (sym on.1) ∙ e),
+        ap (λ (e : LinkEnds). e.cost) c.link-link.ensures.value,
+      );
+    }
 
 pub returns-then-comes_from-clause-held : goal.returns-then-comes_from-clause-held
 returns-then-comes_from-clause-held g c = λ e.
-    let v = c.args.net.now in
-    let at = c.links_at-number-items in
-    let i = c.loop-number.number-index in
-    let l = (get_or at.result.now i (record { 0 = 0 })).0 in
-    let goes_on : goes v c.args.way.to l ≡ true =
-    place_goes v c.args.way.to at.result.now at.ensures.links i l (record { 0 = 0 }) c.loop-number-test.true refl (sym c.up.ensures ∙ c.if-up.true) in
-    let is : c.other_end.result.0 ≡ beyond v c.args.way.to l =
-    c.other_end.ensures ∙ ap (λ (e : LinkEnds). other_end e c.args.way.to) c.link-link.ensures.value in
+    let here = (goal.at.returns-then-comes_from-clause-held g c).After-other_end in
+    let on = onward g here in
     let k = c.comes_from.ensures.comes c.if-comes_from.true in
-    held_from v c.args.root.0 at.ensures.form.network (state_of c.args.self.now)
-    (OneLate c.args.way.to) c.args.way k.0 l c.requires.cutting c.requires.known.there goes_on
-    (ap (way_at c.args.self.now.tree) (sym is) ∙ k.1) (ap (way_over c.args.root.0 k.0) (sym c.link-link.ensures.value) ∙ k.2)
+    held_from c.args.net.now c.args.root.0 c.links_at-number-items.ensures.form.network (state_of c.args.self.now)
+    (OneLate c.args.way.to) c.args.way k.0 (number g here) c.requires.cutting c.requires.known.there on.0
+    (ap (way_at c.args.self.now.tree) (sym on.1) ∙ k.1) (ap (way_over c.args.root.0 k.0) (sym c.link-link.ensures.value) ∙ k.2)
 
 pub returns-clause-found : goal.returns-clause-found
 returns-clause-found g c = λ comes.

@@ -1,4 +1,4 @@
-use Rattle.std.proofs.Common.{◌≡◌, ◌+◌, ◌<◌, true, length, get_or, refl, sym, ap, ◌∙◌, subst, arith, rules}
+use Rattle.std.proofs.Common.{◌≡◌, ◌+◌, ◌<◌, ℕ, true, length, get_or, refl, sym, ap, ◌∙◌, subst, arith, rules}
 use Rattle.mn_wiring.specs.declared.links.LinkEnds.{LinkEnds}
 use Rattle.mn_wiring.specs.Wiring.{link}
 use Rattle.mn_linkdb.specs.PathTable.{dist_at}
@@ -8,8 +8,9 @@ use Rattle.mn_spf_inc.specs.declared.mend.Mend.{Mend}
 use Rattle.mn_spf_inc.specs.Mending.{state_of, OffersBeyond, IsGrowing, IntoCut, IntoCutOrFrom}
 use Rattle.mn_spf_inc.proofs.Nets.{all_there}
 use Rattle.mn_spf_inc.proofs.Places.{back, place_goes, cut_to_places, cut_places_passed, cut_place_down, reached_over, sum_fits}
+use Rattle.mn_spf_inc.proofs.mend.Mend.reach.Given.{Over}
 use Rattle.mn_spf_inc.proofs.mend.Mend.reach.Goals as goal
-use Rattle.mn_spf_inc.proofs.mend.Mend.reach.Goals.{then-up+in_ok-offer_beyond, else-up}
+use Rattle.mn_spf_inc.proofs.mend.Mend.reach.Goals.{After-other_end, then-up+in_ok-offer_beyond, else-up}
 
 pub loop-number-init : goal.loop-number-init
 loop-number-init g c =
@@ -34,52 +35,43 @@ link-link-requires g c =
     let i = c.loop-number.number-index in
     all_there c.args.net.now c.args.node.0 (get_or at.result.now i (record { 0 = 0 })).0 (at.ensures.links.each i (record { 0 = 0 }) c.loop-number-test.true)
 
-pub offer_beyond-requires-clause-there : goal.offer_beyond-requires-clause-there
-offer_beyond-requires-clause-there g c =
-    let v = c.args.net.now in
-    let at = c.links_at-number-items in
-    let i = c.loop-number.number-index in
-    let l = (get_or at.result.now i (record { 0 = 0 })).0 in
-    let goes_on : goes v c.args.node.0 l ≡ true =
-    place_goes v c.args.node.0 at.result.now at.ensures.links i l (record { 0 = 0 }) c.loop-number-test.true refl (sym c.up.ensures ∙ c.if-up.true) in
-    let is : c.other_end.result.0 ≡ beyond v c.args.node.0 l =
-    c.other_end.ensures ∙ ap (λ (e : LinkEnds). other_end e c.args.node.0) c.link-link.ensures.value in
-    omega (arith, is, beyond_below v at.ensures.form.network c.args.node.0 l goes_on, c.loop-number.invariant.growing.one_each.dists)
+-- the number of the link in this place
+abbrev number : (g : Over) → After-other_end g → ℕ
+number g c = (get_or c.links_at-number-items.result.now c.loop-number.number-index (record { 0 = 0 })).0
 
-pub offer_beyond-requires-clause-far : goal.offer_beyond-requires-clause-far
-offer_beyond-requires-clause-far g c =
-    let v = c.args.net.now in
-    let at = c.links_at-number-items in
-    let i = c.loop-number.number-index in
-    let l = (get_or at.result.now i (record { 0 = 0 })).0 in
-    let goes_on : goes v c.args.node.0 l ≡ true =
-    place_goes v c.args.node.0 at.result.now at.ensures.links i l (record { 0 = 0 }) c.loop-number-test.true refl (sym c.up.ensures ∙ c.if-up.true) in
-    let is : c.other_end.result.0 ≡ beyond v c.args.node.0 l =
-    c.other_end.ensures ∙ ap (λ (e : LinkEnds). other_end e c.args.node.0) c.link-link.ensures.value in
-    let far : other_end c.link-link.result c.other_end.result.0 ≡ c.args.node.0 =
-    ap (other_end c.link-link.result) is ∙ ap (λ (e : LinkEnds). other_end e (beyond v c.args.node.0 l)) c.link-link.ensures.value
-    ∙ back v c.args.node.0 l goes_on in
-    omega (arith, far, c.requires.there, c.loop-number.invariant.growing.one_each.dists)
-
-pub offer_beyond-requires-clause-fits : goal.offer_beyond-requires-clause-fits
-offer_beyond-requires-clause-fits g c = λ known e.
-    let v = c.args.net.now in
-    let at = c.links_at-number-items in
-    let i = c.loop-number.number-index in
-    let l = (get_or at.result.now i (record { 0 = 0 })).0 in
-    let goes_on : goes v c.args.node.0 l ≡ true =
-    place_goes v c.args.node.0 at.result.now at.ensures.links i l (record { 0 = 0 }) c.loop-number-test.true refl (sym c.up.ensures ∙ c.if-up.true) in
-    let is : c.other_end.result.0 ≡ beyond v c.args.node.0 l =
-    c.other_end.ensures ∙ ap (λ (e : LinkEnds). other_end e c.args.node.0) c.link-link.ensures.value in
-    let there : l < length v.ends = all_there v c.args.node.0 l (at.ensures.links.each i (record { 0 = 0 }) c.loop-number-test.true) in
-    omega (
-      arith,
-      sum_fits v c.args.root.0 at.ensures.form.network c.requires.root (IntoCutOrFrom v c.args.self.now.cut.items c.args.node.0 at.result.now i)
-          (state_of c.loop-number.self) (beyond v c.args.node.0 l) known l c.loop-number.invariant.growing
-          (beyond_below v at.ensures.form.network c.args.node.0 l goes_on) there (ap (dist_at c.loop-number.self.tree) (sym is) ∙ e),
-      ap
-          (λ (e : LinkEnds). e.cost) c.link-link.ensures.value,
+-- it goes on, to the node that the call found
+onward : (g : Over) (c : After-other_end g) → (goes c.args.net.now c.args.node.0 (number g c) ≡ true)
+    × (c.other_end.result.0 ≡ beyond c.args.net.now c.args.node.0 (number g c))
+onward g c =
+    let at = c.links_at-number-items in (
+      place_goes c.args.net.now c.args.node.0 at.result.now at.ensures.links c.loop-number.number-index (number g c)
+          (record { 0 = 0 }) c.loop-number-test.true refl (sym c.up.ensures ∙ c.if-up.true),
+      c.other_end.ensures ∙ ap (λ (e : LinkEnds). other_end e c.args.node.0) c.link-link.ensures.value,
     )
+
+pub offer_beyond-requires : goal.offer_beyond-requires
+offer_beyond-requires g c =
+    let v = c.args.net.now in
+    let at = c.links_at-number-items in
+    let here = (goal.at.offer_beyond-requires g c).After-other_end in
+    let l = number g here in
+    let on = onward g here in
+    let far : other_end c.link-link.result c.other_end.result.0 ≡ c.args.node.0 =
+    ap (other_end c.link-link.result) on.1 ∙ ap (λ (e : LinkEnds). other_end e (beyond v c.args.node.0 l)) c.link-link.ensures.value
+    ∙ back v c.args.node.0 l on.0 in
+    let there : l < length v.ends = all_there v c.args.node.0 l (at.ensures.links.each c.loop-number.number-index (record { 0 = 0 }) c.loop-number-test.true) in
+    let below = beyond_below v at.ensures.form.network c.args.node.0 l on.0 in
+    record {
+      there = omega (arith, on.1, below, c.loop-number.invariant.growing.one_each.dists);
+      far = omega (arith, far, c.requires.there, c.loop-number.invariant.growing.one_each.dists);
+      fits = λ known e. omega (
+        arith,
+        sum_fits v c.args.root.0 at.ensures.form.network c.requires.root
+            (IntoCutOrFrom v c.args.self.now.cut.items c.args.node.0 at.result.now c.loop-number.number-index) (state_of c.loop-number.self)
+            (beyond v c.args.node.0 l) known l c.loop-number.invariant.growing below there (ap (dist_at c.loop-number.self.tree) (sym on.1) ∙ e),
+        ap (λ (e : LinkEnds). e.cost) c.link-link.ensures.value,
+      );
+    }
 
 pub loop-number-preserved : goal.loop-number-preserved
 loop-number-preserved g c =
