@@ -257,6 +257,17 @@ same_at t es ps s n e sent below there leaves =
     (in_paths t es ps s n sent below) leaves)
 
 -- an end that stands, one step later
+abbrev later_ends : (t : Network) (es : List JournalEntry) (ps : List (List ℕ)) (s : Sending) (n : ℕ) (v : Verdict) → Ends t es ps s n v → Ends t es ps s (suc n) v
+later_ends t es ps s n v ends = record {
+  when = ends.when;
+  entry = ends.entry;
+  there = ends.there;
+  sent = ends.sent;
+  past = omega (arith, ends.past);
+  flown = ends.flown;
+  first = ends.first;
+}
+
 later_fate : (t : Network) (es : List JournalEntry) (ps : List (List ℕ)) (s : Sending) (n : ℕ) (v : Verdict) → is_flying v ≡ false
     → path_of (packets_at t es ps (suc n)) s.packet ≡ path_of (packets_at t es ps n) s.packet
     → FateIs t es ps s n v → FateIs t es ps s (suc n) v
@@ -265,16 +276,7 @@ later_fate t es ps s n (Delivered ttl site copy) ended path f = record {
   route = f.route;
   bound = f.bound;
   to_site = f.to_site;
-  ends = record {
-    when = f.ends.when;
-    entry = f.ends.entry;
-    there = f.ends.there;
-    sent = f.ends.sent;
-    past = omega
-        (arith, f.ends.past);
-    flown = f.ends.flown;
-    first = f.ends.first;
-  };
+  ends = later_ends t es ps s n (Delivered ttl site copy) f.ends;
   attached = f.attached;
   lowered = ap (λ p. ttl + length p) path ∙ f.lowered;
   counted = f.counted;
@@ -283,16 +285,7 @@ later_fate t es ps s n (Delivered ttl site copy) ended path f = record {
   passed_on = f.passed_on;
 }
 later_fate t es ps s n (Dropped cause node) ended path f = record {
-  ends = record {
-    when = f.ends.when;
-    entry = f.ends.entry;
-    there = f.ends.there;
-    sent = f.ends.sent;
-    past = omega
-        (arith, f.ends.past);
-    flown = f.ends.flown;
-    first = f.ends.first;
-  };
+  ends = later_ends t es ps s n (Dropped cause node) f.ends;
   how = f.how;
 }
 

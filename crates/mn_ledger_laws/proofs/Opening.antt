@@ -22,7 +22,7 @@ use Rattle.mn_ledger.specs.Lawful.{IsLawfulJournal}
 use Rattle.mn_ledger.specs.Transport.{lives}
 use Rattle.mn_ledger.specs.Bgp.{peers_live}
 use Rattle.mn_ledger.specs.Turns.{IsInTurn}
-use Rattle.mn_ledger.specs.InFlight.{IsInFlight}
+use Rattle.mn_ledger.specs.InFlight.{is_in_order, IsInFlight}
 use Rattle.mn_ledger.specs.Refusal.{refusal_at, first_cause, where_holds, is_empty, takes_out}
 use Rattle.mn_ledger.specs.Items.{Channel, Notices, Messages, Routes, Frames, Load, Notice, Says, Tells, Carries, Item, same_channel, items_on, loads_on}
 use Rattle.mn_ledger.specs.Items.{made_by, flight_of}
@@ -175,32 +175,26 @@ module _ (t : Network) (lawful : IsLawful t) (es : List JournalEntry) (ps : List
   some_there : (place n : ℕ) → place < n → 0 < n
   some_there place n h = omega (arith, h)
 
+  open_at : (on : Channel) (place : ℕ) → place < length (items_on on items) → is_in_order on ≡ true →
+      ((load : Load) → IsOfChannel t on load → IsOpen t es ps (delivering t on place)) → IsOpen t es ps (delivering t on place)
+  open_at on place h i by_load =
+      let x = some_item on items place h in
+      by_load x.0.load (subst (λ c. IsOfChannel t c x.0.load) (same_chan on x.0.on i x.2) (of_channel x.0 x.1))
+
   pub delivered_open : (on : Channel) (place : ℕ) → place < length (items_on on items) → IsOpen t es ps (delivering t on place)
-  delivered_open (Notices l node) place h =
-      let x = some_item (Notices l node) items place h in
-      by_load x.0.load (subst (λ c. IsOfChannel t c x.0.load) (same_chan (Notices l node) x.0.on refl x.2) (of_channel x.0 x.1))
+  delivered_open (Notices l node) place h = open_at (Notices l node) place h refl by_load
     where
       by_load : (load : Load) → IsOfChannel t (Notices l node) load → IsOpen t es ps (delivering t (Notices l node) place)
       by_load Notice c = learn_open l node c.0 c.1 (some_there place (length (items_on (Notices l node) items)) h)
-      by_load (Says m) c = absurd c
-      by_load (Tells m) c = absurd c
-      by_load (Carries token) c = absurd c
-  delivered_open (Messages l node) place h =
-      let x = some_item (Messages l node) items place h in
-      by_load x.0.load (subst (λ c. IsOfChannel t c x.0.load) (same_chan (Messages l node) x.0.on refl x.2) (of_channel x.0 x.1))
+      by_load _ c = absurd c
+  delivered_open (Messages l node) place h = open_at (Messages l node) place h refl by_load
     where
       by_load : (load : Load) → IsOfChannel t (Messages l node) load → IsOpen t es ps (delivering t (Messages l node) place)
       by_load (Says m) c = hear_open l node c.0 c.1 (some_there place (length (items_on (Messages l node) items)) h)
-      by_load Notice c = absurd c
-      by_load (Tells m) c = absurd c
-      by_load (Carries token) c = absurd c
-  delivered_open (Routes edge peer) place h =
-      let x = some_item (Routes edge peer) items place h in
-      by_load x.0.load (subst (λ c. IsOfChannel t c x.0.load) (same_chan (Routes edge peer) x.0.on refl x.2) (of_channel x.0 x.1))
+      by_load _ c = absurd c
+  delivered_open (Routes edge peer) place h = open_at (Routes edge peer) place h refl by_load
     where
       by_load : (load : Load) → IsOfChannel t (Routes edge peer) load → IsOpen t es ps (delivering t (Routes edge peer) place)
       by_load (Tells m) c = tell_open edge peer c.0 c.1 c.2 (some_there place (length (items_on (Routes edge peer) items)) h)
-      by_load Notice c = absurd c
-      by_load (Says m) c = absurd c
-      by_load (Carries token) c = absurd c
+      by_load _ c = absurd c
   delivered_open (Frames l d) place h = let f = frames_there l d place h in open_by (Carry (record { 0 = l }) d place) (less_is l (length t.links) f.0) refl f.1

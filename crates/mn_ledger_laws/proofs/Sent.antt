@@ -217,52 +217,40 @@ frame_at None = inl refl
 frame_at (Some k) = inr (k, refl)
 
 module _ (t : Network) (lawful : IsLawful t) (es : List JournalEntry) (ps : List (List ℕ)) (journal : IsLawfulJournal t es ps) (holds : HoldsSites t es) where
+  -- where a step takes what stands at a place of a link: it is a frame of the packet, which flies there, or none is
+  at_place : (s : Sending) (n : ℕ) (k : LinkNo) (b : Dir) (place : ℕ) →
+      (((f : Token) → slice_get ((packets_at t es ps n).flying (channel k.0 b)) place ≡ Some f → s.packet ≢ f.packet) → IsKnown t es ps s (suc n))
+      → ((f : Token) → slice_get ((packets_at t es ps n).flying (channel k.0 b)) place ≡ Some f → f.packet ≡ s.packet
+      → In ((packets_at t es ps n).flying (channel k.0 b)) f → verdict_on (packets_at t es ps n) s.packet ≡ Flying k b → IsKnown t es ps s (suc n))
+      → IsKnown t es ps s (suc n)
+  at_place s n k b place leave take_it = by_frame (frame_at (slice_get ((packets_at t es ps n).flying (channel k.0 b)) place))
+    where
+      taken : (f : Token) → slice_get ((packets_at t es ps n).flying (channel k.0 b)) place ≡ Some f → f.packet ≡ s.packet → IsKnown t es ps s (suc n)
+      taken f at same =
+          let on : In ((packets_at t es ps n).flying (channel k.0 b)) f = in_get ((packets_at t es ps n).flying (channel k.0 b)) place f at in
+          take_it f at same on (ap (verdict_on (packets_at t es ps n)) (sym same)
+          ∙ where_it_flies (packets_at t es ps n) (injections (take n es)) k b f (placed t es ps n) on)
+
+      by_frame : (slice_get ((packets_at t es ps n).flying (channel k.0 b)) place ≡ None) ⊎
+          ((f : Token) × (slice_get ((packets_at t es ps n).flying (channel k.0 b)) place ≡ Some f)) → IsKnown t es ps s (suc n)
+      by_frame o = elim o [
+        | inl q ↦ leave (λ f g. absurd (none_at f (sym q ∙ g)))
+        | inr q ↦ elim (eqb_tells q.0.packet s.packet) [
+          | inl p ↦ taken q.0 q.1 p.1
+          | inr p ↦ leave (λ f g same. p.1 (ap (λ (z : Token). z.packet) (same_Some q.0 f (sym q.1 ∙ g)) ∙ sym same))
+        ]
+      ]
+
   -- a step while the packet flies
   flying_step : (s : Sending) (n : ℕ) (e : JournalEntry) (x : Step) → e.step ≡ x → IsSent es ps s → s.place < n → slice_get es n ≡ Some e → IsKnown t es ps s n
       → (l : LinkNo) (d : Dir) → verdict_on (packets_at t es ps n) s.packet ≡ Flying l d → IsKnown t es ps s (suc n)
-  flying_step s n e (Carry k b place) is sent below there h l d flies = by_frame (frame_at (slice_get ((packets_at t es ps n).flying (channel k.0 b)) place))
-    where
-      leave : Leaves t (clock_after e) s.packet (packets_at t es ps n) (Carry k b place) → IsKnown t es ps s (suc n)
-      leave g = left_known t es ps s n e sent below there (subst (Leaves t (clock_after e) s.packet (packets_at t es ps n)) (sym is) g) h
-
-      taken : (f : Token) → slice_get ((packets_at t es ps n).flying (channel k.0 b)) place ≡ Some f → f.packet ≡ s.packet → IsKnown t es ps s (suc n)
-      taken f at same =
-          let on : In ((packets_at t es ps n).flying (channel k.0 b)) f = in_get ((packets_at t es ps n).flying (channel k.0 b)) place f at in
-          let it_flies : verdict_on (packets_at t es ps n) s.packet ≡ Flying k b = ap (verdict_on (packets_at t es ps n)) (sym same)
-          ∙ where_it_flies (packets_at t es ps n) (injections (take n es)) k b f (placed t es ps n) on in
-          let takes_it = takes t es ps s n e k b sent below there h it_flies in
-          carried_known t lawful es ps s n e k b place f.sent takes_it is (at ∙ ap Some (takes_it.flies.frames (channel k.0 b) f on same))
-
-      by_frame : (slice_get ((packets_at t es ps n).flying (channel k.0 b)) place ≡ None) ⊎
-          ((f : Token) × (slice_get ((packets_at t es ps n).flying (channel k.0 b)) place ≡ Some f)) → IsKnown t es ps s (suc n)
-      by_frame o = elim o [
-        | inl q ↦ leave (λ f g. absurd (none_at f (sym q ∙ g)))
-        | inr q ↦ elim (eqb_tells q.0.packet s.packet) [
-          | inl p ↦ taken q.0 q.1 p.1
-          | inr p ↦ leave (λ f g same. p.1 (ap (λ (z : Token). z.packet) (same_Some q.0 f (sym q.1 ∙ g)) ∙ sym same))
-        ]
-      ]
-  flying_step s n e (Lose k b place) is sent below there h l d flies = by_frame (frame_at (slice_get ((packets_at t es ps n).flying (channel k.0 b)) place))
-    where
-      leave : Leaves t (clock_after e) s.packet (packets_at t es ps n) (Lose k b place) → IsKnown t es ps s (suc n)
-      leave g = left_known t es ps s n e sent below there (subst (Leaves t (clock_after e) s.packet (packets_at t es ps n)) (sym is) g) h
-
-      taken : (f : Token) → slice_get ((packets_at t es ps n).flying (channel k.0 b)) place ≡ Some f → f.packet ≡ s.packet → IsKnown t es ps s (suc n)
-      taken f at same =
-          let on : In ((packets_at t es ps n).flying (channel k.0 b)) f = in_get ((packets_at t es ps n).flying (channel k.0 b)) place f at in
-          let it_flies : verdict_on (packets_at t es ps n) s.packet ≡ Flying k b = ap (verdict_on (packets_at t es ps n)) (sym same)
-          ∙ where_it_flies (packets_at t es ps n) (injections (take n es)) k b f (placed t es ps n) on in
-          lost_known t es ps s n e k b (takes t es ps s n e k b sent below there h it_flies) place f is at same
-
-      by_frame : (slice_get ((packets_at t es ps n).flying (channel k.0 b)) place ≡ None) ⊎
-          ((f : Token) × (slice_get ((packets_at t es ps n).flying (channel k.0 b)) place ≡ Some f)) → IsKnown t es ps s (suc n)
-      by_frame o = elim o [
-        | inl q ↦ leave (λ f g. absurd (none_at f (sym q ∙ g)))
-        | inr q ↦ elim (eqb_tells q.0.packet s.packet) [
-          | inl p ↦ taken q.0 q.1 p.1
-          | inr p ↦ leave (λ f g same. p.1 (ap (λ (z : Token). z.packet) (same_Some q.0 f (sym q.1 ∙ g)) ∙ sym same))
-        ]
-      ]
+  flying_step s n e (Carry k b place) is sent below there h l d flies =
+      at_place s n k b place (λ g. left_known t es ps s n e sent below there (subst (Leaves t (clock_after e) s.packet (packets_at t es ps n)) (sym is) g) h)
+      (λ f at same on it_flies. let takes_it = takes t es ps s n e k b sent below there h it_flies in
+      carried_known t lawful es ps s n e k b place f.sent takes_it is (at ∙ ap Some (takes_it.flies.frames (channel k.0 b) f on same)))
+  flying_step s n e (Lose k b place) is sent below there h l d flies =
+      at_place s n k b place (λ g. left_known t es ps s n e sent below there (subst (Leaves t (clock_after e) s.packet (packets_at t es ps n)) (sym is) g) h)
+      (λ f at same on it_flies. lost_known t es ps s n e k b (takes t es ps s n e k b sent below there h it_flies) place f is at same)
   flying_step s n e (LinkDown k) is sent below there h l d flies = elim (eqb_tells l.0 k.0) [
     | inl p ↦
         let link : l ≡ k = ap (λ m. record { 0 = m }) p.1 in
