@@ -75,6 +75,14 @@ labels_tell t far fec messages below =
 -- 4. Together
 
 module _ (t : Network) (c : Config) (v : Views) (s : Sessions) (m : ℕ) where
+  -- the node has a session on a link of its own that lives
+  session-lives : (l : ℕ) → (lives c l && is_end (wiring_of t) l m) ≡ true → session_of t c s m l ≡ Some (record {
+    state = ldp_state_of t s l m;
+    said = length (s.said l m);
+    labels = map (label_heard (across (wiring_of t) l m) (heard_by (wiring_of t) s l m)) (nodes_of (wiring_of t));
+  })
+  session-lives l e = rw e
+
   operational-at : (l : ℕ) (b : Bool) → (lives c l && is_end (wiring_of t) l m) ≡ b → l < length t.links
       → is_operational (knowledge_of (wiring_of t) c v s m) l ≡ is_operational (knowledge_in (node_of t c v s m)) l
   operational-at l false e h =
@@ -88,15 +96,7 @@ module _ (t : Network) (c : Config) (v : Views) (s : Sessions) (m : ℕ) where
       ap (λ x. x.alive && nat_le 2 x.count) (hearing-is t c v s m l h)
       ∙ ap (λ b. b && nat_le 2 (s.heard l m)) e
       ∙ sym (two_heard (is_active t l m) (s.heard l m))
-      ∙ sym (ap (λ x. x.alive && nat_le 2 x.count) (kept-is t c v s m l h ∙ ap hearing_in at_true))
-    where
-      at_true : session_of t c s m l ≡ Some (record {
-        state = ldp_state_of t s l m;
-        said = length (s.said l m);
-        labels =
-            map (label_heard (across (wiring_of t) l m) (heard_by (wiring_of t) s l m)) (nodes_of (wiring_of t));
-      })
-      at_true = rw e
+      ∙ sym (ap (λ x. x.alive && nat_le 2 x.count) (kept-is t c v s m l h ∙ ap hearing_in (session-lives l e)))
 
   operational-past : (l : ℕ) → length t.links ≤ l → is_operational (knowledge_of (wiring_of t) c v s m) l ≡ is_operational (knowledge_in (node_of t c v s m)) l
   operational-past l h =
@@ -115,15 +115,7 @@ module _ (t : Network) (c : Config) (v : Views) (s : Sessions) (m : ℕ) where
   mapped-at l fec true e h below on =
       ap (λ x. is_mapped false fec x.messages) (hearing-is t c v s m l h)
       ∙ sym (labels_tell t (across (wiring_of t) l m) fec (heard_by (wiring_of t) s l m) below)
-      ∙ sym (ap (λ x. is_mapped false fec x.messages) (kept-is t c v s m l h ∙ ap hearing_in at_true))
-    where
-      at_true : session_of t c s m l ≡ Some (record {
-        state = ldp_state_of t s l m;
-        said = length (s.said l m);
-        labels =
-            map (label_heard (across (wiring_of t) l m) (heard_by (wiring_of t) s l m)) (nodes_of (wiring_of t));
-      })
-      at_true = rw e
+      ∙ sym (ap (λ x. is_mapped false fec x.messages) (kept-is t c v s m l h ∙ ap hearing_in (session-lives l e)))
 
   mapped-same : (l fec : ℕ) → fec < length t.loopbacks → is_operational (knowledge_of (wiring_of t) c v s m) l ≡ true
       → is_mapped false fec (hearing (knowledge_of (wiring_of t) c v s m) l).messages ≡ is_mapped false fec
