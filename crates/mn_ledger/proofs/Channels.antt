@@ -133,31 +133,23 @@ pub no_frames : (on : Channel) → is_in_order on ≡ true → (p : Packets) (v 
 no_frames on i p (Flying l dir) = none_of on _ (λ token. no_frame on l.0 dir i) (last_of (flying_on p l.0 dir))
 no_frames on i p _ = refl
 
-message_cons : (b : Bool) (x : Said) (f : List (Channel × Load)) (g : List Said) →
-    map (λ (one : Channel × Load). one.1) f ≡ map (λ message. Says message) (map (λ (said : Said). said.message) g)
-    → map (λ (one : Channel × Load). one.1) (cond b (message_of x ∷ f) f) ≡ map (λ message. Says message)
-    (map (λ (said : Said). said.message) (cond b (x ∷ g) g))
-message_cons true x f g e = ap (λ ys. Says x.message ∷ ys) e
-message_cons false x f g e = e
+load_cons : {A M : Type 0} (sent : A → Channel × Load) (of : A → M) (load : M → Load) → ((x : A) → (sent x).1 ≡ load (of x)) →
+    (b : Bool) (x : A) (f : List (Channel × Load)) (g : List A) → map (λ (one : Channel × Load). one.1) f ≡ map load (map of g)
+    → map (λ (one : Channel × Load). one.1) (cond b (sent x ∷ f) f) ≡ map load (map of (cond b (x ∷ g) g))
+load_cons sent of load same true x f g e = ap (λ y. y ∷ map (λ (one : Channel × Load). one.1) f) (same x) ∙ ap (λ ys. load (of x) ∷ ys) e
+load_cons sent of load same false x f g e = e
 
 pub in_messages : (l n : ℕ) (xs : List Said) → loads_in (Messages l n) (map message_of xs) ≡ map (λ message. Says message) (messages_of l n xs)
 in_messages l n [] = refl
 in_messages l n (x ∷ xs) =
-    message_cons (is_by l n x) x (filter (λ (one : Channel × Load). same_channel (Messages l n) one.0) (map message_of xs)) (filter (is_by l n) xs)
-    (in_messages l n xs)
-
-route_cons : (b : Bool) (x : Told) (f : List (Channel × Load)) (g : List Told) →
-    map (λ (one : Channel × Load). one.1) f ≡ map (λ telling. Tells telling) (map (λ (told : Told). told.telling) g)
-    → map (λ (one : Channel × Load). one.1) (cond b (route_of x ∷ f) f) ≡ map (λ telling. Tells telling)
-    (map (λ (told : Told). told.telling) (cond b (x ∷ g) g))
-route_cons true x f g e = ap (λ ys. Tells x.telling ∷ ys) e
-route_cons false x f g e = e
+    load_cons message_of (λ (said : Said). said.message) (λ message. Says message) (λ said. refl) (is_by l n x) x
+    (filter (λ (one : Channel × Load). same_channel (Messages l n) one.0) (map message_of xs)) (filter (is_by l n) xs) (in_messages l n xs)
 
 pub in_routes : (a b : ℕ) (xs : List Told) → loads_in (Routes a b) (map route_of xs) ≡ map (λ telling. Tells telling) (tellings_of a b xs)
 in_routes a b [] = refl
 in_routes a b (x ∷ xs) =
-    route_cons (is_from_to a b x) x (filter (λ (one : Channel × Load). same_channel (Routes a b) one.0) (map route_of xs)) (filter (is_from_to a b) xs)
-    (in_routes a b xs)
+    load_cons route_of (λ (told : Told). told.telling) (λ telling. Tells telling) (λ told. refl) (is_from_to a b x) x
+    (filter (λ (one : Channel × Load). same_channel (Routes a b) one.0) (map route_of xs)) (filter (is_from_to a b) xs) (in_routes a b xs)
 
 -- 4. Notices to each node
 

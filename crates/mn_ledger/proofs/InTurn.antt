@@ -34,43 +34,13 @@ not_empty t w k i s b h = (free t w k i s b h).there
 
 pub link_there : (t : Network) (s : Step) → fits t s ≡ true → LinkIsThere t s
 link_there t (step.HearLdp l dir) h = less_tells l.0 (length t.links) h
-link_there t (step.LinkUp l) h = tt
-link_there t (step.LinkDown l) h = tt
-link_there t (step.Learn n l) h = tt
-link_there t (step.LdpAdmin l on) h = tt
-link_there t (step.BgpUp a b) h = tt
-link_there t (step.BgpDown a b) h = tt
-link_there t (step.HearBgp a b) h = tt
-link_there t (step.AddRoute s p) h = tt
-link_there t (step.DelRoute s p) h = tt
-link_there t (step.Import v on x) h = tt
-link_there t (step.Export v on x) h = tt
-link_there t (step.Attach s) h = tt
-link_there t (step.Detach s) h = tt
-link_there t (step.Inject s n) h = tt
-link_there t (step.Carry l d n) h = tt
-link_there t (step.Lose l d n) h = tt
-link_there t (step.Tick n) h = tt
+link_there t _ h = tt
 
 pub in_order : (t : Network) (s : Step) → fits t s ≡ true → AreInOrder s
 in_order t (step.BgpUp a b) h = less_tells a.0 b.0 (and_right (is_edge t.vrfs a.0 && is_edge t.vrfs b.0) (nat_lt a.0 b.0) h)
 in_order t (step.BgpDown a b) h = less_tells a.0 b.0 (and_right (is_edge t.vrfs a.0 && is_edge t.vrfs b.0) (nat_lt a.0 b.0) h)
 in_order t (step.HearBgp a b) h = unlike_numbers a.0 b.0 (and_right (is_edge t.vrfs a.0 && is_edge t.vrfs b.0) (not (a.0 == b.0)) h)
-in_order t (step.HearLdp l dir) h = tt
-in_order t (step.LinkUp l) h = tt
-in_order t (step.LinkDown l) h = tt
-in_order t (step.Learn n l) h = tt
-in_order t (step.LdpAdmin l on) h = tt
-in_order t (step.AddRoute s p) h = tt
-in_order t (step.DelRoute s p) h = tt
-in_order t (step.Import v on x) h = tt
-in_order t (step.Export v on x) h = tt
-in_order t (step.Attach s) h = tt
-in_order t (step.Detach s) h = tt
-in_order t (step.Inject s n) h = tt
-in_order t (step.Carry l d n) h = tt
-in_order t (step.Lose l d n) h = tt
-in_order t (step.Tick n) h = tt
+in_order t _ h = tt
 
 -- 2. Nobody learns more than was changed
 

@@ -431,41 +431,19 @@ unfolding next knowledge_of news sessions_after peerings_after held packets_afte
     with_ttl aged in_flight bytes_flying
 notices_are_full = refl
 
--- a packet may fill the room, and not pass it
-pub bytes_are_full : is_full two_links (start two_links) (record no_packets {
+-- a frame whose packet leaves room for one byte
+abbrev one_byte_left : Packets
+one_byte_left = record no_packets {
   flying =
       λ at. elim at [
-        | zero ↦ record {
-          packet = 0;
-          edge = 2;
-          site = 1;
-          attachment = 1;
-          pushed = 63;
-          ttl = 63;
-          sent = 0;
-          bytes =
-              69 ∷ 0 ∷ 1048575 ∷ 255 ∷ [];
-        } ∷ []
+        | zero ↦ record { packet = 0; edge = 2; site = 1; attachment = 1; pushed = 63; ttl = 63; sent = 0; bytes = 69 ∷ 0 ∷ 1048575 ∷ 255 ∷ [] } ∷ []
         | suc more ↦ []
       ];
-}) (Inject (site_no 0) 1) (69 ∷ [])
-    ∷ is_full two_links (start two_links) (record no_packets {
-      flying =
-          λ at. elim at [
-            | zero ↦ record {
-              packet = 0;
-              edge = 2;
-              site = 1;
-              attachment = 1;
-              pushed = 63;
-              ttl = 63;
-              sent = 0;
-              bytes =
-                  69 ∷ 0 ∷ 1048575 ∷ 255 ∷ [];
-            } ∷ []
-            | suc more ↦ []
-          ];
-    }) (Inject (site_no 0) 1) (69 ∷ 0 ∷ []) ∷ [] ≡ false ∷ true ∷ []
+}
+
+-- a packet may fill the room, and not pass it
+pub bytes_are_full : is_full two_links (start two_links) one_byte_left (Inject (site_no 0) 1) (69 ∷ [])
+    ∷ is_full two_links (start two_links) one_byte_left (Inject (site_no 0) 1) (69 ∷ 0 ∷ []) ∷ [] ≡ false ∷ true ∷ []
 unfolding next knowledge_of news sessions_after peerings_after held packets_after is_not_ipv4 is_malformed is_truncated has_bad_checksum good checksum_for
     with_ttl aged in_flight bytes_flying
 bytes_are_full = refl

@@ -407,6 +407,20 @@ all_heard (suc zero) (suc (suc zero)) h e = refl
 all_heard (suc zero) (suc (suc (suc node))) h e = absurd (no_far_end_there node e)
 all_heard (suc (suc l)) node h e = absurd (too_far l h)
 
+-- the two edges are the nodes at either end
+both_edges : (P : ℕ → ℕ → Type 0) → P zero (suc (suc zero)) → P (suc (suc zero)) zero → (one other : ℕ) → (one ≡ other → ⊥) →
+    is_edge two_links.vrfs one ≡ true → is_edge two_links.vrfs other ≡ true → P one other
+both_edges P forth back zero zero d e f = absurd (d refl)
+both_edges P forth back zero (suc zero) d e f = absurd (no_end f)
+both_edges P forth back zero (suc (suc zero)) d e f = forth
+both_edges P forth back zero (suc (suc (suc n))) d e f = absurd (no_far_edge n f)
+both_edges P forth back (suc zero) other d e f = absurd (no_end e)
+both_edges P forth back (suc (suc zero)) zero d e f = back
+both_edges P forth back (suc (suc zero)) (suc zero) d e f = absurd (no_end f)
+both_edges P forth back (suc (suc zero)) (suc (suc zero)) d e f = absurd (d refl)
+both_edges P forth back (suc (suc zero)) (suc (suc (suc n))) d e f = absurd (no_far_edge n f)
+both_edges P forth back (suc (suc (suc n))) other d e f = absurd (no_far_edge n e)
+
 pub the_world_is_settled : IsSettled two_links settled_world
 unfolding next knowledge_of news sessions_after peerings_after held packets_after is_not_ipv4 is_malformed is_truncated has_bad_checksum good checksum_for
     with_ttl aged in_flight bytes_flying
@@ -414,32 +428,6 @@ the_world_is_settled = record {
   learned = all_learned;
   switched = λ l h up. refl;
   heard = λ l node h e alive. all_heard l node h e;
-  peered = edges_peer;
-  told = edges_hear;
+  peered = both_edges (λ one other. peers_live settled_world.config one other ≡ true) refl refl;
+  told = both_edges (λ one other. settled_world.peerings.heard one other ≡ length (settled_world.peerings.told other one)) refl refl;
 }
-  where
-    edges_peer : (one other : ℕ) → (one ≡ other → ⊥) → is_edge two_links.vrfs one ≡ true → is_edge two_links.vrfs other ≡ true →
-        peers_live settled_world.config one other ≡ true
-    edges_peer zero zero d e f = absurd (d refl)
-    edges_peer zero (suc zero) d e f = absurd (no_end f)
-    edges_peer zero (suc (suc zero)) d e f = refl
-    edges_peer zero (suc (suc (suc n))) d e f = absurd (no_far_edge n f)
-    edges_peer (suc zero) other d e f = absurd (no_end e)
-    edges_peer (suc (suc zero)) zero d e f = refl
-    edges_peer (suc (suc zero)) (suc zero) d e f = absurd (no_end f)
-    edges_peer (suc (suc zero)) (suc (suc zero)) d e f = absurd (d refl)
-    edges_peer (suc (suc zero)) (suc (suc (suc n))) d e f = absurd (no_far_edge n f)
-    edges_peer (suc (suc (suc n))) other d e f = absurd (no_far_edge n e)
-
-    edges_hear : (one other : ℕ) → (one ≡ other → ⊥) → is_edge two_links.vrfs one ≡ true → is_edge two_links.vrfs other ≡ true →
-        settled_world.peerings.heard one other ≡ length (settled_world.peerings.told other one)
-    edges_hear zero zero d e f = absurd (d refl)
-    edges_hear zero (suc zero) d e f = absurd (no_end f)
-    edges_hear zero (suc (suc zero)) d e f = refl
-    edges_hear zero (suc (suc (suc n))) d e f = absurd (no_far_edge n f)
-    edges_hear (suc zero) other d e f = absurd (no_end e)
-    edges_hear (suc (suc zero)) zero d e f = refl
-    edges_hear (suc (suc zero)) (suc zero) d e f = absurd (no_end f)
-    edges_hear (suc (suc zero)) (suc (suc zero)) d e f = absurd (d refl)
-    edges_hear (suc (suc zero)) (suc (suc (suc n))) d e f = absurd (no_far_edge n f)
-    edges_hear (suc (suc (suc n))) other d e f = absurd (no_far_edge n e)
