@@ -272,6 +272,17 @@ module _ (t : Network) (w : World) (j site edge attachment ttl : ℕ) (whole : L
     path,
   )
 
+  -- with TTL left it leaves the network at its edge, and goes on elsewhere
+  passes : (a : Packets) (k : Token) (y : ℕ) (here : Bool) → nat_le k.ttl 1 ≡ false → (y == k.edge) ≡ here → arrive t w a k y
+      ≡ (elim here as (λ _. Packets) [ true ↦ leave w a k y | false ↦ hop_on t w a (record k { ttl = k.ttl - 1 }) y rule.NoEntry ])
+  passes a k y here enough at =
+      ap (λ b. elim b as (λ _. Packets) [
+        | true ↦ drop_at a k.packet rule.TtlExpired y
+        | false ↦ elim (y == k.edge) as (λ _. Packets) [ true ↦ leave w a k y | false ↦ hop_on t w a (record k { ttl = k.ttl - 1 }) y rule.NoEntry ]
+      ])
+      enough
+      ∙ ap (λ b. elim b as (λ _. Packets) [ true ↦ leave w a k y | false ↦ hop_on t w a (record k { ttl = k.ttl - 1 }) y rule.NoEntry ]) at
+
   -- it comes to a node: there it leaves the network, or goes on
   arrives : (a : Packets) (k : Token) (y : ℕ) (hops : List ℕ) → j < length a.verdicts → NoTokens a → k.packet ≡ j → (before : List ℕ)
       → path_of a j ≡ before ++ y ∷ [] → before ++ y ∷ hops ≡ whole → GoesBy t w hops y edge
@@ -301,12 +312,7 @@ module _ (t : Network) (w : World) (j site edge attachment ttl : ℕ) (whole : L
 
       is : arrive t w a k y ≡ deliver a k.packet k.site (k.ttl - 1) k.bytes
       is =
-          ap (λ b. elim b as (λ _. Packets) [
-            | true ↦ drop_at a k.packet rule.TtlExpired y
-            | false ↦ elim (y == k.edge) as (λ _. Packets) [ true ↦ leave w a k y | false ↦ hop_on t w a (record k { ttl = k.ttl - 1 }) y rule.NoEntry ]
-          ])
-          enough
-          ∙ ap (λ b. elim b as (λ _. Packets) [ true ↦ leave w a k y | false ↦ hop_on t w a (record k { ttl = k.ttl - 1 }) y rule.NoEntry ]) at_edge
+          passes a k y true enough at_edge
           ∙ ap (λ b. elim b as (λ _. Packets) [ true ↦ deliver a k.packet k.site (k.ttl - 1) k.bytes | false ↦ drop_at a k.packet rule.SiteGone y ]) there
   arrives a k y (z ∷ hops) within none own before path route goes s e n ttl_is =
       subst Travels (sym is)
@@ -330,12 +336,7 @@ module _ (t : Network) (w : World) (j site edge attachment ttl : ℕ) (whole : L
 
       is : arrive t w a k y ≡ hop_over t a (stamped a (record k { ttl = k.ttl - 1 })) y rule.NoEntry (Some (z, goes.1))
       is =
-          ap (λ b. elim b as (λ _. Packets) [
-            | true ↦ drop_at a k.packet rule.TtlExpired y
-            | false ↦ elim (y == k.edge) as (λ _. Packets) [ true ↦ leave w a k y | false ↦ hop_on t w a (record k { ttl = k.ttl - 1 }) y rule.NoEntry ]
-          ])
-          enough
-          ∙ ap (λ b. elim b as (λ _. Packets) [ true ↦ leave w a k y | false ↦ hop_on t w a (record k { ttl = k.ttl - 1 }) y rule.NoEntry ]) past
+          passes a k y false enough past
           ∙ ap (hop_over t a (stamped a (record k { ttl = k.ttl - 1 })) y rule.NoEntry) (ap (usable t w.config w.views w.sessions y) e ∙ goes.2)
 
   -- 4. A step that moves packets

@@ -9,7 +9,7 @@ use Rattle.mn_topo.specs.VrfTable.{is_edge}
 use Rattle.mn_topo.specs.Network.{Network, wiring_of}
 use Rattle.mn_topo.specs.Lawful.{IsLawful}
 use Rattle.mn_wiring.specs.Wiring.{JoinsNodes, EndsDiffer}
-use Rattle.mn_base.proofs.Bools.{clash}
+use Rattle.mn_base.proofs.Bools.{clash, at_most_is}
 use Rattle.mn_topo.specs.declared.steps.JournalEntry.{JournalEntry}
 use Rattle.mn_ledger.specs.Places.{loopback, vrf_at, edges}
 use Rattle.mn_ledger.specs.World.{Config, Export, Telling, World}
@@ -105,13 +105,8 @@ module _ (t : Network) (w : World) (turn : IsInTurn t w) (settled : IsSettled t 
       let other = told-so-far (w.peerings.heard b a) (w.peerings.told b a) ((turn.bgp b a (λ e. d (sym e))).talk back) in
       let heard_one : w.peerings.heard a b ≡ length (w.peerings.told b a) = settled.told a b d (edge-is a i) (edge-is b j) in
       let heard_other : w.peerings.heard b a ≡ length (w.peerings.told a b) = settled.told b a (λ e. d (sym e)) (edge-is b j) (edge-is a i) in
-      ap (λ x. x && nat_le 2 (w.peerings.heard a b)) live ∙ at_least (subst (λ n. 2 ≤ n) (sym heard_one) (other.1 (subst (λ n. 1 ≤ n) (sym heard_other) one.0)))
-    where
-      at_least : {n : ℕ} → 2 ≤ n → nat_le 2 n ≡ true
-      at_least {n = n} h = elim (leb_tells 2 n) [ inl q ↦ q.0 | inr q ↦ absurd (less h q.1) ]
-        where
-          less : 2 ≤ n → n < 2 → ⊥
-          less a b = omega (arith, a, b)
+      ap (λ x. x && nat_le 2 (w.peerings.heard a b)) live
+      ∙ at_most_is 2 (w.peerings.heard a b) (subst (λ n. 2 ≤ n) (sym heard_one) (other.1 (subst (λ n. 1 ≤ n) (sym heard_other) one.0)))
 
   -- an edge believes what its peer exports
   believes : (edge peer : ℕ) → edge ≢ peer → In (edges t) edge → In (edges t) peer

@@ -9,7 +9,7 @@ use Rattle.std.proofs.lemmas.List.FromFn.{get_or-map-range_with_len}
 use Rattle.mn_wiring.specs.Wiring.{link, is_end, is_up, across, JoinsNodes}
 use Rattle.mn_wiring.specs.Paths.{IsLeast, IsNext, next, next_by, dists_to}
 use Rattle.mn_wiring.proofs.Next.{next_is}
-use Rattle.mn_base.proofs.Bools.{clash}
+use Rattle.mn_base.proofs.Bools.{clash, at_most_is}
 use Rattle.mn_topo.specs.Network.{Network, wiring_of}
 use Rattle.mn_topo.specs.Lawful.{IsLawful}
 use Rattle.mn_topo.specs.declared.steps.JournalEntry.{JournalEntry}
@@ -129,13 +129,7 @@ on-link t w lawful turn settled l n h e up =
     let alive : lives w.config l ≡ true = ap (λ b. b && w.config.ldp_on l) up ∙ settled.switched l h up in
     operational-is (wiring_of t) w.config w.views w.sessions n l h
     ∙ ap (λ b. (b && is_end (wiring_of t) l n) && nat_le 2 (w.sessions.heard l n)) alive ∙ ap (λ b. b && nat_le 2 (w.sessions.heard l n)) e
-    ∙ at_least (heard-two t w lawful turn settled l n h e alive)
-  where
-    at_least : {k : ℕ} → 2 ≤ k → nat_le 2 k ≡ true
-    at_least {k = k} h = elim (leb_tells 2 k) [ inl p ↦ p.0 | inr p ↦ absurd (less h p.1) ]
-      where
-        less : 2 ≤ k → k < 2 → ⊥
-        less a b = omega (arith, a, b)
+    ∙ at_most_is 2 (w.sessions.heard l n) (heard-two t w lawful turn settled l n h e alive)
 
 -- 3. Along the next hops, by the least cost
 
