@@ -39,7 +39,7 @@ use Rattle.mn_ledger_laws.proofs.Elsewhere.{judged_here, in_pushed, push_here}
 use Rattle.mn_ledger_laws.proofs.Entering.{Falls, may_enter, enters}
 use Rattle.mn_ledger_laws.proofs.Moving.{injected_is, Leaves, after_time}
 use Rattle.mn_ledger_laws.proofs.There.{home_there, IsHop, hop_is}
-use Rattle.mn_ledger_laws.proofs.Fates.{frame_of, HasFlown, IsKnown, placed, none_yet, left_known, leaves_ended, where_it_flies, in_get, some_frame}
+use Rattle.mn_ledger_laws.proofs.Fates.{frame_of, Ends, HasFlown, IsKnown, placed, none_yet, left_known, leaves_ended, where_it_flies, in_get, some_frame}
 use Rattle.mn_ledger_laws.proofs.Travelling.{HoldsSites, known_by, passed, takes, carried_known, lost_known, cut_known, expired_known}
 use Rattle.mn_ledger.specs.Packets.{stamped}
 use Rattle.mn_ledger.specs.Time.{clock_after, is_overdue}
@@ -96,6 +96,18 @@ module _ (t : Network) (lawful : IsLawful t) (es : List JournalEntry) (ps : List
       none : (m n : ℕ) → n < m → m ≤ n → ⊥
       none m n h g = omega (arith, h, g)
 
+  -- this step gave it its verdict
+  abbrev ended : (v : Verdict) → verdict_on (packets_at t es ps (suc s.place)) s.packet ≡ v → Ends t es ps s (suc s.place) v
+  ended v first = record {
+    when = s.place;
+    entry = sent.entry;
+    there = sent.there;
+    sent = omega arith;
+    past = omega arith;
+    flown = not_flown;
+    first = first;
+  }
+
   fallen : (cause : Rule) → Falls t (world_at t es s.place) s.site s.bytes cause
       → packets_at t es ps (suc s.place) ≡ drop_at with_it s.packet cause home → IsKnown t es ps s (suc s.place)
   fallen cause falls now =
@@ -103,16 +115,7 @@ module _ (t : Network) (lawful : IsLawful t) (es : List JournalEntry) (ps : List
       let first : verdict_on (drop_at with_it s.packet cause home) s.packet ≡ v = judged_here with_it s.packet v inside in
       known_by t es ps s (suc s.place) v (home ∷ []) (drop_at with_it s.packet cause home) now first path_is (record { rest = []; begins = refl; goes = refl })
       (record {
-        ends = record {
-          when = s.place;
-          entry = sent.entry;
-          there = sent.there;
-          sent = omega arith;
-          past = omega arith;
-          flown = not_flown;
-          first = ap
-              (λ w. verdict_on w s.packet) now ∙ first;
-        };
+        ends = ended v (ap (λ w. verdict_on w s.packet) now ∙ first);
         how = inl (record { at_once = refl; at_edge = refl; by_rule = falls });
       })
 
@@ -137,16 +140,7 @@ module _ (t : Network) (lawful : IsLawful t) (es : List JournalEntry) (ps : List
         route = x;
         bound = may;
         to_site = refl;
-        ends = record {
-          when = s.place;
-          entry = sent.entry;
-          there = sent.there;
-          sent = omega arith;
-          past = omega arith;
-          flown = not_flown;
-          first = ap
-              (λ w. verdict_on w s.packet) now ∙ first;
-        };
+        ends = ended v (ap (λ w. verdict_on w s.packet) now ∙ first);
         attached = site.present at_edge;
         lowered = omega (arith, may.lives, ap length now_path);
         counted = refl;
