@@ -49,6 +49,11 @@ on_its_channel n made from to item below h =
 abbrev pub letter_of : Item Letter → Letter
 letter_of item = item.item
 
+-- what a call answers of the channel that the mail's nodes give it
+pub first_on : (items : List (Item Letter)) (n m from to k : ℕ) {first : Option (Item Letter)} → first ≡ slice_get (on_channel k items) 0 →
+    k ≡ channel m from to → m ≡ n → first ≡ slice_get (on_channel (channel n from to) items) 0
+first_on items n m from to k e on same = e ∙ ap (λ x. slice_get (on_channel x items) 0) (on ∙ ap (λ x. channel x from to) same)
+
 pub first_is : (n made from to : ℕ) (items : List (Item Letter)) → to < n → AllByRecursion (IsInPlace n made) items →
     option_map letter_of (slice_get (on_channel (channel n from to) items) 0) ≡ first_from_to from to (letters_of items)
 first_is n made from to [] below h = refl
@@ -109,23 +114,19 @@ all_without n made items (Some x) h = all_filter (IsInPlace n made) (λ item. no
 all_off : (n made c : ℕ) (items : List (Item Letter)) → AllByRecursion (IsInPlace n made) items → AllByRecursion (IsInPlace n made) (off_channel c items)
 all_off n made c items h = all_filter (IsInPlace n made) (λ item. not (item.channel == c)) items h
 
+mail_with : (n made channels later : ℕ) (items new : List (Item Letter)) → IsMail n made channels items → later ≡ channels → IsFlight later new →
+    AllByRecursion (IsInPlace n made) new → IsMail n made later new
+mail_with n made channels later items new h same f each = record { few = h.few; channels_are = same ∙ h.channels_are; flight = f; each = each }
+
 pub mail_taken : (n made channels later : ℕ) (items new : List (Item Letter)) (taken : Option (Item Letter)) → IsMail n made channels items → later ≡ channels →
     IsFlight later new → new ≡ without taken items → IsMail n made later new
-mail_taken n made channels later items new taken h same f e = record {
-  few = h.few;
-  channels_are = same ∙ h.channels_are;
-  flight = f;
-  each = subst (AllByRecursion (IsInPlace n made)) (sym e) (all_without n made items taken h.each);
-}
+mail_taken n made channels later items new taken h same f e =
+    mail_with n made channels later items new h same f (subst (AllByRecursion (IsInPlace n made)) (sym e) (all_without n made items taken h.each))
 
 pub mail_off : (n made channels later c : ℕ) (items new : List (Item Letter)) → IsMail n made channels items → later ≡ channels →
     IsFlight later new → new ≡ off_channel c items → IsMail n made later new
-mail_off n made channels later c items new h same f e = record {
-  few = h.few;
-  channels_are = same ∙ h.channels_are;
-  flight = f;
-  each = subst (AllByRecursion (IsInPlace n made)) (sym e) (all_off n made c items h.each);
-}
+mail_off n made channels later c items new h same f e =
+    mail_with n made channels later items new h same f (subst (AllByRecursion (IsInPlace n made)) (sym e) (all_off n made c items h.each))
 
 -- a number is higher than those that were given before
 later_is : (n made : ℕ) (item : Item Letter) → IsInPlace n made item → IsInPlace n (made + 1) item
