@@ -5,7 +5,7 @@ use Rattle.std.specs.Prelude.{◌==◌, ◌&&◌, nat_le, if◌then◌else◌, o
 use Rattle.std.specs.List.{flat_map, range_with_len}
 use Rattle.std.proofs.lemmas.List.{map-append}
 use Rattle.mn_base.specs.declared.numbers.NodeNo.{NodeNo}
-use Rattle.mn_base.proofs.Bools.{no, same_test, same_numbers, at_most_is, two_ways}
+use Rattle.mn_base.proofs.Bools.{no, and_false, same_test, same_numbers, at_most_is, two_ways}
 use Rattle.mn_base.proofs.Members.{In}
 use Rattle.mn_topo.specs.Network.{Network}
 use Rattle.mn_ledger.specs.Places.{loopback, edge_of, home_of}
@@ -152,6 +152,15 @@ established_by true asn me peer (suc (suc n)) = sym (at_most_is 2 (suc (suc n)) 
 
 pub steady_is : (t : Network) (w : ReflectWorld) (n p : ℕ) → is_steady (session_in t w n p) ≡ is_established w n p
 steady_is t w n p = established_by (peers_live w.config n p) t.asn (loopback t n) (loopback t p) (length (w.heard n p))
+
+-- where an end that is steady was so before, those that were and are steady are those that are
+pub still_steady : (w u : ReflectWorld) (n p : ℕ) → (is_established u n p ≡ true → is_established w n p ≡ true)
+    → (is_established w n p && is_established u n p) ≡ is_established u n p
+still_steady w u n p settled = by (is_established u n p) refl
+  where
+    by : (b : Bool) → is_established u n p ≡ b → (is_established w n p && is_established u n p) ≡ is_established u n p
+    by true e = ap (λ x. x && is_established u n p) (settled e)
+    by false e = ap (λ x. is_established w n p && x) e ∙ and_false (is_established w n p) ∙ sym e
 
 -- what goes to each of them
 pub to_steady : {B : Type 0} (f : ℕ → Option BgpSession) (g : ℕ → List B) (from size : ℕ) →

@@ -113,24 +113,21 @@ fitting t w l s fit f h = record {
   given = labels_go t w.config l s fit f.labels h.given;
 }
 
+-- whichever sessions are on
+opened_order : (t : Network) (c : Config) (l : Labels) (on : ℕ → ℕ → Bool) → IsInOrder t c l → IsInOrder t (record c { bgp_on = on }) l
+opened_order t c l on h = record {
+  bounds = record { sites = h.bounds.sites; attached = h.bounds.attached; exports = h.bounds.exports };
+  forms = h.forms;
+  statics = h.statics;
+  sets = h.sets;
+  rise = record { imports = h.rise.imports; exports = h.rise.exports };
+  given = same_given t c (record c { bgp_on = on }) l refl h.given;
+}
+
 pub in_order_goes : (t : Network) (reflectors : List ℕ) (w : ReflectWorld) (l : Labels) (s : Step) → takes t reflectors s ≡ true → IsFree t w s →
     IsInOrder t w.config l → IsInOrder t (config_after w.config s) (labels_after t w.config l s)
-in_order_goes t reflectors w l (step.BgpUp a b) is f h = record {
-  bounds = record { sites = h.bounds.sites; attached = h.bounds.attached; exports = h.bounds.exports };
-  forms = h.forms;
-  statics = h.statics;
-  sets = h.sets;
-  rise = record { imports = h.rise.imports; exports = h.rise.exports };
-  given = same_given t w.config (config_after w.config (step.BgpUp a b)) l refl h.given;
-}
-in_order_goes t reflectors w l (step.BgpDown a b) is f h = record {
-  bounds = record { sites = h.bounds.sites; attached = h.bounds.attached; exports = h.bounds.exports };
-  forms = h.forms;
-  statics = h.statics;
-  sets = h.sets;
-  rise = record { imports = h.rise.imports; exports = h.rise.exports };
-  given = same_given t w.config (config_after w.config (step.BgpDown a b)) l refl h.given;
-}
+in_order_goes t reflectors w l (step.BgpUp a b) is f h = opened_order t w.config l (config_after w.config (step.BgpUp a b)).bgp_on h
+in_order_goes t reflectors w l (step.BgpDown a b) is f h = opened_order t w.config l (config_after w.config (step.BgpDown a b)).bgp_on h
 in_order_goes t reflectors w l (step.HearBgp a b) is f h = h
 in_order_goes t reflectors w l (step.AddRoute s p) is f h = fitting t w l (step.AddRoute s p) is f h
 in_order_goes t reflectors w l (step.DelRoute s p) is f h = fitting t w l (step.DelRoute s p) is f h

@@ -6,7 +6,7 @@ use Rattle.std.specs.List.{flat_map, AllByRecursion}
 use Rattle.mn_base.specs.declared.numbers.NodeNo.{NodeNo}
 use Rattle.mn_base.specs.declared.numbers.Rt.{Rt}
 use Rattle.mn_base.specs.Ordered.{Ascends}
-use Rattle.mn_base.proofs.Bools.{no, two_ways, and_false}
+use Rattle.mn_base.proofs.Bools.{no, two_ways}
 use Rattle.mn_base.proofs.Members.{In, in_map, in_filter, in_flat_map, filter_in}
 use Rattle.mn_base.proofs.Orders.{first_same}
 use Rattle.mn_base.proofs.Places.{all_turned, all_append}
@@ -43,7 +43,7 @@ use Rattle.mn_reflect_laws.specs.Now.{session_in, sessions_in}
 use Rattle.mn_reflect_laws.specs.Letters.{export_letter, edge_news}
 use Rattle.mn_reflect_laws.proofs.InOrder.{in_order_is}
 use Rattle.mn_reflect_laws.proofs.Config.{IsInOrder, made_export}
-use Rattle.mn_reflect_laws.proofs.Changes.{map_flat, flat_same_in, steady_is, to_steady}
+use Rattle.mn_reflect_laws.proofs.Changes.{map_flat, flat_same_in, steady_is, still_steady, to_steady}
 use Rattle.mn_reflect_laws.proofs.Rows.{table_row}
 use Rattle.mn_reflect_laws.proofs.EdgeNews.{key, AreExports, anew, gone, told, comes_told, goes_told, find_one, flat_map_keys}
 
@@ -133,6 +133,22 @@ exports_up t c l edge lawful order =
     (ap (map of_exported) (sym (exports_same t l c p edge order.statics order.bounds.sites)) ∙ keys_again t l (exports_of t c edge))
     (vrfs_up (edge_in t l c p edge) (edge_in t l c p edge).vrfs kept.vrfs kept.statics)
 
+-- the letter by which an edge that is no reflector announces an export
+announced_letter : (t : Network) (reflectors : List ℕ) (l : Labels) (e p : ℕ) (y : Export) → is_reflector reflectors e ≡ false → edge_of t y.vrf ≡ e →
+    letter_in t reflectors l (record { from = e; to = p; word = Announce (plain y) }) ≡ export_letter t e p true (exported t l y)
+announced_letter t reflectors l e p y is at =
+    ap (λ b. let r : Letter = record {
+      from = e;
+      to = p;
+      bytes = if b then update_bytes (reflected (hop_of t (plain y)) (route_of t l y) (as_targets y.targets)
+          (hop_of t (plain y)) []) else update_bytes (announced_in (hop_of t (plain y)) (route_of t l y) (as_targets y.targets));
+    } in r) is
+    ∙ ap (λ n. let r : Letter = record {
+      from = e;
+      to = p;
+      bytes = update_bytes (announced_in (loopback t n) (route_of t l y) (as_targets y.targets));
+    } in r) at
+
 -- 2. What an edge that is no reflector says
 
 module _ (t : Network) (reflectors : List ℕ) (l : Labels) (w u : ReflectWorld) (e : ℕ) (is : is_reflector reflectors e ≡ false) (below : e < length t.loopbacks)
@@ -155,11 +171,7 @@ module _ (t : Network) (reflectors : List ℕ) (l : Labels) (w u : ReflectWorld)
       map key_of (map plain (exports_of t v.config e))) is
 
   steady_now : (p : ℕ) → is_steady w u e p ≡ is_established u e p
-  steady_now p = by (is_established u e p) refl
-    where
-      by : (b : Bool) → is_established u e p ≡ b → (is_established w e p && is_established u e p) ≡ is_established u e p
-      by true g = ap (λ x. x && is_established u e p) (settled p g)
-      by false g = ap (λ x. is_established w e p && x) g ∙ and_false (is_established w e p) ∙ sym g
+  steady_now p = still_steady w u e p (settled p)
 
   one_name : (k : Key) → letters_in t reflectors l (flat_map (news_of t reflectors w u e k) (nodes_of (wiring_of t)))
       ≡ to_all (change k (own_offer t w.config e k) (own_offer t u.config e k))
@@ -211,18 +223,7 @@ module _ (t : Network) (reflectors : List ℕ) (l : Labels) (w u : ReflectWorld)
 
     comes_letter : (y : Export) → edge_of t y.vrf ≡ e → (p : ℕ) →
         letter_in t reflectors l (record { from = e; to = p; word = Announce (plain y) }) ≡ export_letter t e p true (exported t l y)
-    comes_letter y at p =
-        ap (λ b. let r : Letter = record {
-          from = e;
-          to = p;
-          bytes = if b then update_bytes (reflected (hop_of t (plain y)) (route_of t l y) (as_targets y.targets)
-              (hop_of t (plain y)) []) else update_bytes (announced_in (hop_of t (plain y)) (route_of t l y) (as_targets y.targets));
-        } in r) is
-        ∙ ap (λ n. let r : Letter = record {
-          from = e;
-          to = p;
-          bytes = update_bytes (announced_in (loopback t n) (route_of t l y) (as_targets y.targets));
-        } in r) at
+    comes_letter y at p = announced_letter t reflectors l e p y is at
 
     pub comes_letters : (zs : List Export) → ((y : Export) → In zs y → edge_of t y.vrf ≡ e) →
         flat_map (λ y. to_all (Announce (plain y) ∷ [])) zs ≡ edge_news t e peers true (map (exported t l) zs)
@@ -365,18 +366,7 @@ module _ (t : Network) (reflectors : List ℕ) (l : Labels) (u : ReflectWorld) (
       ∙ flat_same_in (λ y. change (key y) None (offered t reflectors u e p (key y))) (λ y. Announce (plain y) ∷ []) zs each_offer
 
   letter_of : (y : Export) → In zs y → letter_in t reflectors l (record { from = e; to = p; word = Announce (plain y) }) ≡ export_letter t e p true (exported t l y)
-  letter_of y i =
-      ap (λ b. let r : Letter = record {
-        from = e;
-        to = p;
-        bytes = if b then update_bytes (reflected (hop_of t (plain y)) (route_of t l y) (as_targets y.targets)
-            (hop_of t (plain y)) []) else update_bytes (announced_in (hop_of t (plain y)) (route_of t l y) (as_targets y.targets));
-      } in r) is
-      ∙ ap (λ n. let r : Letter = record {
-        from = e;
-        to = p;
-        bytes = update_bytes (announced_in (loopback t n) (route_of t l y) (as_targets y.targets));
-      } in r) (made_export t u.config l e y order i).1
+  letter_of y i = announced_letter t reflectors l e p y is (made_export t u.config l e y order i).1
 
   all_letters : (vs : List Export) → ((y : Export) → In vs y → In zs y) →
       letters_in t reflectors l (says e p (flat_map (λ y. Announce (plain y) ∷ []) vs)) ≡ edge_news t e (record { 0 = p } ∷ []) true (map (exported t l) vs)

@@ -144,18 +144,25 @@ module _ (t : Network) (reflectors : List ℕ) (l : Labels) (w : ReflectWorld) (
       ∙ ap (λ ns. letters_in t reflectors l (says b.0 a.0 answer) ++ letters_in t reflectors l ns) all_news)
 
   module _ (later : IsInOrder t then_heard.config l) (still : AreGood t then_heard.config then_heard) (within_then : IsWithin t then_heard) where
-    -- OPEN is answered by KEEPALIVE
-    pub letters_open : word ≡ Open → length (w.heard b.0 a.0) ≡ 0 → letters_in t reflectors l (after t reflectors w (step.HearBgp a b)).flying
-        ≡ mail.without_first a.0 b.0 (letters_in t reflectors l w.flying) ++ keep_letter b.0 a.0 ∷ []
-    letters_open e count =
+    -- a word that names no route is answered, and changes nothing else
+    letters_reply : (n : ℕ) (v : Word) → word ≡ v → names_of v ≡ [] → length (w.heard b.0 a.0) ≡ n
+        → letters_in t reflectors l (after t reflectors w (step.HearBgp a b)).flying
+        ≡ mail.without_first a.0 b.0 (letters_in t reflectors l w.flying)
+        ++ letters_in t reflectors l (says b.0 a.0 (reply t reflectors then_heard b.0 a.0 n (Some v)))
+    letters_reply n v e none count =
         letters_then
         ∙ ap (λ ns. mail.without_first a.0 b.0 (letters_in t reflectors l w.flying)
-        ++ (letters_in t reflectors l (says b.0 a.0 answer) ++ letters_in t reflectors l ns)) (plain_quiet (ap names_of e))
+        ++ (letters_in t reflectors l (says b.0 a.0 answer) ++ letters_in t reflectors l ns)) (plain_quiet (ap names_of e ∙ none))
         ∙ ap (λ ws. mail.without_first a.0 b.0 (letters_in t reflectors l w.flying) ++ ws) (append-nil (letters_in t reflectors l (says b.0 a.0 answer)))
         ∙ ap (λ c. mail.without_first a.0 b.0 (letters_in t reflectors l w.flying)
         ++ letters_in t reflectors l (says b.0 a.0 (reply t reflectors then_heard b.0 a.0 c (Some word)))) count
         ∙ ap (λ v. mail.without_first a.0 b.0 (letters_in t reflectors l w.flying)
-        ++ letters_in t reflectors l (says b.0 a.0 (reply t reflectors then_heard b.0 a.0 0 (Some v)))) e
+        ++ letters_in t reflectors l (says b.0 a.0 (reply t reflectors then_heard b.0 a.0 n (Some v)))) e
+
+    -- OPEN is answered by KEEPALIVE
+    pub letters_open : word ≡ Open → length (w.heard b.0 a.0) ≡ 0 → letters_in t reflectors l (after t reflectors w (step.HearBgp a b)).flying
+        ≡ mail.without_first a.0 b.0 (letters_in t reflectors l w.flying) ++ keep_letter b.0 a.0 ∷ []
+    letters_open e count = letters_reply 0 Open e refl count
 
     -- and KEEPALIVE by all that is offered
     pub letters_keep : word ≡ KeepAlive → length (w.heard b.0 a.0) ≡ 1 → letters_in t reflectors l (after t reflectors w (step.HearBgp a b)).flying
@@ -164,14 +171,7 @@ module _ (t : Network) (reflectors : List ℕ) (l : Labels) (w : ReflectWorld) (
         then reflector_offers t (by_address t reflectors) b.0 a.0 (kept_in l then_heard b.0) (all_names (slice_index_or (all_kept t l then_heard) b.0 []))
         else edge_news t b.0 (record { 0 = a.0 } ∷ []) true (map (exported t l) (exports_of t w.config b.0)))
     letters_keep e count =
-        letters_then
-        ∙ ap (λ ns. mail.without_first a.0 b.0 (letters_in t reflectors l w.flying)
-        ++ (letters_in t reflectors l (says b.0 a.0 answer) ++ letters_in t reflectors l ns)) (plain_quiet (ap names_of e))
-        ∙ ap (λ ws. mail.without_first a.0 b.0 (letters_in t reflectors l w.flying) ++ ws) (append-nil (letters_in t reflectors l (says b.0 a.0 answer)))
-        ∙ ap (λ c. mail.without_first a.0 b.0 (letters_in t reflectors l w.flying)
-        ++ letters_in t reflectors l (says b.0 a.0 (reply t reflectors then_heard b.0 a.0 c (Some word)))) count
-        ∙ ap (λ v. mail.without_first a.0 b.0 (letters_in t reflectors l w.flying)
-        ++ letters_in t reflectors l (says b.0 a.0 (reply t reflectors then_heard b.0 a.0 1 (Some v)))) e
+        letters_reply 1 KeepAlive e refl count
         ∙ ap (λ ls. mail.without_first a.0 b.0 (letters_in t reflectors l w.flying) ++ ls) (by (is_reflector reflectors b.0) refl)
       where
         by : (r : Bool) → is_reflector reflectors b.0 ≡ r → letters_in t reflectors l (says b.0 a.0 (all_offers t reflectors then_heard b.0 a.0))

@@ -1,11 +1,11 @@
 -- What a reflector tells its peers as its row changes, and what it tells a new one.
 use Rattle.std.proofs.Common.{ℕ, ◌≡◌, ◌<◌, ◌⊎◌, inl, inr, Bool, true, false, cond, List, [], ◌∷◌, ◌++◌, length}
 use Rattle.std.proofs.Common.{Some, None, Option, refl, sym, ◌∙◌, ap}
-use Rattle.std.specs.Prelude.{◌&&◌, ◌||◌, option_map, slice_index_or}
+use Rattle.std.specs.Prelude.{◌||◌, option_map, slice_index_or}
 use Rattle.std.specs.List.{flat_map, list_any}
 use Rattle.mn_base.specs.declared.numbers.NodeNo.{NodeNo}
 use Rattle.mn_base.specs.Ordered.{Ascends}
-use Rattle.mn_base.proofs.Bools.{no, and_false}
+use Rattle.mn_base.proofs.Bools.{no}
 use Rattle.mn_base.proofs.Members.{In, in_front, in_rest, none_passes}
 use Rattle.mn_wiring.specs.Wiring.{nodes_of}
 use Rattle.mn_topo.specs.Network.{Network, wiring_of}
@@ -28,7 +28,7 @@ use Rattle.mn_reflect_laws.specs.Letters.{change_letters, reflector_news}
 use Rattle.mn_reflect_laws.proofs.InOrder.{sift, order_up}
 use Rattle.mn_reflect_laws.proofs.Given.{AreGiven}
 use Rattle.mn_reflect_laws.proofs.Choosing.{offered_is}
-use Rattle.mn_reflect_laws.proofs.Changes.{no_change, IsOf, change_is, map_flat, steady_is, to_steady}
+use Rattle.mn_reflect_laws.proofs.Changes.{no_change, IsOf, change_is, map_flat, steady_is, still_steady, to_steady}
 use Rattle.mn_reflect_laws.proofs.Rows.{table_row}
 
 -- a name is among these, or isn't
@@ -68,11 +68,7 @@ module _ (t : Network) (reflectors : List ℕ) (l : Labels) (w u : ReflectWorld)
 
   module _ (settled : (p : ℕ) → is_established u n p ≡ true → is_established w n p ≡ true) where
     steady_now : (p : ℕ) → is_steady w u n p ≡ is_established u n p
-    steady_now p = by (is_established u n p) refl
-      where
-        by : (b : Bool) → is_established u n p ≡ b → (is_established w n p && is_established u n p) ≡ is_established u n p
-        by true e = ap (λ x. x && is_established u n p) (settled p e)
-        by false e = ap (λ x. is_established w n p && x) e ∙ and_false (is_established w n p) ∙ sym e
+    steady_now p = still_steady w u n p (settled p)
 
     -- to all peers
     one_name : (key : Key) → letters_in t reflectors l (flat_map (news_of t reflectors w u n key) (nodes_of (wiring_of t)))
