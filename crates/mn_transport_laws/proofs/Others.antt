@@ -68,62 +68,18 @@ record KeepsAll (t : Network) (w : World) (s : Step) : Type 0 where
 
 keeps-all : (t : Network) (w : World) (s : Step) → touches s ≡ false → KeepsAll t w s
 unfolding sessions_after
-keeps-all t w (step.BgpUp a b) e = record {
+keeps-all t w (step.LinkUp l) e = cc
+keeps-all t w (step.LinkDown l) e = cc
+keeps-all t w (step.Learn n l) e = cc
+keeps-all t w (step.LdpAdmin l on) e = cc
+keeps-all t w (step.HearLdp l d) e = cc
+keeps-all t w (step.Attach s) e = cc
+keeps-all t w (step.Detach s) e = cc
+keeps-all t w _ e = record {
   keeps = record { views = refl; sessions = refl; ups = refl; ldp = refl; node = λ n. refl; brings = λ n p. refl };
   attached = refl;
   none = λ n labels. refl;
 }
-keeps-all t w (step.BgpDown a b) e = record {
-  keeps = record { views = refl; sessions = refl; ups = refl; ldp = refl; node = λ n. refl; brings = λ n p. refl };
-  attached = refl;
-  none = λ n labels. refl;
-}
-keeps-all t w (step.HearBgp a b) e = record {
-  keeps = record { views = refl; sessions = refl; ups = refl; ldp = refl; node = λ n. refl; brings = λ n p. refl };
-  attached = refl;
-  none = λ n labels. refl;
-}
-keeps-all t w (step.AddRoute s p) e = record {
-  keeps = record { views = refl; sessions = refl; ups = refl; ldp = refl; node = λ n. refl; brings = λ n p. refl };
-  attached = refl;
-  none = λ n labels. refl;
-}
-keeps-all t w (step.DelRoute s p) e = record {
-  keeps = record { views = refl; sessions = refl; ups = refl; ldp = refl; node = λ n. refl; brings = λ n p. refl };
-  attached = refl;
-  none = λ n labels. refl;
-}
-keeps-all t w (step.Import v on x) e = record {
-  keeps = record { views = refl; sessions = refl; ups = refl; ldp = refl; node = λ n. refl; brings = λ n p. refl };
-  attached = refl;
-  none = λ n labels. refl;
-}
-keeps-all t w (step.Export v on x) e = record {
-  keeps = record { views = refl; sessions = refl; ups = refl; ldp = refl; node = λ n. refl; brings = λ n p. refl };
-  attached = refl;
-  none = λ n labels. refl;
-}
-keeps-all t w (step.Inject s k) e = record {
-  keeps = record { views = refl; sessions = refl; ups = refl; ldp = refl; node = λ n. refl; brings = λ n p. refl };
-  attached = refl;
-  none = λ n labels. refl;
-}
-keeps-all t w (step.Carry l d k) e = record {
-  keeps = record { views = refl; sessions = refl; ups = refl; ldp = refl; node = λ n. refl; brings = λ n p. refl };
-  attached = refl;
-  none = λ n labels. refl;
-}
-keeps-all t w (step.Lose l d k) e = record {
-  keeps = record { views = refl; sessions = refl; ups = refl; ldp = refl; node = λ n. refl; brings = λ n p. refl };
-  attached = refl;
-  none = λ n labels. refl;
-}
-keeps-all t w (step.Tick ticks) e = record {
-  keeps = record { views = refl; sessions = refl; ups = refl; ldp = refl; node = λ n. refl; brings = λ n p. refl };
-  attached = refl;
-  none = λ n labels. refl;
-}
-keeps-all t w _ e = cc
 
 module _ (t : Network) (w : World) (s : Step) (k : Keeps t w s) where
   same-lives : (l : ℕ) → lives (after t w s).config l ≡ lives w.config l

@@ -161,19 +161,25 @@ mine-here w g me dir tick number wd n x xs mine differ sends own rel rest =
     (rest ∙ ap (λ k. spelled w g x.link me (k + 1) (messages_of x.link me xs)) (said-here n x.link own.lives))
     ∙ sym (ap (spelled w g x.link me id) (messages-here x.link me x xs (by-me x me own.by)))
 
+-- the first PDU isn't on this channel
+first-off : (w : Wiring) (g : ℕ → ℕ → ℕ) (l me : ℕ) (dir : Dir) (tick number wd : ℕ) (n : Node) (x : Said) (xs : List Said) →
+    (channel_from w x.link me == channel l dir) ≡ false → bytes_on (channel l dir) (put_pdus w me tick number (pdus w (g me) wd n (x ∷ xs)))
+    ≡ bytes_on (channel l dir) (put_pdus w me tick (number + 1) (pdus w (g me) wd (one_said n x.link) xs))
+first-off w g l me dir tick number wd n x xs =
+    bytes-off (channel l dir) (record {
+      channel = channel_from w x.link me;
+      due = tick + (link w x.link).delay;
+      number = number;
+      item = (pdu w x.link n.me (g me) wd (count_of (session_at n x.link) + 1) x.message).bytes;
+    })
+    (put_pdus w me tick (number + 1) (pdus w (g me) wd (one_said n x.link) xs))
+
 mine-off : (w : Wiring) (g : ℕ → ℕ → ℕ) (l me : ℕ) (dir : Dir) (tick number wd : ℕ) (n : Node) (x : Said) (xs : List Said) → x.link ≢ l
     → bytes_on (channel l dir) (put_pdus w me tick (number + 1) (pdus w (g me) wd (one_said n x.link) xs)) ≡ spelled w g l me
     (count_of (session_at (one_said n x.link) l) + 1) (messages_of l me xs)
     → bytes_on (channel l dir) (put_pdus w me tick number (pdus w (g me) wd n (x ∷ xs))) ≡ spelled w g l me (count_of (session_at n l) + 1) (messages_of l me (x ∷ xs))
 mine-off w g l me dir tick number wd n x xs d rest =
-    bytes-off (channel l dir) (record {
-      channel = channel_from w x.link me;
-      due = tick + (link w x.link).delay;
-      number = number;
-      item =
-          (pdu w x.link n.me (g me) wd (count_of (session_at n x.link) + 1) x.message).bytes;
-    })
-    (put_pdus w me tick (number + 1) (pdus w (g me) wd (one_said n x.link) xs)) (other-link w x.link l me dir d)
+    first-off w g l me dir tick number wd n x xs (other-link w x.link l me dir d)
     ∙ rest
     ∙ ap (λ (o : Option Session). spelled w g l me (count_of o + 1) (messages_of l me xs)) (said-off n x.link l d)
     ∙ sym (ap (spelled w g l me (count_of (session_at n l) + 1)) (messages-off l me x xs (ap (λ b. b && (x.end == me)) (other_test x.link l d))))
@@ -199,14 +205,7 @@ pub spelled-not : (w : Wiring) (g : ℕ → ℕ → ℕ) (l me : ℕ) (dir : Dir
     → bytes_on (channel l dir) (put_pdus w me tick number (pdus w (g me) wd n xs)) ≡ []
 spelled-not w g l me dir tick number wd n [] d own = refl
 spelled-not w g l me dir tick number wd n (x ∷ xs) d own =
-    bytes-off (channel l dir) (record {
-      channel = channel_from w x.link me;
-      due = tick + (link w x.link).delay;
-      number = number;
-      item =
-          (pdu w x.link n.me (g me) wd (count_of (session_at n x.link) + 1) x.message).bytes;
-    })
-    (put_pdus w me tick (number + 1) (pdus w (g me) wd (one_said n x.link) xs))
+    first-off w g l me dir tick number wd n x xs
     (elim (eqb_tells x.link l) [
       | inl p ↦ subst (λ k. sender w k dir ≢ me → (channel_from w x.link me == channel k dir) ≡ false) p.1 (λ e. sends-there w x.link me dir own.0.at_end e) d
       | inr p ↦ other-link w x.link l me dir p.1
