@@ -3,6 +3,7 @@ pub mod Runs
 pub mod Sendings
 pub mod Deliveries
 pub mod When
+pub mod Loads
 pub mod Lives
 pub mod Frames
 pub mod Tellings

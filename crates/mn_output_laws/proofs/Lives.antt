@@ -1,7 +1,7 @@
 -- The whole of a .ldp file: all that an end said over a link, in all lives of the session, with the labels of the moment at which it was said.
-use Rattle.std.proofs.Common.{ℕ, zero, suc, ◌≡◌, ◌+◌, ◌-◌, ◌<◌, ◌≤◌, inl, inr, Bool, true, false, cond, List, [], ◌∷◌, ◌++◌, map, filter, length, drop, refl, arith}
+use Rattle.std.proofs.Common.{ℕ, zero, suc, ◌≡◌, ◌+◌, ◌-◌, ◌<◌, ◌≤◌, inl, inr, Bool, true, false, List, [], ◌∷◌, ◌++◌, map, length, drop, refl, arith}
 use Rattle.std.proofs.Common.{sym, ap, subst, ◌∙◌, append_assoc, append-nil}
-use Rattle.std.specs.Prelude.{◌==◌, ◌&&◌, ◌||◌}
+use Rattle.std.specs.Prelude.{◌==◌, ◌||◌}
 use Rattle.std.specs.List.{flat_map, range_with_len, zip}
 use Rattle.std.proofs.lemmas.List.{length-append, length-map, length-drop, map-append}
 use Rattle.std.proofs.lemmas.List.Elements.{filter-append}
@@ -20,7 +20,7 @@ use Rattle.mn_ledger.specs.Ledger.{after, next_of, world_of, packets_of}
 use Rattle.mn_ledger.specs.Lawful.{IsLawfulJournal}
 use Rattle.mn_ledger.specs.OneMore.{with_packet, made_then}
 use Rattle.mn_ledger.specs.Verdicts.{injections}
-use Rattle.mn_ledger.specs.Items.{Channel, Notices, Messages, Routes, Frames, Load, Notice, Says, Tells, Carries, Item, Flight, same_channel, items_on, loads_on}
+use Rattle.mn_ledger.specs.Items.{Channel, Messages, Load, Notice, Says, Tells, Carries, Item, Flight, same_channel, items_on, loads_on}
 use Rattle.mn_ledger.specs.Items.{left_in_flight, in_time, numbered, made_by, flight_of}
 use Rattle.mn_ledger.proofs.Channels.{loads_in, loads_append, on_numbered}
 use Rattle.mn_ledger.proofs.Flows.{in_flight}
@@ -36,6 +36,7 @@ use Rattle.mn_output_laws.specs.Contents.{said_on, pdu_bytes, pdus, contents, wh
 use Rattle.mn_output_laws.specs.Lists.{Saying, saying_in, all_said, messages_in, said_pdu, said_bytes, said_file}
 use Rattle.mn_output_laws.proofs.Adding.{adding}
 use Rattle.mn_output_laws.proofs.Deliveries.{by_last, its_packet}
+use Rattle.mn_output_laws.proofs.Loads.{message_in, each_load, is_said}
 use Rattle.mn_output_laws.proofs.When.{made_by_entry, made_more, old_labels, new_labels}
 
 -- 1. Messages with their ids
@@ -124,10 +125,6 @@ last_ids old new earlier said more same few split places =
 
 -- 2. What an end says, of loads and of all that is made
 
-abbrev message_in : Load → List Message
-message_in (Says message) = message ∷ []
-message_in load = []
-
 said_back : (ms : List Message) → flat_map message_in (map (λ message. Says message) ms) ≡ ms
 said_back [] = refl
 said_back (m ∷ ms) = ap (λ r. m ∷ r) (said_back ms)
@@ -139,42 +136,8 @@ few_of (Notice ∷ loads) = let rest = few_of loads in omega (arith, rest)
 few_of (Tells m ∷ loads) = let rest = few_of loads in omega (arith, rest)
 few_of (Carries k ∷ loads) = let rest = few_of loads in omega (arith, rest)
 
-abbrev second : Channel × Load → Load
-second one = one.1
-
-one_said : (l end : ℕ) (on : Channel) (load : Load) (rest : List (Channel × Load)) →
-    flat_map message_in (map second (cond (same_channel (Messages l end) on) ((on, load) ∷ rest) rest))
-    ≡ said_on l end (on, load) ++ flat_map message_in (map second rest)
-one_said l end (Messages other speaker) (Says m) rest = by ((other == l) && (speaker == end))
-  where
-    by : (b : Bool) → flat_map message_in (map second (cond b ((Messages other speaker, Says m) ∷ rest) rest))
-        ≡ cond b (m ∷ []) [] ++ flat_map message_in (map second rest)
-    by true = refl
-    by false = refl
-one_said l end (Messages other speaker) Notice rest = by ((other == l) && (speaker == end))
-  where
-    by : (b : Bool) → flat_map message_in (map second (cond b ((Messages other speaker, Notice) ∷ rest) rest)) ≡ flat_map message_in (map second rest)
-    by true = refl
-    by false = refl
-one_said l end (Messages other speaker) (Tells m) rest = by ((other == l) && (speaker == end))
-  where
-    by : (b : Bool) → flat_map message_in (map second (cond b ((Messages other speaker, Tells m) ∷ rest) rest)) ≡ flat_map message_in (map second rest)
-    by true = refl
-    by false = refl
-one_said l end (Messages other speaker) (Carries k) rest = by ((other == l) && (speaker == end))
-  where
-    by : (b : Bool) → flat_map message_in (map second (cond b ((Messages other speaker, Carries k) ∷ rest) rest)) ≡ flat_map message_in (map second rest)
-    by true = refl
-    by false = refl
-one_said l end (Notices k n) load rest = refl
-one_said l end (Routes a b) load rest = refl
-one_said l end (Frames k d) load rest = refl
-
 same_said : (l end : ℕ) (made : List (Channel × Load)) → flat_map message_in (loads_in (Messages l end) made) ≡ flat_map (said_on l end) made
-same_said l end [] = refl
-same_said l end (m ∷ ms) =
-    one_said l end m.0 m.1 (filter (λ (one : Channel × Load). same_channel (Messages l end) one.0) ms)
-    ∙ ap (λ r. said_on l end m ++ r) (same_said l end ms)
+same_said l end made = each_load message_in (Messages l end) (said_on l end) (is_said l end) made
 
 -- 3. What an end says, with the numbers of its items
 

@@ -1,7 +1,7 @@
 -- The whole of a .bgp file: all that an edge told a peer, with labels that stay what they were as it was told.
-use Rattle.std.proofs.Common.{ℕ, zero, suc, ◌≡◌, inl, inr, Bool, true, false, cond, List, [], ◌∷◌, ◌++◌, map, filter, length, drop, refl, sym, ap, subst}
+use Rattle.std.proofs.Common.{ℕ, zero, suc, ◌≡◌, inl, inr, List, [], ◌∷◌, ◌++◌, map, length, drop, refl, sym, ap, subst}
 use Rattle.std.proofs.Common.{◌∙◌, append-nil}
-use Rattle.std.specs.Prelude.{◌≢◌, ◌==◌, ◌&&◌}
+use Rattle.std.specs.Prelude.{◌≢◌}
 use Rattle.std.specs.List.{flat_map}
 use Rattle.std.proofs.lemmas.List.Concat.{flat_map-append}
 use Rattle.mn_base.proofs.Members.{In, contained_in, in_append, in_rest, in_map, in_flat_map}
@@ -13,7 +13,7 @@ use Rattle.mn_ledger.specs.Places.{home_of}
 use Rattle.mn_ledger.specs.Ledger.{next_of, world_of, packets_of}
 use Rattle.mn_ledger.specs.Lawful.{IsLawfulJournal}
 use Rattle.mn_ledger.specs.OneMore.{with_packet, made_then}
-use Rattle.mn_ledger.specs.Items.{Channel, Notices, Messages, Routes, Frames, Load, Notice, Says, Tells, Carries, Item, Flight, same_channel, loads_on}
+use Rattle.mn_ledger.specs.Items.{Channel, Routes, Load, Notice, Says, Tells, Carries, Item, Flight, loads_on}
 use Rattle.mn_ledger.specs.Items.{left_in_flight, in_time, numbered, made_by, flight_of}
 use Rattle.mn_ledger.proofs.Channels.{loads_in, loads_append, on_numbered}
 use Rattle.mn_ledger.proofs.Flows.{in_flight}
@@ -32,45 +32,12 @@ use Rattle.mn_output_laws.specs.Lists.{telling_in, all_told, told_file}
 use Rattle.mn_output_laws.proofs.Adding.{adding}
 use Rattle.mn_output_laws.proofs.Deliveries.{by_last, its_packet}
 use Rattle.mn_output_laws.proofs.Frames.{same_all}
+use Rattle.mn_output_laws.proofs.Loads.{each_load, is_told}
 
 -- 1. What an edge tells, of loads and of all that is made
 
-abbrev second : Channel × Load → Load
-second one = one.1
-
-one_told : (edge peer : ℕ) (on : Channel) (load : Load) (rest : List (Channel × Load)) →
-    flat_map telling_in (map second (cond (same_channel (Routes edge peer) on) ((on, load) ∷ rest) rest))
-    ≡ told_on edge peer (on, load) ++ flat_map telling_in (map second rest)
-one_told edge peer (Routes teller other) (Tells m) rest = by ((teller == edge) && (other == peer))
-  where
-    by : (b : Bool) → flat_map telling_in (map second (cond b ((Routes teller other, Tells m) ∷ rest) rest))
-        ≡ cond b (m ∷ []) [] ++ flat_map telling_in (map second rest)
-    by true = refl
-    by false = refl
-one_told edge peer (Routes teller other) Notice rest = by ((teller == edge) && (other == peer))
-  where
-    by : (b : Bool) → flat_map telling_in (map second (cond b ((Routes teller other, Notice) ∷ rest) rest)) ≡ flat_map telling_in (map second rest)
-    by true = refl
-    by false = refl
-one_told edge peer (Routes teller other) (Says m) rest = by ((teller == edge) && (other == peer))
-  where
-    by : (b : Bool) → flat_map telling_in (map second (cond b ((Routes teller other, Says m) ∷ rest) rest)) ≡ flat_map telling_in (map second rest)
-    by true = refl
-    by false = refl
-one_told edge peer (Routes teller other) (Carries k) rest = by ((teller == edge) && (other == peer))
-  where
-    by : (b : Bool) → flat_map telling_in (map second (cond b ((Routes teller other, Carries k) ∷ rest) rest)) ≡ flat_map telling_in (map second rest)
-    by true = refl
-    by false = refl
-one_told edge peer (Notices k n) load rest = refl
-one_told edge peer (Messages k n) load rest = refl
-one_told edge peer (Frames k d) load rest = refl
-
 same_told : (edge peer : ℕ) (made : List (Channel × Load)) → flat_map telling_in (loads_in (Routes edge peer) made) ≡ flat_map (told_on edge peer) made
-same_told edge peer [] = refl
-same_told edge peer (m ∷ ms) =
-    one_told edge peer m.0 m.1 (filter (λ (one : Channel × Load). same_channel (Routes edge peer) one.0) ms)
-    ∙ ap (λ r. told_on edge peer m ++ r) (same_told edge peer ms)
+same_told edge peer made = each_load telling_in (Routes edge peer) (told_on edge peer) (is_told edge peer) made
 
 its_load : (load : Load) (telling : Telling) → In (telling_in load) telling → load ≡ Tells telling
 its_load (Tells x) telling i = elim i [ inl e ↦ ap (λ y. Tells y) e | inr j ↦ absurd j ]
