@@ -36,12 +36,8 @@ begins_two count (Open ∷ []) p h = absurd (none p h)
     none : 0 < count → count ≡ 0 → ⊥
     none p e = omega (arith, p, e)
 begins_two count (Open ∷ (KeepAlive ∷ more)) p h = omega arith
-begins_two count (Open ∷ (Open ∷ more)) p h = absurd h
-begins_two count (Open ∷ (Announce offer ∷ more)) p h = absurd h
-begins_two count (Open ∷ (Withdraw key ∷ more)) p h = absurd h
-begins_two count (KeepAlive ∷ words) p h = absurd h
-begins_two count (Announce offer ∷ words) p h = absurd h
-begins_two count (Withdraw key ∷ words) p h = absurd h
+begins_two count (Open ∷ (_ ∷ more)) p h = absurd h
+begins_two count (_ ∷ words) p h = absurd h
 
 through_keeps : (topology : Network) (node : ℕ) (offer : Option Offer) → export_of (option_map (through topology node) offer) ≡ export_of offer
 through_keeps topology node None = refl

@@ -39,12 +39,8 @@ begins_answer count (Open ∷ (KeepAlive ∷ rest)) h e = absurd (none h e)
   where
     none : 0 < count → count ≡ 0 → ⊥
     none p e = omega (arith, e, p)
-begins_answer count (Open ∷ (Open ∷ rest)) h e = absurd h
-begins_answer count (Open ∷ (Announce offer ∷ rest)) h e = absurd h
-begins_answer count (Open ∷ (Withdraw key ∷ rest)) h e = absurd h
-begins_answer count (KeepAlive ∷ words) h e = absurd h
-begins_answer count (Announce offer ∷ words) h e = absurd h
-begins_answer count (Withdraw key ∷ words) h e = absurd h
+begins_answer count (Open ∷ (_ ∷ rest)) h e = absurd h
+begins_answer count (_ ∷ words) h e = absurd h
 
 -- the word that is heard first, and the one that is heard second
 pub first_is_open : (count : ℕ) (word : Word) (rest : List Word) → BeginsBy count (word ∷ rest) → word ≡ Open
