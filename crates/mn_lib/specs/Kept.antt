@@ -1,11 +1,18 @@
 -- What is true of every Lib.
-use Rattle.std.specs.Prelude.{◌≡◌, ◌≤◌, ◌<◌, length, map, is_some}
+use Rattle.std.specs.Prelude.{ℕ, ◌≡◌, ◌≤◌, ◌<◌, ◌+◌, Bool, cond, List, [], ◌∷◌, ◌++◌, length, map, is_some, vec_capacity}
+use Rattle.mn_base.specs.declared.numbers.NodeNo.{NodeNo}
 use Rattle.mn_lib.specs.declared.bindings.Bound.TheInside.{Inside}
 use Rattle.mn_lib.specs.declared.known.Lib.TheInside.{Inside as KnownInside}
 
+-- from this node on, those that are open, in node order
+abbrev pub open_from : ℕ → List Bool → List NodeNo
+open_from node [] = []
+open_from node (flag ∷ flags) = cond flag (record { 0 = node } ∷ []) [] ++ open_from (node + 1) flags
+
 pub record Stands (inside : Inside) : Type 0 where
   pub rows : length inside.heard.items ≡ length inside.hops.items
-  pub opened : inside.opened.items ≡ map is_some inside.heard.items
+  pub peers : inside.peers.items ≡ open_from 0 (map is_some inside.heard.items)
+  pub room : length inside.heard.items ≤ vec_capacity inside.peers
   pub few : length inside.hops.items ≤ 256
   pub me : inside.me.0 < length inside.hops.items
 

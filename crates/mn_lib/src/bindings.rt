@@ -1,8 +1,9 @@
-ghost use Rattle.std.specs.Prelude.{ℕ, ◌≡◌, ◌≤◌, ◌<◌, ◌++◌, ◌==◌, ◌||◌, ◌↔◌, List, [], length, slice_index_or, slice_set, replicate, map, IfOk, OnOk, OnErr, is_some, true, false, Bool};
+ghost use Rattle.std.specs.Prelude.{ℕ, ◌≡◌, ◌≤◌, ◌<◌, ◌++◌, ◌==◌, ◌||◌, ◌↔◌, List, [], length, slice_index_or, slice_set, replicate, map, IfOk, OnOk, OnErr, is_some, true, false, Bool, vec_capacity};
 ghost use Rattle.std.specs.List.{All, flat_map, list_all, range_with_len};
 ghost use Rattle.mn_lib.specs.Bindings.{nothing_heard, nodes, is_open, usable, offers, after_event, after_events, EventFits, EventsFit, row_of, with_label, label_learned};
 ghost use Rattle.mn_lib.specs.declared.undo.Undo.TheVariants.{Label};
 ghost use Rattle.mn_lib.specs.Undoing.{heard_label, undone, all_undone, undo_of};
+ghost use Rattle.mn_lib.specs.Kept.{open_from};
 ghost use Rattle.mn_lib.specs.Tells.{tells, told, tells_of, releases, closes, opens};
 ghost use Rattle.mn_lib.specs.Aside.{is_hop, is_aside};
 ghost use Rattle.mn_lib.specs.News.{fecs_in, InOrder, AreBelow, begun, so_far, so_far_in, told_since, AreAllNews, AreOfOffered};
@@ -23,7 +24,7 @@ pub(crate) struct Bound {
     alloc: Global,
     me: NodeNo,
     heard: Vec<Option<Row>>,
-    opened: Vec<bool>, // by neighbour, whether it is open: who tells all of them reads no row
+    peers: Vec<NodeNo>, // the open neighbours, in node order: who tells all of them looks at no other
     hops: Vec<Option<NodeNo>>,
 }
 
@@ -51,14 +52,14 @@ impl Bound {
         for _ in 0..nodes {
             heard.push(None)?;
         }
-        let opened = vec![in alloc; false; nodes as usize]?;
+        let peers = Vec::with_capacity(alloc, nodes as usize)?;
         let mut hops = Vec::new(alloc);
         hops.resize(nodes as usize, None)?;
         Ok(Bound {
             alloc,
             me,
             heard,
-            opened,
+            peers,
             hops,
         })
     }
@@ -92,7 +93,14 @@ impl Bound {
         ensures rows { length self.now.heard ≡ nodes self.now }
     {
         let at = to.0 as usize;
-        at < self.opened.len() && self.opened[at]
+        if at < self.heard.len() {
+            match &self.heard[at] {
+                None => false,
+                Some(_) => true,
+            }
+        } else {
+            false
+        }
     }
 
     /// The label that a neighbour said last, where it is open and its last word of the FEC was a Mapping.
@@ -230,12 +238,13 @@ impl Bound {
             LibEvent::Opened(from) => {
                 let row = Row::new(self.alloc, self.hops.len())?;
                 self.heard[from.0 as usize] = Some(row);
-                self.opened[from.0 as usize] = true;
+                list_open(&self.heard, &mut self.peers);
                 Ok(Undo::Row(from, None))
             }
             LibEvent::Closed(from) => {
-                self.opened[from.0 as usize] = false;
-                Ok(Undo::Row(from, self.heard[from.0 as usize].take()))
+                let row = self.heard[from.0 as usize].take();
+                list_open(&self.heard, &mut self.peers);
+                Ok(Undo::Row(from, row))
             }
             LibEvent::Map(from, fec, label) => Ok(self.hear(from, fec, Some(label))),
             LibEvent::Withdraw(from, fec) => Ok(self.hear(from, fec, None)),
@@ -284,8 +293,8 @@ impl Bound {
             Undo::Row(from, row) => {
                 let at = from.0 as usize;
                 if at < self.heard.len() {
-                    self.opened[at] = row.is_some();
                     self.heard[at] = row;
+                    list_open(&self.heard, &mut self.peers);
                 }
             }
             Undo::Label(from, fec, label) => {
@@ -383,8 +392,8 @@ impl Bound {
         requires fec { fec.0 < nodes self.now }
         ensures { OnOk result (tells.new.items ≡ tells.old.items ++ tells_of before self.now events.now fec.0) }
     {
-        for to in 0..self.hops.len() {
-            self.tell_one(events, fec, before, NodeNo(to as u16), tells)?;
+        for to in &self.peers {
+            self.tell_one(events, fec, before, *to, tells)?;
         }
         Ok(())
     }
@@ -473,6 +482,21 @@ impl Bound {
         let mut tells = releases(self.alloc, events)?;
         self.changes(events, before, &mut tells)?;
         Ok(tells)
+    }
+}
+
+/// Lists the open neighbours, in node order. There is room for all.
+fn list_open(heard: &[Option<Row>], peers: &mut Vec<NodeNo>)
+    requires few { length heard.now ≤ 256 }
+    requires room { length heard.now ≤ vec_capacity peers.old }
+    ensures listed { peers.new.items ≡ open_from 0 (map is_some heard.now) }
+    ensures room { vec_capacity peers.new ≡ vec_capacity peers.old }
+{
+    peers.clear();
+    for at in 0..heard.len() {
+        if heard[at].is_some() {
+            peers.push_reserved(NodeNo(at as u16));
+        }
     }
 }
 
