@@ -11,6 +11,11 @@ begins known =
 abbrev turns : Known → Known
 turns known = known_after known (Next (node 3) (Some (node 2)) ∷ []) 0
 
+pub apply-requires-2-clause-few : goal.apply-requires-2-clause-few
+apply-requires-2-clause-few g c =
+    few_for c.apply.new.self (begins (nothing_known (node 0) 4 10)) (Next (node 3) (Some (node 2)) ∷ [])
+    (c.in_ok-apply.ensures.after ∙ ap begins c.in_ok-lib.ensures) refl refl
+
 pub apply-requires-3-clause-few : goal.apply-requires-3-clause-few
 apply-requires-3-clause-few g c =
     few_for c.apply-2.new.self (turns (begins (nothing_known (node 0) 4 10))) (Next (node 3) None ∷ [])
