@@ -210,7 +210,7 @@ module _ {T : Type 0} where
         link_stays Channel p (prev_of Channel two first) q two
         (link_stays Number p (prev_of Number one head) q one (stays p q (λ (node : Node T). record node { item = Some x }) cells h))
 
-    room_three : (q : ℕ) → room_at three q ≡ room_at cells q
+    pub room_three : (q : ℕ) → room_at three q ≡ room_at cells q
     room_three q =
         room_past_link Channel p (prev_of Channel two first) q two ∙ room_past_link Number p (prev_of Number one head) q one
         ∙ room_past_item p q (Some x) cells
@@ -235,6 +235,7 @@ module _ {T : Type 0} where
           (rw new_item refl);
       there = all_old (λ q. IsSome (value_at q three)) free
           (λ q i. three_there q (all_at (λ r. IsSome (value_at r cells)) free q (all_front (λ r. IsSome (value_at r cells)) free linked.there) i));
+      head_room = room_three head ∙ linked.head_room;
       order_room = λ q i. room_three q ∙ room_order order linked.order_room q i;
       free_room = λ q i. room_three q ∙ linked.free_room q (in_left free (p ∷ []) q i);
     }

@@ -154,6 +154,7 @@ module _ {T : Type 0} where
               (all_old (λ q. IsSome (value_at q new)) free
               (λ q i. subst (λ o. IsSome o) (sym (value_kept q (all_in (λ r. IsSome (value_at r old)) free q held.linked.there i)))
               (all_in (λ r. IsSome (value_at r old)) free q held.linked.there i))) there_p;
+          head_room = room_old head held.linked.number.there.0 held.linked.head_room;
           order_room =
               λ q i. room_old q (all_in (λ r. IsSome (value_at r old)) ring_order q held.linked.number.there.1 i) (held.linked.order_room q i);
           free_room = room_free own free

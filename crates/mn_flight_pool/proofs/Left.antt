@@ -197,6 +197,7 @@ module _ {T : Type 0} (head : ℕ) (heads free us : List ℕ) (p : ℕ) (vs : Li
     there = all_push (λ q. IsSome (value_at q three)) free
         (all_old (λ q. IsSome (value_at q three)) free (λ q i. three_there q (all_in (λ r. IsSome (value_at r cells)) free q linked.there i)))
         (three_there p p_there);
+    head_room = room_three head ∙ linked.head_room;
     order_room = λ q i. room_three q ∙ linked.order_room q (order_with us q i);
     free_room = λ q i. room_three q ∙ room_free free linked.free_room q i;
   }

@@ -1,5 +1,7 @@
 pub mod Changed
 pub mod Nodes
+pub mod Firsts
+pub mod Standing
 pub mod Neighbours
 pub mod Rings
 pub mod Traces

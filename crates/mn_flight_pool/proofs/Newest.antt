@@ -9,7 +9,7 @@ use Rattle.std.proofs.lemmas.Option.{same_Some}
 use Rattle.mn_flight.specs.declared.Item.{Item}
 use Rattle.mn_flight.proofs.Members as members
 use Rattle.mn_flight_pool.specs.Cells.{value_at}
-use Rattle.mn_flight_pool.specs.Rings.{IsIn, IsRing, item_at, prev_of}
+use Rattle.mn_flight_pool.specs.Rings.{IsIn, IsRing, item_at, room_at, prev_of}
 use Rattle.mn_flight_pool.specs.Pool.{items_in, steps_of}
 use Rattle.mn_flight_pool.specs.Whole.{order_in, items_of, IsWhole}
 use Rattle.mn_flight_pool.specs.Newest.{IsPassed}
@@ -19,7 +19,7 @@ use Rattle.mn_flight_pool.proofs.Neighbours.{last_of_cons}
 use Rattle.mn_flight_pool.proofs.Items.{item_member, member_node, lesser_before, one_item, find_none}
 use Rattle.mn_flight_pool.proofs.Sooner.{in_either, in_middle}
 use Rattle.mn_flight_pool.proofs.Walks.{back_at}
-use Rattle.mn_flight_pool.proofs.Whole.{flight, order_length, node_there, node_holds}
+use Rattle.mn_flight_pool.proofs.Whole.{rooms, flight, order_length, node_there, node_holds}
 
 module _ {T : Type 0} (pool : Pool T) (whole : IsWhole pool) (number : ℕ) where
   pub none_passed : IsPassed pool number 0 pool.head.index
@@ -66,20 +66,18 @@ module _ {T : Type 0} (pool : Pool T) (whole : IsWhole pool) (number : ℕ) wher
                 is.greater;
           }
 
-  pub at_there : (k : ℕ) (at : ℕ) → IsPassed pool number k at → k < pool.count → IsSome (value_at at pool.store)
+  pub at_there : (k : ℕ) (at : ℕ) → IsPassed pool number k at → k < pool.count → room_at pool.store at ≡ true
   at_there k at is below = by is.passed is.cut is.count is.node
     where
       by : (vs : List ℕ) → order_in pool ≡ is.front ++ vs → length vs ≡ k → at ≡ steps_of (prev_of Number pool.store) pool.head.index k →
-          IsSome (value_at at pool.store)
-      by [] cut count node =
-          subst (λ p. IsSome (value_at p pool.store)) (sym (node ∙ ap (steps_of (prev_of Number pool.store) pool.head.index) (sym count)))
-          whole.held.linked.number.there.0
+          room_at pool.store at ≡ true
+      by [] cut count node = rooms pool whole at (inl (node ∙ ap (steps_of (prev_of Number pool.store) pool.head.index) (sym count)))
       by (v ∷ vs) cut count node =
           let steps : steps_of (prev_of Number pool.store) pool.head.index k ≡ v =
           ap (steps_of (prev_of Number pool.store) pool.head.index) (sym count)
           ∙ back_at Number pool.store pool.head.index vs is.front v (subst (λ l. IsRing Number pool.store pool.head.index l) cut whole.held.linked.number)
           in
-          subst (λ p. IsSome (value_at p pool.store)) (sym (node ∙ steps)) (node_there pool whole v (subst (λ l. IsIn v l) (sym cut) (in_middle is.front v vs)))
+          rooms pool whole at (inr (subst (λ q. IsIn q (order_in pool)) (sym (node ∙ steps)) (subst (λ l. IsIn v l) (sym cut) (in_middle is.front v vs))))
 
   module _ (k : ℕ) (node : ℕ) (n : Next k node) where
     pub in_order : IsIn node (order_in pool)

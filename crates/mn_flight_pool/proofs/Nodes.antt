@@ -1,119 +1,54 @@
 -- The nodes as contracts see them, beside the lists in which a store keeps them.
-use Rattle.std.proofs.Common.{◌≡◌, ◌<◌, ◌≤◌, ◌+◌, ◌-◌, ℕ, zero, suc, true, false, Bool, List, [], ◌∷◌, ◌++◌, length, Option, Some, None, IsSome, option_map, refl, sym, ap}
+use Rattle.std.proofs.Common.{◌≡◌, ◌<◌, ◌≤◌, ◌+◌, ℕ, zero, suc, true, List, [], ◌∷◌, ◌++◌, length, Option, Some, None, IsSome, refl, sym, ap}
 use Rattle.std.proofs.Common.{◌∙◌, subst, arith, get_or}
 use Rattle.std.specs.Prelude.{slice_get, slice_set}
 use Rattle.std.proofs.lemmas.Option.{same_Some, slice_get_read}
 use Rattle.mn_flight.specs.declared.Item.{Item}
 use Rattle.mn_flight_pool.specs.Cells.{value_at, put_at}
-use Rattle.mn_flight_pool.specs.Nodes.{Node, nodes_of}
-use Rattle.mn_flight_pool.specs.Rings.{change_at, item_at, room_in, room_at, next_in, prev_in, next_of, prev_of, link_in, with_link_in, link_of, with_link}
-use Rattle.mn_flight_pool.specs.Rings.{set_next, set_prev, with_item, HasNoRoom}
+use Rattle.mn_flight_pool.specs.Nodes.{Node, first_node, roomy_node, roomy_nodes, nodes_of}
+use Rattle.mn_flight_pool.specs.Rings.{change_at, item_at, room_in, room_at, next_in, prev_in, next_of, prev_of, set_next, set_prev, link_of, link_seen}
+use Rattle.mn_flight_pool.specs.Rings.{link_at, with_link, with_item}
+use Rattle.mn_flight_pool.specs.declared.node.Place.{Place}
 use Rattle.mn_flight_pool.specs.declared.node.Pair.{Pair}
+use Rattle.mn_flight_pool.specs.declared.node.Pair.TheVariants.{Number, Channel, Due}
 use Rattle.mn_flight_pool.specs.declared.node.Link.{Link}
-use Rattle.mn_flight_pool.specs.declared.node.Links.{Links}
+use Rattle.mn_flight_pool.specs.declared.node.CommonLinks.{CommonLinks}
 use Rattle.mn_flight_pool.proofs.Changed.{value_last}
-
-bare_all : (T : Type 0) (bare : ℕ) (ls : List Links) → HasNoRoom (nodes_of {T = T} bare ls [])
-bare_all T bare [] p = refl
-bare_all T (suc bare) (l ∷ ls) zero = refl
-bare_all T (suc bare) (l ∷ ls) (suc p) = bare_all T bare ls p
-bare_all T zero (l ∷ ls) zero = refl
-bare_all T zero (l ∷ ls) (suc p) = bare_all T zero ls p
+use Rattle.mn_flight_pool.proofs.Changed as changed
 
 pub below : (a b : ℕ) → (b ≤ a → ⊥) → a < b
 below a b h = omega (arith, h)
 
 module _ {T : Type 0} where
-  -- 1. Neighbours
-  pub links_at : (bare : ℕ) (ls : List Links) (is : List (Option (Item T))) (p : ℕ) →
-      option_map (λ (node : Node T). node.links) (value_at p (nodes_of bare ls is)) ≡ value_at p ls
-  links_at bare [] is p = refl
-  links_at (suc bare) (l ∷ ls) is zero = refl
-  links_at (suc bare) (l ∷ ls) is (suc p) = links_at bare ls is p
-  links_at zero (l ∷ ls) [] zero = refl
-  links_at zero (l ∷ ls) [] (suc p) = links_at zero ls [] p
-  links_at zero (l ∷ ls) (i ∷ is) zero = refl
-  links_at zero (l ∷ ls) (i ∷ is) (suc p) = links_at zero ls is p
+  roomy_many : (cs : List Link) (ls : List CommonLinks) (is : List (Option (Item T))) → length (roomy_nodes cs ls is) ≡ length cs
+  roomy_many [] ls is = refl
+  roomy_many (c ∷ cs) [] is = ap suc (roomy_many cs [] is)
+  roomy_many (c ∷ cs) (l ∷ ls) [] = ap suc (roomy_many cs ls [])
+  roomy_many (c ∷ cs) (l ∷ ls) (i ∷ is) = ap suc (roomy_many cs ls is)
 
-  pub many : (bare : ℕ) (ls : List Links) (is : List (Option (Item T))) → length (nodes_of bare ls is) ≡ length ls
-  many bare [] is = refl
-  many (suc bare) (l ∷ ls) is = ap suc (many bare ls is)
-  many zero (l ∷ ls) [] = ap suc (many zero ls [])
-  many zero (l ∷ ls) (i ∷ is) = ap suc (many zero ls is)
+  pub many : (n : ℕ) (cs : List Link) (ls : List CommonLinks) (is : List (Option (Item T))) → length (nodes_of n cs ls is) ≡ length cs
+  many zero cs ls is = roomy_many cs ls is
+  many (suc n) [] ls is = refl
+  many (suc n) (c ∷ cs) ls is = ap suc (many n cs ls is)
 
-  seen : (pair : Pair) (o : Option (Node T)) (l : Links) → option_map (λ (node : Node T). node.links) o ≡ Some l →
-      (next_in pair o ≡ (link_in pair l).next.index) × (prev_in pair o ≡ (link_in pair l).prev.index)
-  seen pair None l h = cc
-  seen pair (Some node) l h =
-      let e : node.links ≡ l = same_Some node.links l h in
-      (ap (λ (k : Links). (link_in pair k).next.index) e, ap (λ (k : Links). (link_in pair k).prev.index) e)
-
-  pub next_seen : (pair : Pair) (bare : ℕ) (ls : List Links) (is : List (Option (Item T))) (p : ℕ) (l : Links) → value_at p ls ≡ Some l →
-      next_of pair (nodes_of bare ls is) p ≡ (link_in pair l).next.index
-  next_seen pair bare ls is p l h = (seen pair (value_at p (nodes_of bare ls is)) l (links_at bare ls is p ∙ h)).0
-
-  pub prev_seen : (pair : Pair) (bare : ℕ) (ls : List Links) (is : List (Option (Item T))) (p : ℕ) (l : Links) → value_at p ls ≡ Some l →
-      prev_of pair (nodes_of bare ls is) p ≡ (link_in pair l).prev.index
-  prev_seen pair bare ls is p l h = (seen pair (value_at p (nodes_of bare ls is)) l (links_at bare ls is p ∙ h)).1
-
-  -- a change of a node's neighbours
-  pub links_put : (bare : ℕ) (ls : List Links) (is : List (Option (Item T))) (p : ℕ) (l k : Links) (f : Node T → Node T) → value_at p ls ≡ Some l →
-      ((room : Bool) (item : Option (Item T)) → f (record { links = l; room = room; item = item }) ≡ record { links = k; room = room; item = item })
-      → nodes_of bare (put_at p k ls) is ≡ change_at p f (nodes_of bare ls is)
-  links_put bare [] is p l k f h e = cc
-  links_put (suc bare) (m ∷ ls) is zero l k f h e =
-      ap (λ n. n ∷ nodes_of bare ls is)
-      (sym (ap (λ (j : Links). f (record { links = j; room = false; item = None })) (same_Some m l h) ∙ e false None))
-  links_put (suc bare) (m ∷ ls) is (suc p) l k f h e =
-      ap (λ n. record { links = m; room = false; item = None } ∷ n) (links_put bare ls is p l k f h e)
-  links_put zero (m ∷ ls) [] zero l k f h e =
-      ap (λ n. n ∷ nodes_of zero ls [])
-      (sym (ap (λ (j : Links). f (record { links = j; room = false; item = None })) (same_Some m l h) ∙ e false None))
-  links_put zero (m ∷ ls) [] (suc p) l k f h e =
-      ap (λ n. record { links = m; room = false; item = None } ∷ n) (links_put zero ls [] p l k f h e)
-  links_put zero (m ∷ ls) (i ∷ is) zero l k f h e =
-      ap (λ n. n ∷ nodes_of zero ls is)
-      (sym (ap (λ (j : Links). f (record { links = j; room = true; item = i })) (same_Some m l h) ∙ e true i))
-  links_put zero (m ∷ ls) (i ∷ is) (suc p) l k f h e =
-      ap (λ n. record { links = m; room = true; item = i } ∷ n) (links_put zero ls is p l k f h e)
-
-  pub next_put : (pair : Pair) (p q : ℕ) (bare : ℕ) (ls : List Links) (is : List (Option (Item T))) (l k : Links) (link : Link) → value_at p ls ≡ Some l →
-      link ≡ link_in pair l → k ≡ with_link_in pair (record { next = record { index = q }; prev = link.prev }) l →
-      nodes_of bare (put_at p k ls) is ≡ set_next pair p q (nodes_of bare ls is)
-  next_put pair p q bare ls is l k link h e is_k =
-      links_put bare ls is p l k (λ node. with_link pair (record (link_of pair node) { next = record { index = q } }) node) h
-      (λ room item. ap (λ (j : Links). record { links = j; room = room; item = item })
-      (sym (is_k ∙ ap (λ (n : Link). with_link_in pair (record { next = record { index = q }; prev = n.prev }) l) e)))
-
-  pub prev_put : (pair : Pair) (p q : ℕ) (bare : ℕ) (ls : List Links) (is : List (Option (Item T))) (l k : Links) (link : Link) → value_at p ls ≡ Some l →
-      link ≡ link_in pair l → k ≡ with_link_in pair (record { next = link.next; prev = record { index = q } }) l →
-      nodes_of bare (put_at p k ls) is ≡ set_prev pair p q (nodes_of bare ls is)
-  prev_put pair p q bare ls is l k link h e is_k =
-      links_put bare ls is p l k (λ node. with_link pair (record (link_of pair node) { prev = record { index = q } }) node) h
-      (λ room item. ap (λ (j : Links). record { links = j; room = room; item = item })
-      (sym (is_k ∙ ap (λ (n : Link). with_link_in pair (record { next = n.next; prev = record { index = q } }) l) e)))
-
-  -- 2. Items
-  -- a node that is there has a place among the neighbours
-  pub within : (bare : ℕ) (ls : List Links) (is : List (Option (Item T))) (p : ℕ) → IsSome (value_at p (nodes_of bare ls is)) → p < length ls
-  within bare [] is p h = cc
-  within (suc bare) (l ∷ ls) is zero h = omega arith
-  within (suc bare) (l ∷ ls) is (suc p) h = omega (arith, within bare ls is p h)
-  within zero (l ∷ ls) [] zero h = omega arith
-  within zero (l ∷ ls) [] (suc p) h = omega (arith, within zero ls [] p h)
-  within zero (l ∷ ls) (i ∷ is) zero h = omega arith
-  within zero (l ∷ ls) (i ∷ is) (suc p) h = omega (arith, within zero ls is p h)
+  -- 1. Which have room
+  roomy_in : (cs : List Link) (ls : List CommonLinks) (is : List (Option (Item T))) (p : ℕ) → room_at (roomy_nodes cs ls is) p ≡ true →
+      (p < length ls) × (p < length is)
+  roomy_in [] ls is p h = cc
+  roomy_in (c ∷ cs) [] is zero h = cc
+  roomy_in (c ∷ cs) [] is (suc p) h = let r = roomy_in cs [] is p h in absurd (omega (arith, r.0))
+  roomy_in (c ∷ cs) (l ∷ ls) [] zero h = cc
+  roomy_in (c ∷ cs) (l ∷ ls) [] (suc p) h = let r = roomy_in cs ls [] p h in absurd (omega (arith, r.1))
+  roomy_in (c ∷ cs) (l ∷ ls) (i ∷ is) zero h = (omega arith, omega arith)
+  roomy_in (c ∷ cs) (l ∷ ls) (i ∷ is) (suc p) h = let r = roomy_in cs ls is p h in (omega (arith, r.0), omega (arith, r.1))
 
   -- a node that has room is behind those that have none
-  pub roomy : (bare : ℕ) (ls : List Links) (is : List (Option (Item T))) (p : ℕ) → room_at (nodes_of bare ls is) p ≡ true →
-      (bare ≤ p) × (p < bare + length is)
-  roomy bare [] is p h = cc
-  roomy (suc bare) (l ∷ ls) is zero h = cc
-  roomy (suc bare) (l ∷ ls) is (suc p) h = let r = roomy bare ls is p h in (omega (arith, r.0), omega (arith, r.1))
-  roomy zero (l ∷ ls) [] zero h = cc
-  roomy zero (l ∷ ls) [] (suc p) h = let r = roomy zero ls [] p h in (omega arith, absurd (omega (arith, r.1)))
-  roomy zero (l ∷ ls) (i ∷ is) zero h = (omega arith, omega arith)
-  roomy zero (l ∷ ls) (i ∷ is) (suc p) h = let r = roomy zero ls is p h in (omega arith, omega (arith, r.1))
+  pub roomy : (n : ℕ) (cs : List Link) (ls : List CommonLinks) (is : List (Option (Item T))) (p : ℕ) → room_at (nodes_of n cs ls is) p ≡ true →
+      (n ≤ p) × (p < n + length is)
+  roomy zero cs ls is p h = let r = roomy_in cs ls is p h in (omega arith, omega (arith, r.1))
+  roomy (suc n) [] ls is p h = cc
+  roomy (suc n) (c ∷ cs) ls is zero h = cc
+  roomy (suc n) (c ∷ cs) ls is (suc p) h = let r = roomy n cs ls is p h in (omega (arith, r.0), omega (arith, r.1))
 
   there : (o : Option (Node T)) → room_in o ≡ true → IsSome o
   there None h = cc
@@ -122,119 +57,265 @@ module _ {T : Type 0} where
   pub room_there : (cells : List (Node T)) (p : ℕ) → room_at cells p ≡ true → IsSome (value_at p cells)
   room_there cells p h = there (value_at p cells) h
 
-  pub no_item : (bare : ℕ) (ls : List Links) (is : List (Option (Item T))) (p : ℕ) → p < bare → item_at (nodes_of bare ls is) p ≡ None
-  no_item bare [] is p h = refl
-  no_item (suc bare) (l ∷ ls) is zero h = refl
-  no_item (suc bare) (l ∷ ls) is (suc p) h = no_item bare ls is p (omega (arith, h))
-  no_item zero (l ∷ ls) is p h = absurd (omega (arith, h))
+  -- 2. Neighbours
+  roomy_channel : (cs : List Link) (ls : List CommonLinks) (is : List (Option (Item T))) (p : ℕ) (c : Link) → slice_get cs p ≡ Some c →
+      link_at Channel (roomy_nodes cs ls is) p ≡ c
+  roomy_channel [] ls is p c h = cc
+  roomy_channel (d ∷ cs) [] is zero c h = same_Some d c h
+  roomy_channel (d ∷ cs) [] is (suc p) c h = roomy_channel cs [] is p c h
+  roomy_channel (d ∷ cs) (l ∷ ls) [] zero c h = same_Some d c h
+  roomy_channel (d ∷ cs) (l ∷ ls) [] (suc p) c h = roomy_channel cs ls [] p c h
+  roomy_channel (d ∷ cs) (l ∷ ls) (i ∷ is) zero c h = same_Some d c h
+  roomy_channel (d ∷ cs) (l ∷ ls) (i ∷ is) (suc p) c h = roomy_channel cs ls is p c h
 
-  own_item : (ls : List Links) (is : List (Option (Item T))) (p : ℕ) (i : Option (Item T)) → length ls ≡ length is → slice_get is p ≡ Some i →
-      item_at (nodes_of 0 ls is) p ≡ i
-  own_item [] [] p i e h = cc
-  own_item [] (j ∷ is) p i e h = absurd (omega (arith, e))
-  own_item (l ∷ ls) [] p i e h = cc
-  own_item (l ∷ ls) (j ∷ is) zero i e h = same_Some j i h
-  own_item (l ∷ ls) (j ∷ is) (suc p) i e h = own_item ls is p i (omega (arith, e)) h
+  on_channel : (n : ℕ) (cs : List Link) (ls : List CommonLinks) (is : List (Option (Item T))) (p : ℕ) (c : Link) → slice_get cs p ≡ Some c →
+      link_at Channel (nodes_of n cs ls is) p ≡ c
+  on_channel zero cs ls is p c h = roomy_channel cs ls is p c h
+  on_channel (suc n) [] ls is p c h = cc
+  on_channel (suc n) (d ∷ cs) ls is zero c h = same_Some d c h
+  on_channel (suc n) (d ∷ cs) ls is (suc p) c h = on_channel n cs ls is p c h
 
-  its_item : (bare : ℕ) (ls : List Links) (is : List (Option (Item T))) (p q : ℕ) (i : Option (Item T)) → length ls ≡ bare + length is → q ≡ bare + p →
-      slice_get is p ≡ Some i → item_at (nodes_of bare ls is) q ≡ i
-  its_item zero ls is p q i e at h = ap (λ r. item_at (nodes_of 0 ls is) r) (omega (arith, at)) ∙ own_item ls is p i (omega (arith, e)) h
-  its_item (suc bare) [] is p q i e at h = absurd (omega (arith, e))
-  its_item (suc bare) (l ∷ ls) is p zero i e at h = absurd (omega (arith, at))
-  its_item (suc bare) (l ∷ ls) is p (suc q) i e at h = its_item bare ls is p q i (omega (arith, e)) (omega (arith, at)) h
+  roomy_common : (cs : List Link) (ls : List CommonLinks) (is : List (Option (Item T))) (k : ℕ) (l : CommonLinks) →
+      room_at (roomy_nodes cs ls is) k ≡ true → slice_get ls k ≡ Some l →
+      (link_at Number (roomy_nodes cs ls is) k ≡ l.number) × (link_at Due (roomy_nodes cs ls is) k ≡ l.due)
+  roomy_common [] ls is k l r h = cc
+  roomy_common (c ∷ cs) [] is k l r h = cc
+  roomy_common (c ∷ cs) (m ∷ ls) [] k l r h = let w = roomy_in (c ∷ cs) (m ∷ ls) [] k r in absurd (omega (arith, w.1))
+  roomy_common (c ∷ cs) (m ∷ ls) (i ∷ is) zero l r h =
+      (ap (λ (j : CommonLinks). j.number) (same_Some m l h), ap (λ (j : CommonLinks). j.due) (same_Some m l h))
+  roomy_common (c ∷ cs) (m ∷ ls) (i ∷ is) (suc k) l r h = roomy_common cs ls is k l r h
 
-  own_put : (ls : List Links) (is : List (Option (Item T))) (p : ℕ) (i : Option (Item T)) → length ls ≡ length is → p < length is →
-      nodes_of 0 ls (slice_set is p i) ≡ with_item p i (nodes_of 0 ls is)
-  own_put [] is p i e h = refl
-  own_put (l ∷ ls) [] p i e h = absurd (omega (arith, h))
-  own_put (l ∷ ls) (j ∷ is) zero i e h = refl
-  own_put (l ∷ ls) (j ∷ is) (suc p) i e h =
-      ap (λ n. record { links = l; room = true; item = j } ∷ n) (own_put ls is p i (omega (arith, e)) (omega (arith, h)))
+  in_common : (n : ℕ) (cs : List Link) (ls : List CommonLinks) (is : List (Option (Item T))) (p k : ℕ) (l : CommonLinks) →
+      room_at (nodes_of n cs ls is) p ≡ true → p ≡ n + k → slice_get ls k ≡ Some l →
+      (link_at Number (nodes_of n cs ls is) p ≡ l.number) × (link_at Due (nodes_of n cs ls is) p ≡ l.due)
+  in_common zero cs ls is p k l r at h =
+      let same : k ≡ p = omega (arith, at) in roomy_common cs ls is p l r (subst (λ q. slice_get ls q ≡ Some l) same h)
+  in_common (suc n) [] ls is p k l r at h = cc
+  in_common (suc n) (c ∷ cs) ls is zero k l r at h = cc
+  in_common (suc n) (c ∷ cs) ls is (suc p) k l r at h = in_common n cs ls is p k l r (omega (arith, at)) h
 
-  item_put : (bare : ℕ) (ls : List Links) (is : List (Option (Item T))) (p q : ℕ) (i : Option (Item T)) → length ls ≡ bare + length is → q ≡ bare + p →
-      p < length is → nodes_of bare ls (slice_set is p i) ≡ with_item q i (nodes_of bare ls is)
-  item_put zero ls is p q i e at h =
-      own_put ls is p i (omega (arith, e)) h ∙ ap (λ r. with_item r i (nodes_of 0 ls is)) (omega (arith, at))
-  item_put (suc bare) [] is p q i e at h = refl
-  item_put (suc bare) (l ∷ ls) is p zero i e at h = absurd (omega (arith, at))
-  item_put (suc bare) (l ∷ ls) is p (suc q) i e at h =
-      ap (λ n. record { links = l; room = false; item = None } ∷ n) (item_put bare ls is p q i (omega (arith, e)) (omega (arith, at)) h)
-
-  -- 3. One more node
-  pub added : (bare : ℕ) (ls : List Links) (is : List (Option (Item T))) (l : Links) (i : Option (Item T)) → length ls ≡ bare + length is →
-      nodes_of bare (ls ++ l ∷ []) (is ++ i ∷ []) ≡ nodes_of bare ls is ++ record { links = l; room = true; item = i } ∷ []
-  added (suc bare) [] is l i e = absurd (omega (arith, e))
-  added zero [] [] l i e = refl
-  added zero [] (j ∷ is) l i e = absurd (omega (arith, e))
-  added (suc bare) (m ∷ ls) is l i e = ap (λ n. record { links = m; room = false; item = None } ∷ n) (added bare ls is l i (omega (arith, e)))
-  added zero (m ∷ ls) [] l i e = absurd (omega (arith, e))
-  added zero (m ∷ ls) (j ∷ is) l i e = ap (λ n. record { links = m; room = true; item = j } ∷ n) (added zero ls is l i (omega (arith, e)))
-
-  added_bare : (n bare : ℕ) (ls : List Links) (l : Links) → n ≡ bare + 1 → length ls ≡ bare →
-      nodes_of {T = T} n (ls ++ l ∷ []) [] ≡ nodes_of bare ls [] ++ record { links = l; room = false; item = None } ∷ []
-  added_bare zero bare ls l at e = absurd (omega (arith, at))
-  added_bare (suc n) zero [] l at e = refl
-  added_bare (suc n) (suc bare) [] l at e = absurd (omega (arith, e))
-  added_bare (suc n) zero (m ∷ ls) l at e = absurd (omega (arith, e))
-  added_bare (suc n) (suc bare) (m ∷ ls) l at e =
-      ap (λ n. record { links = m; room = false; item = None } ∷ n) (added_bare n bare ls l (omega (arith, at)) (omega (arith, e)))
-
-  -- where none has room there is no item
-  pub none_kept : (bare : ℕ) (ls : List Links) (is : List (Option (Item T))) → length ls ≡ bare + length is → HasNoRoom (nodes_of bare ls is) → is ≡ []
-  none_kept (suc bare) [] is e h = absurd (omega (arith, e))
-  none_kept zero [] [] e h = refl
-  none_kept zero [] (j ∷ is) e h = absurd (omega (arith, e))
-  none_kept (suc bare) (l ∷ ls) is e h = none_kept bare ls is (omega (arith, e)) (λ p. h (suc p))
-  none_kept zero (l ∷ ls) [] e h = refl
-  none_kept zero (l ∷ ls) (j ∷ is) e h = absurd (clash (h 0))
+  next_is : (pair : Pair) (cells : List (Node T)) (p : ℕ) → (link_at pair cells p).next.index ≡ next_of pair cells p
+  next_is pair cells p = by (value_at p cells)
     where
-      clash : true ≡ false → ⊥
-      clash t = cc
+      by : (o : Option (Node T)) → (link_seen pair o).next.index ≡ next_in pair o
+      by None = refl
+      by (Some node) = refl
 
-  -- 4. The same, as a store comes upon them
-  pub within_now : (bare : ℕ) (ls : List Links) (is : List (Option (Item T))) (p : ℕ) (now : List (Node T)) → nodes_of bare ls is ≡ now →
-      IsSome (value_at p now) → p < length ls
-  within_now bare ls is p now same h = within bare ls is p (subst (λ l. IsSome (value_at p l)) (sym same) h)
+  prev_is : (pair : Pair) (cells : List (Node T)) (p : ℕ) → (link_at pair cells p).prev.index ≡ prev_of pair cells p
+  prev_is pair cells p = by (value_at p cells)
+    where
+      by : (o : Option (Node T)) → (link_seen pair o).prev.index ≡ prev_in pair o
+      by None = refl
+      by (Some node) = refl
 
-  pub roomy_now : (bare : ℕ) (ls : List Links) (is : List (Option (Item T))) (p : ℕ) (now : List (Node T)) → nodes_of bare ls is ≡ now →
-      room_at now p ≡ true → (bare ≤ p) × (p < bare + length is)
-  roomy_now bare ls is p now same h = roomy bare ls is p (subst (λ l. room_at l p ≡ true) (sym same) h)
+  next_read : (pair : Pair) (cells now : List (Node T)) (p : ℕ) (link : Link) → cells ≡ now → link_at pair cells p ≡ link →
+      link.next.index ≡ next_of pair now p
+  next_read pair cells now p link same e =
+      ap (λ (l : Link). l.next.index) (sym e) ∙ next_is pair cells p ∙ ap (λ s. next_of pair s p) same
 
-  pub item_put_at : (bare : ℕ) (ls : List Links) (is : List (Option (Item T))) (p : ℕ) (i : Option (Item T)) → length ls ≡ bare + length is →
-      (bare ≤ p) × (p < bare + length is) → nodes_of bare ls (slice_set is (p - bare) i) ≡ with_item p i (nodes_of bare ls is)
-  item_put_at bare ls is p i e r =
-      item_put bare ls is (p - bare) p i e (omega (arith, r.0)) (omega (arith, r.0, r.1))
+  prev_read : (pair : Pair) (cells now : List (Node T)) (p : ℕ) (link : Link) → cells ≡ now → link_at pair cells p ≡ link →
+      link.prev.index ≡ prev_of pair now p
+  prev_read pair cells now p link same e =
+      ap (λ (l : Link). l.prev.index) (sym e) ∙ prev_is pair cells p ∙ ap (λ s. prev_of pair s p) same
 
-  pub added_now : (bare : ℕ) (ls : List Links) (is : List (Option (Item T))) (ks : List Links) (js : List (Option (Item T))) (now : List (Node T))
-      (l : Links) (i : Option (Item T)) → length ls ≡ bare + length is → nodes_of bare ls is ≡ now → ks ≡ ls ++ l ∷ [] → js ≡ is ++ i ∷ [] →
-      nodes_of bare ks js ≡ now ++ record { links = l; room = true; item = i } ∷ []
-  added_now bare ls is ks js now l i e same k j =
-      ap (λ m. nodes_of bare m js) k ∙ ap (λ m. nodes_of bare (ls ++ l ∷ []) m) j ∙ added bare ls is l i e
-      ∙ ap (λ m. m ++ record { links = l; room = true; item = i } ∷ []) same
+  -- a change of a node's neighbours in its channel's ring
+  module _ (g : Link → Link) (f : Node T → Node T) (bare : (c : Link) → f (first_node c) ≡ first_node (g c))
+      (full : (c : Link) (l : CommonLinks) (i : Option (Item T)) → f (roomy_node c l i) ≡ roomy_node (g c) l i) where
+    roomy_put : (cs : List Link) (ls : List CommonLinks) (is : List (Option (Item T))) (p : ℕ) (c : Link) → slice_get cs p ≡ Some c →
+        roomy_nodes (put_at p (g c) cs) ls is ≡ change_at p f (roomy_nodes cs ls is)
+    roomy_put [] ls is p c h = cc
+    roomy_put (d ∷ cs) [] is zero c h =
+        ap (λ n. n ∷ roomy_nodes cs [] is) (ap (λ (e : Link). first_node (g e)) (sym (same_Some d c h)) ∙ sym (bare d))
+    roomy_put (d ∷ cs) [] is (suc p) c h = ap (λ n. first_node d ∷ n) (roomy_put cs [] is p c h)
+    roomy_put (d ∷ cs) (l ∷ ls) [] zero c h =
+        ap (λ n. n ∷ roomy_nodes cs ls []) (ap (λ (e : Link). first_node (g e)) (sym (same_Some d c h)) ∙ sym (bare d))
+    roomy_put (d ∷ cs) (l ∷ ls) [] (suc p) c h = ap (λ n. first_node d ∷ n) (roomy_put cs ls [] p c h)
+    roomy_put (d ∷ cs) (l ∷ ls) (i ∷ is) zero c h =
+        ap (λ n. n ∷ roomy_nodes cs ls is) (ap (λ (e : Link). roomy_node (g e) l i) (sym (same_Some d c h)) ∙ sym (full d l i))
+    roomy_put (d ∷ cs) (l ∷ ls) (i ∷ is) (suc p) c h = ap (λ n. roomy_node d l i ∷ n) (roomy_put cs ls is p c h)
 
-  empty_now : (bare : ℕ) (ls : List Links) (is : List (Option (Item T))) (now : List (Node T)) → length ls ≡ bare + length is → nodes_of bare ls is ≡ now →
-      HasNoRoom now → is ≡ []
-  empty_now bare ls is now e same h = none_kept bare ls is e (subst (λ (m : List (Node T)). HasNoRoom m) (sym same) h)
+    channel_put : (n : ℕ) (cs : List Link) (ls : List CommonLinks) (is : List (Option (Item T))) (p : ℕ) (c : Link) → slice_get cs p ≡ Some c →
+        nodes_of n (put_at p (g c) cs) ls is ≡ change_at p f (nodes_of n cs ls is)
+    channel_put zero cs ls is p c h = roomy_put cs ls is p c h
+    channel_put (suc n) [] ls is p c h = cc
+    channel_put (suc n) (d ∷ cs) ls is zero c h =
+        ap (λ m. m ∷ nodes_of n cs ls is) (ap (λ (e : Link). first_node (g e)) (sym (same_Some d c h)) ∙ sym (bare d))
+    channel_put (suc n) (d ∷ cs) ls is (suc p) c h = ap (λ m. first_node d ∷ m) (channel_put n cs ls is p c h)
 
-  pub added_bare_now : (bare : ℕ) (ls : List Links) (is : List (Option (Item T))) (ks : List Links) (now : List (Node T)) (l : Links) →
-      length ls ≡ bare + length is → nodes_of bare ls is ≡ now → HasNoRoom now → ks ≡ ls ++ l ∷ [] →
-      nodes_of (bare + 1) ks is ≡ now ++ record { links = l; room = false; item = None } ∷ []
-  added_bare_now bare ls is ks now l e same h k =
-      let none : is ≡ [] = empty_now bare ls is now e same h in
-      ap (λ m. nodes_of (bare + 1) m is) k ∙ ap (λ m. nodes_of (bare + 1) (ls ++ l ∷ []) m) none ∙ added_bare (bare + 1) bare ls l refl (omega (arith, e, ap length none))
-      ∙ ap (λ m. nodes_of bare ls m ++ record { links = l; room = false; item = None } ∷ []) (sym none)
-      ∙ ap (λ m. m ++ record { links = l; room = false; item = None } ∷ []) same
+  -- and in a ring of all items
+  module _ (g : CommonLinks → CommonLinks) (f : Node T → Node T)
+      (full : (c : Link) (l : CommonLinks) (i : Option (Item T)) → f (roomy_node c l i) ≡ roomy_node c (g l) i) where
+    own_put : (cs : List Link) (ls : List CommonLinks) (is : List (Option (Item T))) (k : ℕ) (l : CommonLinks) →
+        room_at (roomy_nodes cs ls is) k ≡ true → slice_get ls k ≡ Some l →
+        roomy_nodes cs (put_at k (g l) ls) is ≡ change_at k f (roomy_nodes cs ls is)
+    own_put [] ls is k l r h = cc
+    own_put (c ∷ cs) [] is k l r h = cc
+    own_put (c ∷ cs) (m ∷ ls) [] k l r h = let w = roomy_in (c ∷ cs) (m ∷ ls) [] k r in absurd (omega (arith, w.1))
+    own_put (c ∷ cs) (m ∷ ls) (i ∷ is) zero l r h =
+        ap (λ n. n ∷ roomy_nodes cs ls is) (ap (λ (j : CommonLinks). roomy_node c (g j) i) (sym (same_Some m l h)) ∙ sym (full c m i))
+    own_put (c ∷ cs) (m ∷ ls) (i ∷ is) (suc k) l r h = ap (λ n. roomy_node c m i ∷ n) (own_put cs ls is k l r h)
 
-  pub bare_now : (bare : ℕ) (ls : List Links) (is : List (Option (Item T))) (ks : List Links) (now : List (Node T)) →
-      length ls ≡ bare + length is → nodes_of bare ls is ≡ now → HasNoRoom now → HasNoRoom (nodes_of (bare + 1) ks is)
-  bare_now bare ls is ks now e same h =
-      subst (λ (m : List (Option (Item T))). HasNoRoom (nodes_of (bare + 1) ks m)) (sym (empty_now bare ls is now e same h)) (bare_all T (bare + 1) ks)
+    common_put : (n : ℕ) (cs : List Link) (ls : List CommonLinks) (is : List (Option (Item T))) (p k : ℕ) (l : CommonLinks) →
+        room_at (nodes_of n cs ls is) p ≡ true → p ≡ n + k → slice_get ls k ≡ Some l →
+        nodes_of n cs (put_at k (g l) ls) is ≡ change_at p f (nodes_of n cs ls is)
+    common_put zero cs ls is p k l r at h =
+        let same : k ≡ p = omega (arith, at) in
+        own_put cs ls is k l (subst (λ q. room_at (roomy_nodes cs ls is) q ≡ true) (sym same) r) h ∙ ap (λ q. change_at q f (roomy_nodes cs ls is)) same
+    common_put (suc n) [] ls is p k l r at h = cc
+    common_put (suc n) (c ∷ cs) ls is zero k l r at h = cc
+    common_put (suc n) (c ∷ cs) ls is (suc p) k l r at h = ap (λ m. first_node c ∷ m) (common_put n cs ls is p k l r (omega (arith, at)) h)
 
-  -- an item that was read
-  pub item_read : (bare : ℕ) (ls : List Links) (is : List (Option (Item T))) (p k : ℕ) (i : Option (Item T)) → length ls ≡ bare + length is →
-      (bare ≤ p) × (k ≡ p - bare) → k < length is → i ≡ get_or is k i → i ≡ item_at (nodes_of bare ls is) p
-  item_read bare ls is p k i e at inside read =
-      sym (its_item bare ls is k p i e (omega (arith, at.0, at.1)) (slice_get_read is (length is) k i refl inside read))
+  -- 3. Items
+  pub no_item : (n : ℕ) (cs : List Link) (ls : List CommonLinks) (is : List (Option (Item T))) (p : ℕ) → p < n → item_at (nodes_of n cs ls is) p ≡ None
+  no_item zero cs ls is p h = absurd (omega (arith, h))
+  no_item (suc n) [] ls is p h = refl
+  no_item (suc n) (c ∷ cs) ls is zero h = refl
+  no_item (suc n) (c ∷ cs) ls is (suc p) h = no_item n cs ls is p (omega (arith, h))
+
+  own_item : (cs : List Link) (ls : List CommonLinks) (is : List (Option (Item T))) (p : ℕ) (i : Option (Item T)) → length cs ≡ length ls →
+      length ls ≡ length is → slice_get is p ≡ Some i → item_at (roomy_nodes cs ls is) p ≡ i
+  own_item [] [] [] p i d e h = cc
+  own_item [] [] (j ∷ is) p i d e h = absurd (omega (arith, e))
+  own_item [] (l ∷ ls) is p i d e h = absurd (omega (arith, d))
+  own_item (c ∷ cs) [] is p i d e h = absurd (omega (arith, d))
+  own_item (c ∷ cs) (l ∷ ls) [] p i d e h = cc
+  own_item (c ∷ cs) (l ∷ ls) (j ∷ is) zero i d e h = same_Some j i h
+  own_item (c ∷ cs) (l ∷ ls) (j ∷ is) (suc p) i d e h = own_item cs ls is p i (omega (arith, d)) (omega (arith, e)) h
+
+  its_item : (n : ℕ) (cs : List Link) (ls : List CommonLinks) (is : List (Option (Item T))) (p q : ℕ) (i : Option (Item T)) →
+      length cs ≡ n + length ls → length ls ≡ length is → q ≡ n + p → slice_get is p ≡ Some i → item_at (nodes_of n cs ls is) q ≡ i
+  its_item zero cs ls is p q i d e at h =
+      let same : q ≡ p = omega (arith, at) in ap (λ r. item_at (roomy_nodes cs ls is) r) same ∙ own_item cs ls is p i (omega (arith, d)) e h
+  its_item (suc n) [] ls is p q i d e at h = absurd (omega (arith, d))
+  its_item (suc n) (c ∷ cs) ls is p zero i d e at h = absurd (omega (arith, at))
+  its_item (suc n) (c ∷ cs) ls is p (suc q) i d e at h = its_item n cs ls is p q i (omega (arith, d)) e (omega (arith, at)) h
+
+  own_item_put : (cs : List Link) (ls : List CommonLinks) (is : List (Option (Item T))) (p : ℕ) (i : Option (Item T)) → length cs ≡ length ls →
+      length ls ≡ length is → p < length is → roomy_nodes cs ls (slice_set is p i) ≡ with_item p i (roomy_nodes cs ls is)
+  own_item_put cs ls [] p i d e h = absurd (omega (arith, h))
+  own_item_put cs [] (j ∷ is) p i d e h = absurd (omega (arith, e))
+  own_item_put [] (l ∷ ls) (j ∷ is) p i d e h = absurd (omega (arith, d))
+  own_item_put (c ∷ cs) (l ∷ ls) (j ∷ is) zero i d e h = refl
+  own_item_put (c ∷ cs) (l ∷ ls) (j ∷ is) (suc p) i d e h =
+      ap (λ n. roomy_node c l j ∷ n) (own_item_put cs ls is p i (omega (arith, d)) (omega (arith, e)) (omega (arith, h)))
+
+  item_put : (n : ℕ) (cs : List Link) (ls : List CommonLinks) (is : List (Option (Item T))) (p q : ℕ) (i : Option (Item T)) →
+      length cs ≡ n + length ls → length ls ≡ length is → q ≡ n + p → p < length is →
+      nodes_of n cs ls (slice_set is p i) ≡ with_item q i (nodes_of n cs ls is)
+  item_put zero cs ls is p q i d e at h =
+      let same : p ≡ q = omega (arith, at) in
+      own_item_put cs ls is p i (omega (arith, d)) e h ∙ ap (λ r. with_item r i (roomy_nodes cs ls is)) same
+  item_put (suc n) [] ls is p q i d e at h = absurd (omega (arith, d))
+  item_put (suc n) (c ∷ cs) ls is p zero i d e at h = absurd (omega (arith, at))
+  item_put (suc n) (c ∷ cs) ls is p (suc q) i d e at h = ap (λ m. first_node c ∷ m) (item_put n cs ls is p q i (omega (arith, d)) e (omega (arith, at)) h)
+
+  -- 4. One more node
+  roomy_added : (cs : List Link) (ls : List CommonLinks) (is : List (Option (Item T))) (c : Link) (l : CommonLinks) (i : Option (Item T)) →
+      length cs ≡ length ls → length ls ≡ length is →
+      roomy_nodes (cs ++ c ∷ []) (ls ++ l ∷ []) (is ++ i ∷ []) ≡ roomy_nodes cs ls is ++ roomy_node c l i ∷ []
+  roomy_added [] [] [] c l i d e = refl
+  roomy_added [] [] (j ∷ is) c l i d e = absurd (omega (arith, e))
+  roomy_added [] (m ∷ ls) is c l i d e = absurd (omega (arith, d))
+  roomy_added (b ∷ cs) [] is c l i d e = absurd (omega (arith, d))
+  roomy_added (b ∷ cs) (m ∷ ls) [] c l i d e = absurd (omega (arith, e))
+  roomy_added (b ∷ cs) (m ∷ ls) (j ∷ is) c l i d e =
+      ap (λ n. roomy_node b m j ∷ n) (roomy_added cs ls is c l i (omega (arith, d)) (omega (arith, e)))
+
+  added : (n : ℕ) (cs : List Link) (ls : List CommonLinks) (is : List (Option (Item T))) (c : Link) (l : CommonLinks) (i : Option (Item T)) →
+      length cs ≡ n + length ls → length ls ≡ length is →
+      nodes_of n (cs ++ c ∷ []) (ls ++ l ∷ []) (is ++ i ∷ []) ≡ nodes_of n cs ls is ++ roomy_node c l i ∷ []
+  added zero cs ls is c l i d e = roomy_added cs ls is c l i (omega (arith, d)) e
+  added (suc n) [] ls is c l i d e = absurd (omega (arith, d))
+  added (suc n) (b ∷ cs) ls is c l i d e = ap (λ m. first_node b ∷ m) (added n cs ls is c l i (omega (arith, d)) e)
+
+  -- 5. The same, as a store comes upon them
+  module _ (n : ℕ) (cs : List Link) (ls : List CommonLinks) (is : List (Option (Item T))) (now : List (Node T)) (same : nodes_of n cs ls is ≡ now) where
+    pub within_now : (p : ℕ) → IsSome (value_at p now) → p < length cs
+    within_now p h = omega (arith, changed.within p (nodes_of n cs ls is) (subst (λ l. IsSome (value_at p l)) (sym same) h), many n cs ls is)
+
+    room_same : (p : ℕ) → room_at now p ≡ true → room_at (nodes_of n cs ls is) p ≡ true
+    room_same p h = subst (λ l. room_at l p ≡ true) (sym same) h
+
+    pub roomy_now : (p : ℕ) → room_at now p ≡ true → (n ≤ p) × (p < n + length is)
+    roomy_now p h = roomy n cs ls is p (room_same p h)
+
+    pub channel_next : (p : ℕ) (c : Link) → slice_get cs p ≡ Some c → c.next.index ≡ next_of Channel now p
+    channel_next p c h = next_read Channel (nodes_of n cs ls is) now p c same (on_channel n cs ls is p c h)
+
+    pub channel_prev : (p : ℕ) (c : Link) → slice_get cs p ≡ Some c → c.prev.index ≡ prev_of Channel now p
+    channel_prev p c h = prev_read Channel (nodes_of n cs ls is) now p c same (on_channel n cs ls is p c h)
+
+    pub put_channel_next : (p : ℕ) (c : Link) (to : Place) → slice_get cs p ≡ Some c →
+        nodes_of n (put_at p (record c { next = to }) cs) ls is ≡ set_next Channel p to.index now
+    put_channel_next p c to h =
+        channel_put (λ (d : Link). record d { next = to })
+        (λ node. with_link Channel (record (link_of Channel node) { next = record { index = to.index } }) node) (λ d. refl) (λ d l i. refl) n cs ls is p c h
+        ∙ ap (λ s. set_next Channel p to.index s) same
+
+    pub put_channel_prev : (p : ℕ) (c : Link) (to : Place) → slice_get cs p ≡ Some c →
+        nodes_of n (put_at p (record c { prev = to }) cs) ls is ≡ set_prev Channel p to.index now
+    put_channel_prev p c to h =
+        channel_put (λ (d : Link). record d { prev = to })
+        (λ node. with_link Channel (record (link_of Channel node) { prev = record { index = to.index } }) node) (λ d. refl) (λ d l i. refl) n cs ls is p c h
+        ∙ ap (λ s. set_prev Channel p to.index s) same
+
+    module _ (p k : ℕ) (l : CommonLinks) (room : room_at now p ≡ true) (at : p ≡ n + k) (h : slice_get ls k ≡ Some l) where
+      pub number_next : l.number.next.index ≡ next_of Number now p
+      number_next = let r = in_common n cs ls is p k l (room_same p room) at h in next_read Number (nodes_of n cs ls is) now p l.number same r.0
+
+      pub number_prev : l.number.prev.index ≡ prev_of Number now p
+      number_prev = let r = in_common n cs ls is p k l (room_same p room) at h in prev_read Number (nodes_of n cs ls is) now p l.number same r.0
+
+      pub due_next : l.due.next.index ≡ next_of Due now p
+      due_next = let r = in_common n cs ls is p k l (room_same p room) at h in next_read Due (nodes_of n cs ls is) now p l.due same r.1
+
+      pub due_prev : l.due.prev.index ≡ prev_of Due now p
+      due_prev = let r = in_common n cs ls is p k l (room_same p room) at h in prev_read Due (nodes_of n cs ls is) now p l.due same r.1
+
+      pub put_number_next : (to : Place) → nodes_of n cs (put_at k (record l { number = record l.number { next = to } }) ls) is ≡ set_next Number p to.index now
+      put_number_next to =
+          common_put (λ (m : CommonLinks). record m { number = record m.number { next = to } })
+          (λ node. with_link Number (record (link_of Number node) { next = record { index = to.index } }) node) (λ c m i. refl) n cs ls is p k l
+          (room_same p room) at h
+          ∙ ap (λ s. set_next Number p to.index s) same
+
+      pub put_number_prev : (to : Place) → nodes_of n cs (put_at k (record l { number = record l.number { prev = to } }) ls) is ≡ set_prev Number p to.index now
+      put_number_prev to =
+          common_put (λ (m : CommonLinks). record m { number = record m.number { prev = to } })
+          (λ node. with_link Number (record (link_of Number node) { prev = record { index = to.index } }) node) (λ c m i. refl) n cs ls is p k l
+          (room_same p room) at h
+          ∙ ap (λ s. set_prev Number p to.index s) same
+
+      pub put_due_next : (to : Place) → nodes_of n cs (put_at k (record l { due = record l.due { next = to } }) ls) is ≡ set_next Due p to.index now
+      put_due_next to =
+          common_put (λ (m : CommonLinks). record m { due = record m.due { next = to } })
+          (λ node. with_link Due (record (link_of Due node) { next = record { index = to.index } }) node) (λ c m i. refl) n cs ls is p k l
+          (room_same p room) at h
+          ∙ ap (λ s. set_next Due p to.index s) same
+
+      pub put_due_prev : (to : Place) → nodes_of n cs (put_at k (record l { due = record l.due { prev = to } }) ls) is ≡ set_prev Due p to.index now
+      put_due_prev to =
+          common_put (λ (m : CommonLinks). record m { due = record m.due { prev = to } })
+          (λ node. with_link Due (record (link_of Due node) { prev = record { index = to.index } }) node) (λ c m i. refl) n cs ls is p k l
+          (room_same p room) at h
+          ∙ ap (λ s. set_prev Due p to.index s) same
+
+    module _ (d : length cs ≡ n + length ls) (e : length ls ≡ length is) where
+      pub item_put_now : (p k : ℕ) (i : Option (Item T)) → room_at now p ≡ true → p ≡ n + k → nodes_of n cs ls (slice_set is k i) ≡ with_item p i now
+      item_put_now p k i room at =
+          let r = roomy_now p room in
+          item_put n cs ls is k p i d e at (omega (arith, at, r.0, r.1)) ∙ ap (λ s. with_item p i s) same
+
+      pub added_now : (ds : List Link) (ks : List CommonLinks) (js : List (Option (Item T))) (c : Link) (l : CommonLinks) (i : Option (Item T)) →
+          ds ≡ cs ++ c ∷ [] → ks ≡ ls ++ l ∷ [] → js ≡ is ++ i ∷ [] → nodes_of n ds ks js ≡ now ++ roomy_node c l i ∷ []
+      added_now ds ks js c l i dc k j =
+          ap (λ m. nodes_of n m ks js) dc ∙ ap (λ m. nodes_of n (cs ++ c ∷ []) m js) k ∙ ap (λ m. nodes_of n (cs ++ c ∷ []) (ls ++ l ∷ []) m) j
+          ∙ added n cs ls is c l i d e ∙ ap (λ m. m ++ roomy_node c l i ∷ []) same
+
+      -- an item that was read
+      pub item_read : (p k : ℕ) (i : Option (Item T)) → p ≡ n + k → k < length is → i ≡ get_or is k i → i ≡ item_at now p
+      item_read p k i at inside read =
+          sym (its_item n cs ls is k p i d e at (slice_get_read is (length is) k i refl inside read)) ∙ ap (λ s. item_at s p) same
 
   -- the place past the last is none
   pub past_last : (cells : List (Node T)) (p : ℕ) → p ≡ length cells → value_at p cells ≡ None
@@ -246,6 +327,6 @@ module _ {T : Type 0} where
   room_last old new p node own e at =
       ap (λ l. room_at l p) e ∙ ap (λ q. room_at (old ++ node ∷ []) q) at ∙ ap room_in (value_last old node) ∙ own
 
--- neighbours that were read
-pub links_read : (p : ℕ) (l : Links) (ls : List Links) → p < length ls → l ≡ get_or ls p l → value_at p ls ≡ Some l
-links_read p l ls h e = slice_get_read ls (length ls) p l refl h e
+-- what was read at a place
+pub value_read : {X : Type 0} (p : ℕ) (x : X) (xs : List X) → p < length xs → x ≡ get_or xs p x → slice_get xs p ≡ Some x
+value_read p x xs h e = slice_get_read xs (length xs) p x refl h e

@@ -15,7 +15,7 @@ use Rattle.mn_flight_pool.proofs.Held.{order_is, length-trace}
 pub due_number : Due ≡ Number → ⊥
 due_number e = cc
 
-due_channel : Due ≡ Channel → ⊥
+pub due_channel : Due ≡ Channel → ⊥
 due_channel e = cc
 
 module _ {T : Type 0} (old new : List (Node T)) where
@@ -47,6 +47,7 @@ module _ {T : Type 0} (old new : List (Node T)) where
       apart = linked.apart;
       held = all_alike (λ q. IsSome (item_at old q)) (λ q. IsSome (item_at new q)) order (λ q h. subst (λ o. IsSome o) (sym (alike.items q)) h) linked.held;
       there = all_alike (λ q. IsSome (value_at q old)) (λ q. IsSome (value_at q new)) free alike.stay linked.there;
+      head_room = alike.rooms head ∙ linked.head_room;
       order_room = λ q i. alike.rooms q ∙ linked.order_room q i;
       free_room = λ q i. alike.rooms q ∙ linked.free_room q i;
     }

@@ -7,22 +7,24 @@ use Rattle.mn_flight.specs.declared.Item.{Item}
 use Rattle.mn_flight.specs.Flying.{on_channel}
 use Rattle.mn_flight_pool.specs.Rings.{IsIn, IsRing, item_at, next_of, prev_of}
 use Rattle.mn_flight_pool.specs.Pool.{nodes_on, steps_of}
-use Rattle.mn_flight_pool.specs.Whole.{ptrs, order_in, items_of, IsPlaced, IsWhole}
+use Rattle.mn_flight_pool.specs.Nodes.{firsts}
+use Rattle.mn_flight_pool.specs.Whole.{order_in, items_of, IsPlaced, IsWhole}
 use Rattle.mn_flight_pool.specs.declared.pool.Pool.{Pool}
 use Rattle.mn_flight_pool.specs.declared.pool.Finger.{Finger}
 use Rattle.mn_flight_pool.specs.declared.node.Pair.TheVariants.{Channel}
 use Rattle.mn_flight_pool.proofs.Neighbours.{in_at}
 use Rattle.mn_flight_pool.proofs.Finger.{some_there, prev_placed, forth_from, back_from}
-use Rattle.mn_flight_pool.proofs.Whole.{ptrs_length, on_length, placed, no_channel, node_holds}
+use Rattle.mn_flight_pool.proofs.Firsts.{firsts_length}
+use Rattle.mn_flight_pool.proofs.Whole.{on_length, placed, no_channel, node_holds}
 
 module _ {T : Type 0} (pool : Pool T) (whole : IsWhole pool) where
-  ring_on : (c : ℕ) → c < length pool.heads.items → (s : ℕ) × IsRing Channel pool.store s (nodes_on pool.store c (order_in pool))
+  ring_on : (c : ℕ) → c < pool.channels → (s : ℕ) × IsRing Channel pool.store s (nodes_on pool.store c (order_in pool))
   ring_on c low =
-      let f = some_there (ptrs pool.heads.items) c (omega (arith, low, ptrs_length pool.heads.items)) in (f.0, whole.held.linked.channel c f.0 f.1)
+      let f = some_there (firsts pool.channels) c (omega (arith, low, firsts_length pool.channels)) in (f.0, whole.held.linked.channel c f.0 f.1)
 
   -- a channel on which a node stands is there
-  channel_there : (c n v : ℕ) → IsPlaced pool c n v → c < length pool.heads.items
-  channel_there c n v at = elim (leb_tells (length pool.heads.items) c) [
+  channel_there : (c n v : ℕ) → IsPlaced pool c n v → c < pool.channels
+  channel_there c n v at = elim (leb_tells pool.channels c) [
     | inl over ↦ let p = placed pool whole c n v at in
         absurd (none (item_at pool.store v) (p.1 ∙ no_channel pool whole c n over.1) (node_holds pool whole v p.0))
     | inr under ↦ under.1
@@ -41,7 +43,7 @@ module _ {T : Type 0} (pool : Pool T) (whole : IsWhole pool) where
       let within = slice_get_within nodes n v at in
       prev_placed Channel pool.store ring.0 nodes ring.1 (n - 1) v (ap (slice_get nodes) same ∙ at) (omega (arith, within, some)) ∙ ap (λ q. Some q) (sym e)
 
-  module _ (c : ℕ) (low : c < length pool.heads.items) (f : Finger) (is : pool.finger ≡ Some f) (same : f.channel ≡ c) (place : ℕ)
+  module _ (c : ℕ) (low : c < pool.channels) (f : Finger) (is : pool.finger ≡ Some f) (same : f.channel ≡ c) (place : ℕ)
       (there : place < length (on_channel c (items_of pool))) where
     abbrev nodes : List ℕ
     nodes = nodes_on pool.store c (order_in pool)

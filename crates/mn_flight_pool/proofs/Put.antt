@@ -1,7 +1,7 @@
 -- A whole pool takes an item.
 use Rattle.std.proofs.Common.{◌≡◌, ◌<◌, ◌≤◌, ◌+◌, ℕ, zero, suc, true, List, [], ◌∷◌, ◌++◌, length, Option, Some, None, IsSome, inl, inr, refl, sym, ap, ◌∙◌}
 use Rattle.std.proofs.Common.{subst, arith, append_assoc, length-append, get_or}
-use Rattle.std.specs.Prelude.{◌==◌, cond, MatchOption, ⊤, slice_get, slice_index_or, slice_set}
+use Rattle.std.specs.Prelude.{◌==◌, cond, MatchOption, ⊤, slice_get, slice_set}
 use Rattle.std.specs.List.{All, AllByRecursion}
 use Rattle.std.proofs.lemmas.List.{map-append}
 use Rattle.mn_flight.specs.declared.Item.{Item}
@@ -15,19 +15,20 @@ use Rattle.mn_flight_pool.specs.Whole.{AreLast, ptrs, dues_of, order_in, items_o
 use Rattle.mn_flight_pool.specs.declared.pool.Pool.{Pool}
 use Rattle.mn_flight_pool.specs.declared.node.Place.{Place}
 use Rattle.mn_flight_pool.specs.declared.tick.Tick.{Tick}
-use Rattle.mn_flight_pool.specs.Nodes.{Node}
+use Rattle.mn_flight_pool.specs.Nodes.{Node, firsts}
 use Rattle.mn_flight_pool.specs.declared.node.Pair.TheVariants.{Channel, Due}
-use Rattle.mn_flight_pool.proofs.Entered.{three_there, p_there, nodes_then}
+use Rattle.mn_flight_pool.proofs.Entered.{room_three, nodes_then}
 use Rattle.mn_flight_pool.proofs.Finger.{finger_kept, get_more}
 use Rattle.mn_flight_pool.proofs.Held.{held_pushed, items_pushed, order_then}
 use Rattle.mn_flight_pool.proofs.PastDue.{alike_link, held_alike, nodes_alike, order_alike, items_kept}
 use Rattle.mn_flight_pool.proofs.Counted.{counted_entered, counted_alike}
 use Rattle.mn_flight_pool.proofs.DueEntered.{due_entered, due_three, stand, then}
 use Rattle.mn_flight_pool.proofs.Items.{item_member, fewer_kept}
-use Rattle.mn_flight_pool.proofs.Sooner.{all_in, in_front, in_middle, tick_item, fewer, all_kept}
+use Rattle.mn_flight_pool.proofs.Sooner.{in_front, in_middle, tick_item, fewer, all_kept}
 use Rattle.mn_flight_pool.proofs.Traces.{trace_ring}
 use Rattle.mn_flight_pool.proofs.Walks.{ring_next}
-use Rattle.mn_flight_pool.proofs.Whole.{ptrs_length, head_at, order_length}
+use Rattle.mn_flight_pool.proofs.Firsts.{firsts_length, first_at}
+use Rattle.mn_flight_pool.proofs.Whole.{rooms, order_length}
 
 pub ptrs_push : (ps : List Place) (p : Place) → ptrs (ps ++ p ∷ []) ≡ ptrs ps ++ p.index ∷ []
 ptrs_push ps p = map-append (λ (q : Place). q.index) ps (p ∷ [])
@@ -51,11 +52,11 @@ module _ {T : Type 0} (pool : Pool T) (whole : IsWhole pool) where
       due_at p = due_of (item_at pool.store p)
 
   -- a count is no more than all
-  pub count_within : (c : ℕ) → c < length pool.heads.items → get_or pool.counts.items c 0 ≤ pool.count
+  pub count_within : (c : ℕ) → c < pool.channels → get_or pool.counts.items c 0 ≤ pool.count
   count_within c h = omega (arith, whole.counted.each c h, fewer_kept (λ p. is_on c (item_at pool.store p)) (order_in pool), order_length pool whole)
 
   -- a count that was read
-  pub count_read : (c v : ℕ) → c < length pool.heads.items → v ≡ get_or pool.counts.items c v → v ≡ get_or pool.counts.items c 0
+  pub count_read : (c v : ℕ) → c < pool.channels → v ≡ get_or pool.counts.items c v → v ≡ get_or pool.counts.items c 0
   count_read c v h e = e ∙ same pool.counts.items c (omega (arith, h, whole.counted.many))
     where
       same : (ns : List ℕ) (k : ℕ) → k < length ns → get_or ns k v ≡ get_or ns k 0
@@ -64,8 +65,8 @@ module _ {T : Type 0} (pool : Pool T) (whole : IsWhole pool) where
       same (n ∷ ns) (suc k) b = same ns k (omega (arith, b))
 
   module _ (node : Place) (front : List Place) (cut : pool.free.items ≡ front ++ node ∷ []) where
-    held_cut : IsHeld pool.head.index (ptrs pool.heads.items) (ptrs front ++ node.index ∷ []) pool.count pool.store
-    held_cut = subst (λ l. IsHeld pool.head.index (ptrs pool.heads.items) l pool.count pool.store) (ap (λ l. ptrs l) cut ∙ ptrs_push front node) whole.held
+    held_cut : IsHeld pool.head.index (firsts pool.channels) (ptrs front ++ node.index ∷ []) pool.count pool.store
+    held_cut = subst (λ l. IsHeld pool.head.index (firsts pool.channels) l pool.count pool.store) (ap (λ l. ptrs l) cut ∙ ptrs_push front node) whole.held
 
     pub free_there : IsSome (value_at node.index pool.store)
     free_there = last (ptrs front) held_cut.linked.there
@@ -81,9 +82,9 @@ module _ {T : Type 0} (pool : Pool T) (whole : IsWhole pool) where
         last [] = inl refl
         last (f ∷ fs) = inr (last fs)
 
-    module _ (x : Item T) (first : Place) (below : x.channel < length pool.heads.items) (read : first ≡ slice_index_or pool.heads.items x.channel first) where
-      at : slice_get (ptrs pool.heads.items) x.channel ≡ Some first.index
-      at = head_at pool.heads.items x.channel first below read
+    module _ (x : Item T) (first : Place) (below : x.channel < pool.channels) (read : first.index ≡ x.channel) where
+      at : slice_get (firsts pool.channels) x.channel ≡ Some first.index
+      at = first_at pool.channels x.channel below ∙ ap (λ p. Some p) (sym read)
 
       pub first_ring : (order : List ℕ) × IsRing Channel pool.store first.index order
       first_ring = (nodes_on pool.store x.channel (order_in pool), whole.held.linked.channel x.channel first.index at)
@@ -105,23 +106,23 @@ module _ {T : Type 0} (pool : Pool T) (whole : IsWhole pool) where
 
         abbrev dues_then : List ℕ
         dues_then =
-            then pool.head.index (ptrs pool.heads.items) (ptrs front) (order_in pool) node.index pool.store held_cut.linked x first.index at dues pool.ticks.items
+            then pool.head.index (firsts pool.channels) (ptrs front) (order_in pool) node.index pool.store held_cut.linked x first.index at dues pool.ticks.items
             whole.by_due greatest
 
         entered_dues : IsByDue pool.head.index (order_in pool ++ node.index ∷ []) dues_then (put_tick x.due node.index pool.ticks.items)
             (link_behind Due node.index last three)
         entered_dues =
-            due_entered pool.head.index (ptrs pool.heads.items) (ptrs front)
+            due_entered pool.head.index (firsts pool.channels) (ptrs front)
             (order_in pool) node.index pool.store held_cut.linked x first.index at dues pool.ticks.items whole.by_due greatest
 
         three_ring : IsRing Due three pool.head.index dues
         three_ring =
-            due_three pool.head.index (ptrs pool.heads.items) (ptrs front)
+            due_three pool.head.index (firsts pool.channels) (ptrs front)
             (order_in pool) node.index pool.store held_cut.linked x first.index at dues pool.ticks.items whole.by_due greatest
 
         last_in : IsIn last (pool.head.index ∷ dues)
         last_in =
-            let s = stand pool.head.index (ptrs pool.heads.items) (ptrs front)
+            let s = stand pool.head.index (firsts pool.channels) (ptrs front)
             (order_in pool) node.index pool.store held_cut.linked x first.index at dues pool.ticks.items whole.by_due greatest in
             elim s.end [
               | inl e ↦ inl e.1
@@ -129,22 +130,24 @@ module _ {T : Type 0} (pool : Pool T) (whole : IsWhole pool) where
             ]
 
         module _ (one : List (Node T)) (one_is : one ≡ three) where
-          pub node_in_one : IsSome (value_at node.index one)
-          node_in_one =
-              subst (λ c. IsSome (value_at node.index c)) (sym one_is)
-              (three_there pool.head.index (ptrs pool.heads.items) (ptrs front) (order_in pool) node.index pool.store held_cut.linked x first.index at node.index
-              (p_there pool.head.index (ptrs pool.heads.items) (ptrs front) (order_in pool) node.index pool.store held_cut.linked x first.index at))
+          room_one : (q : ℕ) → room_at pool.store q ≡ true → room_at one q ≡ true
+          room_one q h =
+              ap (λ c. room_at c q) one_is
+              ∙ room_three pool.head.index (firsts pool.channels) (ptrs front) (order_in pool) node.index pool.store held_cut.linked x first.index at q ∙ h
 
-          pub last_in_one : IsSome (value_at last one)
-          last_in_one =
-              subst (λ c. IsSome (value_at last c)) (sym one_is)
-              (all_in (λ q. IsSome (value_at q three)) (pool.head.index ∷ dues) last three_ring.there last_in)
+          room_due : (q : ℕ) → IsIn q (pool.head.index ∷ dues) → room_at one q ≡ true
+          room_due q i = room_one q (elim i [ inl e ↦ rooms pool whole q (inl e) | inr j ↦ rooms pool whole q (inr (whole.by_due.flies q j)) ])
 
-          pub next_in_one : IsSome (value_at (next_of Due one last) one)
+          pub node_in_one : room_at one node.index ≡ true
+          node_in_one = room_one node.index free_room
+
+          pub last_in_one : room_at one last ≡ true
+          last_in_one = room_due last last_in
+
+          pub next_in_one : room_at one (next_of Due one last) ≡ true
           next_in_one =
-              subst (λ c. IsSome (value_at (next_of Due c last) c)) (sym one_is)
-              (all_in (λ q. IsSome (value_at q three)) (pool.head.index ∷ dues) (next_of Due three last) three_ring.there
-              (ring_next Due three pool.head.index dues three_ring last last_in))
+              ap (λ c. room_at one (next_of Due c last)) one_is
+              ∙ room_due (next_of Due three last) (ring_next Due three pool.head.index dues three_ring last last_in)
 
           module _ (two : List (Node T)) (two_is : two ≡ link_behind Due node.index last one) where
             abbrev four : List (Node T)
@@ -153,15 +156,15 @@ module _ {T : Type 0} (pool : Pool T) (whole : IsWhole pool) where
             is : two ≡ four
             is = two_is ∙ ap (λ c. link_behind Due node.index last c) one_is
 
-            held_three : IsHeld pool.head.index (ptrs pool.heads.items) (ptrs front) (pool.count + 1) three
+            held_three : IsHeld pool.head.index (firsts pool.channels) (ptrs front) (pool.count + 1) three
             held_three =
-                held_pushed pool.head.index (ptrs pool.heads.items) (ptrs front) pool.count node.index pool.store held_cut x first.index at above
-                (omega (arith, below, ptrs_length pool.heads.items))
+                held_pushed pool.head.index (firsts pool.channels) (ptrs front) pool.count node.index pool.store held_cut x first.index at above
+                (omega (arith, below, firsts_length pool.channels))
 
             order_four : order_of pool.head.index (pool.count + 1) four ≡ order_in pool ++ node.index ∷ []
             order_four =
-                order_alike three four (alike_link node.index last three) pool.head.index (ptrs pool.heads.items) (ptrs front) (pool.count + 1) held_three
-                ∙ order_then pool.head.index (ptrs pool.heads.items) (ptrs front) pool.count node.index pool.store held_cut x first.index at
+                order_alike three four (alike_link node.index last three) pool.head.index (firsts pool.channels) (ptrs front) (pool.count + 1) held_three
+                ∙ order_then pool.head.index (firsts pool.channels) (ptrs front) pool.count node.index pool.store held_cut x first.index at
 
             dues_four : dues_of pool.head.index (pool.count + 1) four ≡ dues_then
             dues_four =
@@ -169,16 +172,16 @@ module _ {T : Type 0} (pool : Pool T) (whole : IsWhole pool) where
                 omega (arith, entered_dues.many, length-append (order_in pool) (node.index ∷ []), order_length pool whole) in
                 ap (λ n. trace (next_of Due four) pool.head.index n) (sym many) ∙ trace_ring Due four pool.head.index dues_then entered_dues.ring
 
-            pub put_held : IsHeld pool.head.index (ptrs pool.heads.items) (ptrs front) (pool.count + 1) two
+            pub put_held : IsHeld pool.head.index (firsts pool.channels) (ptrs front) (pool.count + 1) two
             put_held =
-                subst (λ c. IsHeld pool.head.index (ptrs pool.heads.items) (ptrs front) (pool.count + 1) c) (sym is)
-                (held_alike three four (alike_link node.index last three) pool.head.index (ptrs pool.heads.items) (ptrs front) (pool.count + 1) held_three)
+                subst (λ c. IsHeld pool.head.index (firsts pool.channels) (ptrs front) (pool.count + 1) c) (sym is)
+                (held_alike three four (alike_link node.index last three) pool.head.index (firsts pool.channels) (ptrs front) (pool.count + 1) held_three)
 
             pub put_items : items_in two (order_of pool.head.index (pool.count + 1) two) ≡ items_of pool ++ x ∷ []
             put_items =
                 subst (λ c. items_in c (order_of pool.head.index (pool.count + 1) c) ≡ items_of pool ++ x ∷ []) (sym is)
-                (items_kept three four (alike_link node.index last three) pool.head.index (ptrs pool.heads.items) (ptrs front) (pool.count + 1) held_three
-                ∙ items_pushed pool.head.index (ptrs pool.heads.items) (ptrs front) pool.count node.index pool.store held_cut x first.index at)
+                (items_kept three four (alike_link node.index last three) pool.head.index (firsts pool.channels) (ptrs front) (pool.count + 1) held_three
+                ∙ items_pushed pool.head.index (firsts pool.channels) (ptrs front) pool.count node.index pool.store held_cut x first.index at)
 
             pub put_recent : (late : List Place) → late ≡ pool.recent.items ++ node ∷ [] → AreLast (order_of pool.head.index (pool.count + 1) two) (ptrs late)
             put_recent late e = record {
@@ -192,7 +195,7 @@ module _ {T : Type 0} (pool : Pool T) (whole : IsWhole pool) where
                 nodes_on pool.store c (order_in pool) ++ cond (x.channel == c) (node.index ∷ []) []
             nodes_four c =
                 ap (λ o. nodes_on four c o) order_four ∙ nodes_alike three four (alike_link node.index last three) c (order_in pool ++ node.index ∷ [])
-                ∙ nodes_then pool.head.index (ptrs pool.heads.items) (ptrs front) (order_in pool) node.index pool.store held_cut.linked x first.index at c
+                ∙ nodes_then pool.head.index (firsts pool.channels) (ptrs front) (order_in pool) node.index pool.store held_cut.linked x first.index at c
 
             pub put_finger : MatchOption pool.finger ⊤
                 (λ f. slice_get (nodes_on two f.channel (order_of pool.head.index (pool.count + 1) two)) f.place ≡ Some f.node.index)
@@ -204,14 +207,14 @@ module _ {T : Type 0} (pool : Pool T) (whole : IsWhole pool) where
                 whole.finger
 
             pub put_counted : (counts : List ℕ) → counts ≡ slice_set pool.counts.items x.channel (get_or pool.counts.items x.channel 0 + 1) →
-                IsCounted counts (length pool.heads.items) (order_of pool.head.index (pool.count + 1) two) two
+                IsCounted counts pool.channels (order_of pool.head.index (pool.count + 1) two) two
             put_counted counts e =
-                subst (λ c. IsCounted counts (length pool.heads.items) (order_of pool.head.index (pool.count + 1) c) c) (sym is)
-                (subst (λ o. IsCounted counts (length pool.heads.items) o four) (sym order_four)
-                (subst (λ l. IsCounted l (length pool.heads.items) (order_in pool ++ node.index ∷ []) four) (sym e)
-                (counted_alike _ (length pool.heads.items) (order_in pool ++ node.index ∷ []) three four (alike_link node.index last three)
-                (counted_entered pool.head.index (ptrs pool.heads.items) (ptrs front)
-                (order_in pool) node.index pool.store held_cut.linked x first.index at pool.counts.items (length pool.heads.items) whole.counted below))))
+                subst (λ c. IsCounted counts pool.channels (order_of pool.head.index (pool.count + 1) c) c) (sym is)
+                (subst (λ o. IsCounted counts pool.channels o four) (sym order_four)
+                (subst (λ l. IsCounted l pool.channels (order_in pool ++ node.index ∷ []) four) (sym e)
+                (counted_alike _ pool.channels (order_in pool ++ node.index ∷ []) three four (alike_link node.index last three)
+                (counted_entered pool.head.index (firsts pool.channels) (ptrs front)
+                (order_in pool) node.index pool.store held_cut.linked x first.index at pool.counts.items pool.channels whole.counted below))))
 
             pub put_by_due : (ticks : List Tick) → ticks ≡ put_tick x.due node.index pool.ticks.items →
                 IsByDue pool.head.index (order_of pool.head.index (pool.count + 1) two) (dues_of pool.head.index (pool.count + 1) two) ticks two

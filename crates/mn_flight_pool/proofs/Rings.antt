@@ -304,7 +304,7 @@ module _ {T : Type 0} where
   pub item_kept : (pair : Pair) (link : Link) (node : Node T) → item_in (Some (with_link pair link node)) ≡ item_in (Some node)
   item_kept pair link node = refl
 
-  room_kept : (pair : Pair) (link : Link) (node : Node T) → room_in (Some (with_link pair link node)) ≡ room_in (Some node)
+  pub room_kept : (pair : Pair) (link : Link) (node : Node T) → room_in (Some (with_link pair link node)) ≡ room_in (Some node)
   room_kept pair link node = refl
 
   -- what is seen of a node without one pair of its pointers

@@ -1,18 +1,18 @@
 -- What a ring says of the nodes that linking and unlinking reach.
-use Rattle.std.proofs.Common.{ℕ, ◌≡◌, List, [], ◌∷◌, ◌++◌, Some, IsSome, sym, ap, ◌∙◌, subst}
+use Rattle.std.proofs.Common.{ℕ, ◌≡◌, true, List, [], ◌∷◌, ◌++◌, Some, IsSome, inl, inr, refl, sym, ap, ◌∙◌, subst}
 use Rattle.std.specs.List.{AllByRecursion}
 use Rattle.mn_flight.specs.declared.Item.{Item}
 use Rattle.mn_flight_pool.specs.Cells.{value_at}
-use Rattle.mn_flight_pool.specs.Rings.{IsRing, item_at, room_at, with_item, next_of, prev_of, link_behind, unlink}
+use Rattle.mn_flight_pool.specs.Rings.{IsRing, HaveRoom, item_at, room_at, with_item, next_of, prev_of, link_behind, unlink}
 use Rattle.mn_flight_pool.specs.Pool.{entered}
 use Rattle.mn_flight_pool.specs.declared.node.Pair.{Pair}
 use Rattle.mn_flight_pool.specs.declared.node.Pair.TheVariants.{Number, Channel}
 use Rattle.mn_flight_pool.specs.Nodes.{Node}
 use Rattle.mn_flight_pool.proofs.Changed.{stays}
 use Rattle.mn_flight_pool.proofs.Rings.{ring_last, ring_sides, ring_past_item, ring_past_link, ring_past_unlink, link_stays, unlink_stays, item_past_unlink}
-use Rattle.mn_flight_pool.proofs.Rings.{room_past_unlink}
+use Rattle.mn_flight_pool.proofs.Rings.{room_past_unlink, room_past_item}
 use Rattle.mn_flight_pool.proofs.Entered.{unlike}
-use Rattle.mn_flight_pool.proofs.Sooner.{all_in}
+use Rattle.mn_flight_pool.proofs.Sooner.{all_in, in_middle}
 
 module _ {T : Type 0} where
   -- a ring's first node, what leads to it, and where that leads
@@ -45,6 +45,31 @@ module _ {T : Type 0} where
       IsSome (value_at (next_of pair cells p) cells)
   next_there pair cells s us p vs ring =
       all_in (λ q. IsSome (value_at q cells)) (s ∷ (us ++ p ∷ vs)) (next_of pair cells p) ring.there (ring_sides pair cells s us p vs ring).1
+
+  -- they have room for an item where the ring's nodes have
+  module _ (pair : Pair) (cells : List (Node T)) (s : ℕ) where
+    pub last_room : (ps : List ℕ) → IsRing pair cells s ps → HaveRoom cells (s ∷ ps) → room_at cells (prev_of pair cells s) ≡ true
+    last_room ps ring rooms = rooms (prev_of pair cells s) (ring_last pair cells s ps ring).0
+
+    pub after_last_room : (ps : List ℕ) → IsRing pair cells s ps → HaveRoom cells (s ∷ ps) →
+        room_at cells (next_of pair cells (prev_of pair cells s)) ≡ true
+    after_last_room ps ring rooms = subst (λ q. room_at cells q ≡ true) (sym (ring_last pair cells s ps ring).1) (rooms s (inl refl))
+
+    module _ (us : List ℕ) (p : ℕ) (vs : List ℕ) (ring : IsRing pair cells s (us ++ p ∷ vs)) (rooms : HaveRoom cells (s ∷ (us ++ p ∷ vs))) where
+      pub node_room : room_at cells p ≡ true
+      node_room = rooms p (inr (in_middle us p vs))
+
+      pub prev_room : room_at cells (prev_of pair cells p) ≡ true
+      prev_room = rooms (prev_of pair cells p) (ring_sides pair cells s us p vs ring).0
+
+      pub next_room : room_at cells (next_of pair cells p) ≡ true
+      next_room = rooms (next_of pair cells p) (ring_sides pair cells s us p vs ring).1
+
+  pub rooms_put : (p : ℕ) (item : Item T) (old new : List (Node T)) (ps : List ℕ) → new ≡ with_item p (Some item) old → HaveRoom old ps → HaveRoom new ps
+  rooms_put p item old new ps e rooms q i = ap (λ c. room_at c q) e ∙ room_past_item p q (Some item) old ∙ rooms q i
+
+  pub room_put : (p : ℕ) (item : Item T) (old new : List (Node T)) → new ≡ with_item p (Some item) old → room_at old p ≡ true → room_at new p ≡ true
+  room_put p item old new e h = ap (λ c. room_at c p) e ∙ room_past_item p p (Some item) old ∙ h
 
   -- as `enter` and `leave` come upon them
   pub ring_put : (pair : Pair) (p : ℕ) (item : Item T) (old new : List (Node T)) (s : ℕ) (ps : List ℕ) → new ≡ with_item p (Some item) old →

@@ -1,5 +1,5 @@
 -- A whole pool gives an item out, and its node is free.
-use Rattle.std.proofs.Common.{◌≡◌, ◌<◌, ◌-◌, ℕ, zero, suc, true, false, Bool, cond, List, [], ◌∷◌, ◌++◌, length, Option, Some, None, IsSome, refl, sym, ap, ◌∙◌, subst, arith}
+use Rattle.std.proofs.Common.{◌≡◌, ◌<◌, ◌-◌, ℕ, zero, suc, true, false, Bool, cond, List, [], ◌∷◌, ◌++◌, length, Option, Some, None, IsSome, inl, inr, refl, sym, ap, ◌∙◌, subst, arith}
 use Rattle.std.proofs.Common.{length-append, get_or, eq-eqb}
 use Rattle.std.specs.Prelude.{◌==◌, slice_get, slice_set}
 use Rattle.std.specs.List.{IsDistinct}
@@ -7,14 +7,14 @@ use Rattle.std.proofs.lemmas.Option.{same_Some}
 use Rattle.mn_flight.specs.declared.Item.{Item}
 use Rattle.mn_flight.specs.Flying.{without}
 use Rattle.mn_flight.proofs.Members as members
-use Rattle.mn_flight_pool.specs.Cells.{same_place, value_at}
-use Rattle.mn_flight_pool.specs.Rings.{IsIn, IsRing, item_at, room_at, next_of, prev_of, unlink}
+use Rattle.mn_flight_pool.specs.Cells.{same_place}
+use Rattle.mn_flight_pool.specs.Rings.{IsIn, IsRing, HaveRoom, item_at, room_at, next_of, prev_of, unlink}
 use Rattle.mn_flight_pool.specs.ByDue.{IsByDue, ticks_left}
 use Rattle.mn_flight_pool.specs.Pool.{is_on, items_in, nodes_on, order_of, trace, left, IsHeld, IsLinked}
 use Rattle.mn_flight_pool.specs.Whole.{ptrs, dues_of, order_in, items_of, IsWhole, IsCounted}
 use Rattle.mn_flight_pool.specs.declared.pool.Pool.{Pool}
 use Rattle.mn_flight_pool.specs.declared.tick.Tick.{Tick}
-use Rattle.mn_flight_pool.specs.Nodes.{Node}
+use Rattle.mn_flight_pool.specs.Nodes.{Node, firsts}
 use Rattle.mn_flight_pool.specs.declared.node.Pair.TheVariants.{Number, Channel, Due}
 use Rattle.mn_flight_pool.proofs.Finger.{kept_before, distinct_nodes}
 use Rattle.mn_flight_pool.proofs.Left.{nodes_before, nodes_then}
@@ -26,7 +26,8 @@ use Rattle.mn_flight_pool.proofs.Items.{item_member}
 use Rattle.mn_flight_pool.proofs.Sides as sides
 use Rattle.mn_flight_pool.proofs.Sooner.{in_cut}
 use Rattle.mn_flight_pool.proofs.Traces.{trace_ring}
-use Rattle.mn_flight_pool.proofs.Whole.{ptrs_length, order_length, flight}
+use Rattle.mn_flight_pool.proofs.Firsts.{firsts_length}
+use Rattle.mn_flight_pool.proofs.Whole.{rooms, order_length, flight}
 
 some_at : (xs : List ℕ) (c : ℕ) → c < length xs → (f : ℕ) × (slice_get xs c ≡ Some f)
 some_at [] c h = absurd (omega (arith, h))
@@ -38,7 +39,7 @@ module _ {T : Type 0} (pool : Pool T) (whole : IsWhole pool) (p : ℕ) (i : IsIn
   head = pool.head.index
 
   abbrev heads : List ℕ
-  heads = ptrs pool.heads.items
+  heads = firsts pool.channels
 
   abbrev free : List ℕ
   free = ptrs pool.free.items
@@ -77,11 +78,22 @@ module _ {T : Type 0} (pool : Pool T) (whole : IsWhole pool) (p : ℕ) (i : IsIn
   due_ring : (fs : List ℕ) × (bs : List ℕ) × IsRing Due pool.store head (fs ++ p ∷ bs)
   due_ring = let c = in_cut p old_dues (whole.by_due.stands p i) in (c.0, c.1, subst (λ l. IsRing Due pool.store head l) c.2 whole.by_due.ring)
 
-  pub next_there : IsSome (value_at (next_of Due pool.store p) pool.store)
-  next_there = let r = due_ring in sides.next_there Due pool.store head r.0 p r.1 r.2
+  due_rooms : HaveRoom pool.store (head ∷ (due_ring.0 ++ p ∷ due_ring.1))
+  unfolding due_ring
+  due_rooms =
+      subst (λ l. HaveRoom pool.store (head ∷ l)) (in_cut p old_dues (whole.by_due.stands p i)).2 (λ q j. elim j [
+        | inl e ↦ rooms pool whole q (inl e)
+        | inr k ↦ rooms pool whole q (inr (whole.by_due.flies q k))
+      ])
 
-  pub prev_there : IsSome (value_at (prev_of Due pool.store p) pool.store)
-  prev_there = let r = due_ring in sides.prev_there Due pool.store head r.0 p r.1 r.2
+  pub node_room : room_at pool.store p ≡ true
+  node_room = whole.held.linked.order_room p i
+
+  pub next_there : room_at pool.store (next_of Due pool.store p) ≡ true
+  next_there = let r = due_ring in sides.next_room Due pool.store head r.0 p r.1 r.2 due_rooms
+
+  pub prev_there : room_at pool.store (prev_of Due pool.store p) ≡ true
+  prev_there = let r = due_ring in sides.prev_room Due pool.store head r.0 p r.1 r.2 due_rooms
 
   pub no_item : (o : Option (Item T)) → None ≡ o → IsSome o → ⊥
   no_item None e h = cc
@@ -98,13 +110,13 @@ module _ {T : Type 0} (pool : Pool T) (whole : IsWhole pool) (p : ℕ) (i : IsIn
   room_one one e = ap (λ c. room_at c p) e ∙ (alike_unlink p pool.store).rooms p ∙ whole.held.linked.order_room p i
 
   module _ (x : Item T) (holds : item_at pool.store p ≡ Some x) where
-    pub below : x.channel < length pool.heads.items
+    pub below : x.channel < pool.channels
     below =
         let at = members.contains_of_in (items_of pool) x (item_member pool.store (order_in pool) p x i holds) in
-        subst (λ (z : Item T). z.channel < length pool.heads.items) at.2 ((flight pool whole).on_channels at.0 x at.1)
+        subst (λ (z : Item T). z.channel < pool.channels) at.2 ((flight pool whole).on_channels at.0 x at.1)
 
     first_at : (f : ℕ) × (slice_get heads x.channel ≡ Some f)
-    first_at = some_at heads x.channel (omega (arith, below, ptrs_length pool.heads.items))
+    first_at = some_at heads x.channel (omega (arith, below, firsts_length pool.channels))
 
     abbrev first : ℕ
     first = first_at.0
@@ -127,13 +139,13 @@ module _ {T : Type 0} (pool : Pool T) (whole : IsWhole pool) (p : ℕ) (i : IsIn
     linked_mid : IsLinked head heads free (us ++ p ∷ vs) mid
     linked_mid = subst (λ l. IsLinked head heads free l mid) order_mid held_mid.linked
 
-    counted_mid : IsCounted pool.counts.items (length pool.heads.items) (us ++ p ∷ vs) mid
+    counted_mid : IsCounted pool.counts.items pool.channels (us ++ p ∷ vs) mid
     counted_mid =
-        counted_alike pool.counts.items (length pool.heads.items) (us ++ p ∷ vs) pool.store mid (alike_unlink p pool.store)
-        (subst (λ l. IsCounted pool.counts.items (length pool.heads.items) l pool.store) cut.2 whole.counted)
+        counted_alike pool.counts.items pool.channels (us ++ p ∷ vs) pool.store mid (alike_unlink p pool.store)
+        (subst (λ l. IsCounted pool.counts.items pool.channels l pool.store) cut.2 whole.counted)
 
     pub some_on : 0 < get_or pool.counts.items x.channel 0
-    some_on = some_counted head heads free us p vs mid linked_mid x first holds_mid first_at.1 pool.counts.items (length pool.heads.items) counted_mid below
+    some_on = some_counted head heads free us p vs mid linked_mid x first holds_mid first_at.1 pool.counts.items pool.channels counted_mid below
 
     own : nodes_on mid x.channel (us ++ p ∷ vs) ≡ nodes_on mid x.channel us ++ p ∷ nodes_on mid x.channel vs
     own =
@@ -141,8 +153,17 @@ module _ {T : Type 0} (pool : Pool T) (whole : IsWhole pool) (p : ℕ) (i : IsIn
         ∙ ap (λ b. nodes_on mid x.channel us ++ cond b (p ∷ nodes_on mid x.channel vs) (nodes_on mid x.channel vs)) (eq-eqb x.channel x.channel refl)
 
     module _ (one : List (Node T)) (one_is : one ≡ mid) where
-      pub number_ring : (s : ℕ) × (fs : List ℕ) × (bs : List ℕ) × IsRing Number one s (fs ++ p ∷ bs)
-      number_ring = (head, us, vs, subst (λ c. IsRing Number c head (us ++ p ∷ vs)) (sym one_is) linked_mid.number)
+      pub number_ring : (s : ℕ) × (fs : List ℕ) × (bs : List ℕ) × IsRing Number one s (fs ++ p ∷ bs) × HaveRoom one (s ∷ (fs ++ p ∷ bs))
+      number_ring = (
+        head,
+        us,
+        vs,
+        subst (λ c. IsRing Number c head (us ++ p ∷ vs)) (sym one_is) linked_mid.number,
+        subst (λ c. HaveRoom c (head ∷ (us ++ p ∷ vs))) (sym one_is) (λ q j. elim j [
+          | inl e ↦ subst (λ r. room_at mid r ≡ true) (sym e) linked_mid.head_room
+          | inr k ↦ linked_mid.order_room q k
+        ]),
+      )
 
       pub channel_ring : (s : ℕ) × (fs : List ℕ) × (bs : List ℕ) × IsRing Channel one s (fs ++ p ∷ bs)
       channel_ring = (
@@ -204,12 +225,12 @@ module _ {T : Type 0} (pool : Pool T) (whole : IsWhole pool) (p : ℕ) (i : IsIn
             by false old = ap (λ l. slice_get l k) (sym old) ∙ f
 
         pub take_counted : (counts : List ℕ) → counts ≡ slice_set pool.counts.items x.channel (get_or pool.counts.items x.channel 0 - 1) →
-            IsCounted counts (length pool.heads.items) (order_of head n two) two
+            IsCounted counts pool.channels (order_of head n two) two
         take_counted counts e =
-            subst (λ c. IsCounted counts (length pool.heads.items) (order_of head n c) c) (sym is)
-            (subst (λ o. IsCounted counts (length pool.heads.items) o (left p mid)) (sym order_two)
-            (subst (λ l. IsCounted l (length pool.heads.items) (us ++ vs) (left p mid)) (sym e)
-            (counted_left head heads free us p vs mid linked_mid x first holds_mid first_at.1 pool.counts.items (length pool.heads.items) counted_mid below)))
+            subst (λ c. IsCounted counts pool.channels (order_of head n c) c) (sym is)
+            (subst (λ o. IsCounted counts pool.channels o (left p mid)) (sym order_two)
+            (subst (λ l. IsCounted l pool.channels (us ++ vs) (left p mid)) (sym e)
+            (counted_left head heads free us p vs mid linked_mid x first holds_mid first_at.1 pool.counts.items pool.channels counted_mid below)))
 
         abbrev dues_then : List ℕ
         dues_then = dues.then head heads free us p vs pool.store linked x holds old_dues pool.ticks.items due

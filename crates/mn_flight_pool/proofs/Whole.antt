@@ -1,5 +1,5 @@
 -- What a whole pool says of its nodes and items.
-use Rattle.std.proofs.Common.{◌≡◌, ◌<◌, ◌≤◌, ◌+◌, ◌-◌, ℕ, zero, suc, List, [], ◌∷◌, ◌++◌, length, Option, Some, None, IsSome, inl, inr, refl, sym, ap, ◌∙◌}
+use Rattle.std.proofs.Common.{◌≡◌, ◌<◌, ◌≤◌, ◌+◌, ◌-◌, ℕ, zero, suc, true, List, [], ◌∷◌, ◌++◌, length, Option, Some, None, IsSome, inl, inr, refl, sym, ap, ◌∙◌}
 use Rattle.std.proofs.Common.{subst, arith, length-append, append-nil, get_or}
 use Rattle.std.specs.Prelude.{slice_get, slice_index_or}
 use Rattle.std.specs.List.{AllByRecursion}
@@ -8,14 +8,16 @@ use Rattle.mn_flight.specs.declared.Item.{Item}
 use Rattle.mn_flight.specs.Flying.{IsFlight, on_channel}
 use Rattle.mn_flight.specs.Earliest.{earliest}
 use Rattle.mn_flight_pool.specs.Cells.{value_at}
-use Rattle.mn_flight_pool.specs.Rings.{IsIn, IsRing, item_at, next_of, prev_of}
+use Rattle.mn_flight_pool.specs.Rings.{IsIn, IsRing, HaveRoom, item_at, room_at, next_of, prev_of}
 use Rattle.mn_flight_pool.specs.Pool.{nodes_on, steps_of}
 use Rattle.mn_flight_pool.specs.Whole.{AreLast, ptrs, dues_of, order_in, items_of, IsPlaced, IsWhole}
 use Rattle.mn_flight_pool.specs.declared.pool.Pool.{Pool}
 use Rattle.mn_flight_pool.specs.declared.node.Place.{Place}
 use Rattle.mn_flight_pool.specs.declared.node.Pair.TheVariants.{Number, Channel, Due}
 use Rattle.mn_flight_pool.proofs.Neighbours.{in_at}
+use Rattle.mn_flight_pool.proofs.Nodes.{below}
 use Rattle.mn_flight_pool.proofs.Entered.{from_filter}
+use Rattle.mn_flight_pool.proofs.Firsts.{firsts_length, first_at}
 use Rattle.mn_flight_pool.proofs.Held.{length-trace}
 use Rattle.mn_flight_pool.proofs.Sooner.{all_in}
 use Rattle.mn_flight_pool.proofs.Walks.{forth_at, back_at}
@@ -26,7 +28,7 @@ pub ptrs_length : (ps : List Place) → length (ptrs ps) ≡ length ps
 ptrs_length [] = refl
 ptrs_length (p ∷ ps) = ap suc (ptrs_length ps)
 
--- where a channel's first node lies
+-- a place that was read
 pub head_at : (ps : List Place) (c : ℕ) (f : Place) → c < length ps → f ≡ slice_index_or ps c f → slice_get (ptrs ps) c ≡ Some f.index
 head_at [] c f h e = absurd (omega (arith, h))
 head_at (p ∷ ps) zero f h e = ap (λ (q : Place). Some q.index) (sym e)
@@ -43,8 +45,8 @@ module _ {T : Type 0} (pool : Pool T) (whole : IsWhole pool) where
   pub held_order : AllByRecursion (λ p. IsSome (item_at pool.store p)) (order_in pool)
   held_order = whole.held.linked.held
 
-  pub flight : IsFlight (length pool.heads.items) (items_of pool)
-  flight = subst (λ n. IsFlight n (items_of pool)) (ptrs_length pool.heads.items) whole.held.flight
+  pub flight : IsFlight pool.channels (items_of pool)
+  flight = subst (λ n. IsFlight n (items_of pool)) (firsts_length pool.channels) whole.held.flight
 
   pub items_count : length (items_of pool) ≡ pool.count
   items_count = items_length pool.store (order_in pool) held_order ∙ order_length
@@ -54,6 +56,13 @@ module _ {T : Type 0} (pool : Pool T) (whole : IsWhole pool) where
 
   pub node_holds : (p : ℕ) → IsIn p (order_in pool) → IsSome (item_at pool.store p)
   node_holds p i = all_in (λ q. IsSome (item_at pool.store q)) (order_in pool) p held_order i
+
+  -- the ring's first node and those with items have room for one
+  pub rooms : HaveRoom pool.store (pool.head.index ∷ order_in pool)
+  rooms p i = elim i [
+    | inl e ↦ subst (λ q. room_at pool.store q ≡ true) (sym e) whole.held.linked.head_room
+    | inr j ↦ whole.held.linked.order_room p j
+  ]
 
   -- 1. Channels
   pub on_length : (c : ℕ) → length (on_channel c (items_of pool)) ≡ length (nodes_on pool.store c (order_in pool))
@@ -65,7 +74,7 @@ module _ {T : Type 0} (pool : Pool T) (whole : IsWhole pool) where
   count_there c n h e = e ∙ whole.counted.each c (omega (arith, h, whole.counted.many)) ∙ sym (on_length c)
 
   pub count_none : (c : ℕ) → length pool.counts.items ≤ c → 0 ≡ length (on_channel c (items_of pool))
-  count_none c h = sym (none_on (length pool.heads.items) c (items_of pool) flight (omega (arith, h, whole.counted.many)))
+  count_none c h = sym (none_on pool.channels c (items_of pool) flight (omega (arith, h, whole.counted.many)))
 
   -- the node at a place of its channel
   pub placed : (c n : ℕ) (p : ℕ) → IsPlaced pool c n p →
@@ -78,9 +87,9 @@ module _ {T : Type 0} (pool : Pool T) (whole : IsWhole pool) where
         e,
       )
 
-  module _ (c : ℕ) (f : Place) (below : c < length pool.heads.items) (read : f ≡ slice_index_or pool.heads.items c f) where
+  module _ (c : ℕ) (f : Place) (below : c < pool.channels) (read : f.index ≡ c) where
     pub channel_ring : IsRing Channel pool.store f.index (nodes_on pool.store c (order_in pool))
-    channel_ring = whole.held.linked.channel c f.index (head_at pool.heads.items c f below read)
+    channel_ring = whole.held.linked.channel c f.index (first_at pool.channels c below ∙ ap (λ p. Some p) (sym read))
 
     pub forth_placed : (n : ℕ) (p : ℕ) → p ≡ steps_of (next_of Channel pool.store) f.index (n + 1) → n < length (on_channel c (items_of pool)) →
         IsIn p (order_in pool) × (item_at pool.store p ≡ slice_get (on_channel c (items_of pool)) n) × IsPlaced pool c n p
@@ -112,8 +121,12 @@ module _ {T : Type 0} (pool : Pool T) (whole : IsWhole pool) where
       none (y ∷ ys) zero h = absurd (omega (arith, h))
       none (y ∷ ys) (suc n) h = none ys n (omega (arith, h))
 
-  pub no_channel : (c n : ℕ) → length pool.heads.items ≤ c → slice_get (on_channel c (items_of pool)) n ≡ None
-  no_channel c n h = past_end c n (omega (arith, none_on (length pool.heads.items) c (items_of pool) flight h))
+  -- a channel that has an item is there
+  pub has_channel : (c n : ℕ) → n < length (on_channel c (items_of pool)) → c < pool.channels
+  has_channel c n h = below c pool.channels (λ b. omega (arith, h, none_on pool.channels c (items_of pool) flight b))
+
+  pub no_channel : (c n : ℕ) → pool.channels ≤ c → slice_get (on_channel c (items_of pool)) n ≡ None
+  no_channel c n h = past_end c n (omega (arith, none_on pool.channels c (items_of pool) flight h))
 
   -- 2. The earliest
   module _ (some : 0 < pool.count) (limit : ℕ) (node : ℕ) (is : node ≡ next_of Due pool.store pool.head.index) where
@@ -133,16 +146,16 @@ module _ {T : Type 0} (pool : Pool T) (whole : IsWhole pool) where
         let holds : item_at pool.store (next_of Due pool.store pool.head.index) ≡ Some x = ap (item_at pool.store) (sym is) ∙ sym e in
         let dues = dues_of pool.head.index pool.count pool.store in (
           subst (λ p. IsIn p (order_in pool)) (sym is)
-              (p_in pool.head.index (order_in pool) (length pool.heads.items) pool.ticks.items pool.store flight dues whole.by_due many limit x holds),
+              (p_in pool.head.index (order_in pool) pool.channels pool.ticks.items pool.store flight dues whole.by_due many limit x holds),
           sym e ∙ sym
-              (earliest_first pool.head.index (order_in pool) (length pool.heads.items) pool.ticks.items pool.store flight dues whole.by_due many limit x
+              (earliest_first pool.head.index (order_in pool) pool.channels pool.ticks.items pool.store flight dues whole.by_due many limit x
               holds h),
         )
 
     pub later_due : (x : Item T) → Some x ≡ item_at pool.store node → limit < x.due → earliest limit (items_of pool) ≡ None
     later_due x e h =
         let holds : item_at pool.store (next_of Due pool.store pool.head.index) ≡ Some x = ap (item_at pool.store) (sym is) ∙ sym e in
-        earliest_none pool.head.index (order_in pool) (length pool.heads.items) pool.ticks.items pool.store flight
+        earliest_none pool.head.index (order_in pool) pool.channels pool.ticks.items pool.store flight
         (dues_of pool.head.index pool.count pool.store) whole.by_due many limit x holds h
 
     pub first_holds : None ≡ item_at pool.store node → ⊥

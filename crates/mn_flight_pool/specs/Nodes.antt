@@ -1,17 +1,66 @@
--- The nodes of a store as contracts see them: each with its neighbours, and with an item where it has room for one.
+-- The nodes as contracts see them: each with its neighbours, and with an item where it has room for one.
 use Rattle.std.specs.Prelude.{ℕ, zero, suc, Bool, true, false, List, [], ◌∷◌, Option, None}
 use Rattle.mn_flight.specs.declared.Item.{Item}
-use Rattle.mn_flight_pool.specs.declared.node.Links.{Links}
+use Rattle.mn_flight_pool.specs.declared.node.Link.{Link}
+use Rattle.mn_flight_pool.specs.declared.node.CommonLinks.{CommonLinks}
+
+-- the neighbours of a node in each ring
+pub record Links : Type 0 where
+  pub number : Link
+  pub channel : Link
+  pub due : Link
 
 pub record Node (T : Type 0) : Type 0 where
   pub links : Links
   pub room : Bool  -- whether it has room for an item
   pub item : Option (Item T)
 
+-- the neighbours of a node that is in no ring
+abbrev pub nowhere : Link
+nowhere = record { next = record { index = 0 }; prev = record { index = 0 } }
+
+-- so many numbers from one on
+abbrev pub numbers : ℕ → ℕ → List ℕ
+numbers from zero = []
+numbers from (suc n) = from ∷ numbers (suc from) n
+
+-- the places of the first nodes of so many channels: each is its channel's number
+abbrev pub firsts : ℕ → List ℕ
+firsts channels = numbers 0 channels
+
+-- the neighbours of a node that is alone in its ring
+abbrev pub lone_link : ℕ → Link
+lone_link p = record { next = record { index = p }; prev = record { index = p } }
+
+abbrev pub lone_links_at : List ℕ → List Link
+lone_links_at [] = []
+lone_links_at (p ∷ ps) = lone_link p ∷ lone_links_at ps
+
+abbrev pub lone_links : ℕ → List Link
+lone_links n = lone_links_at (firsts n)
+
 module _ {T : Type 0} where
-  -- of the nodes with these neighbours so many at the front have no room for an item, and the others have room, with these
-  abbrev pub nodes_of : ℕ → List Links → List (Option (Item T)) → List (Node T)
-  nodes_of bare [] items = []
-  nodes_of (suc bare) (links ∷ more) items = record { links = links; room = false; item = None } ∷ nodes_of bare more items
-  nodes_of zero (links ∷ more) [] = record { links = links; room = false; item = None } ∷ nodes_of zero more []
-  nodes_of zero (links ∷ more) (item ∷ items) = record { links = links; room = true; item = item } ∷ nodes_of zero more items
+  -- the first node of a channel stands in the ring of that channel alone
+  abbrev pub first_node : Link → Node T
+  first_node link = record { links = record { number = nowhere; channel = link; due = nowhere }; room = false; item = None }
+
+  -- any other node stands in a channel's ring and in those of all items
+  abbrev pub roomy_node : Link → CommonLinks → Option (Item T) → Node T
+  roomy_node link common item = record { links = record { number = common.number; channel = link; due = common.due }; room = true; item = item }
+
+  -- nodes with room, with these neighbours and items
+  abbrev pub roomy_nodes : List Link → List CommonLinks → List (Option (Item T)) → List (Node T)
+  roomy_nodes [] common items = []
+  roomy_nodes (link ∷ links) [] items = first_node link ∷ roomy_nodes links [] items
+  roomy_nodes (link ∷ links) (both ∷ common) [] = first_node link ∷ roomy_nodes links common []
+  roomy_nodes (link ∷ links) (both ∷ common) (item ∷ items) = roomy_node link both item ∷ roomy_nodes links common items
+
+  -- the first nodes of so many channels, and behind them the others
+  abbrev pub nodes_of : ℕ → List Link → List CommonLinks → List (Option (Item T)) → List (Node T)
+  nodes_of zero links common items = roomy_nodes links common items
+  nodes_of (suc n) [] common items = []
+  nodes_of (suc n) (link ∷ links) common items = first_node link ∷ nodes_of n links common items
+
+  -- the first nodes of so many channels, each alone in its ring
+  abbrev pub lone_firsts : ℕ → List (Node T)
+  lone_firsts n = nodes_of n (lone_links n) [] []

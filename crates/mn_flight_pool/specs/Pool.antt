@@ -5,7 +5,7 @@ use Rattle.std.specs.List.{AllByRecursion, IsDistinct}
 use Rattle.mn_flight.specs.declared.Item.{Item}
 use Rattle.mn_flight.specs.Flying.{IsFlight}
 use Rattle.mn_flight_pool.specs.Cells.{same_place, value_at}
-use Rattle.mn_flight_pool.specs.Rings.{IsIn, IsRing, item_at, room_at, next_of, prev_of, with_item, link_behind, unlink}
+use Rattle.mn_flight_pool.specs.Rings.{IsRing, item_at, room_at, HaveRoom, next_of, prev_of, with_item, link_behind, unlink}
 use Rattle.mn_flight_pool.specs.Nodes.{Node}
 use Rattle.mn_flight_pool.specs.declared.node.Pair.TheVariants.{Number, Channel}
 
@@ -40,8 +40,9 @@ module _ {T : Type 0} where
     pub apart : IsDistinct same_place ((head ∷ heads) ++ (order ++ free))
     pub held : AllByRecursion (λ p. IsSome (item_at cells p)) order
     pub there : AllByRecursion (λ p. IsSome (value_at p cells)) free
-    pub order_room : (p : ℕ) → IsIn p order → room_at cells p ≡ true
-    pub free_room : (p : ℕ) → IsIn p free → room_at cells p ≡ true
+    pub head_room : room_at cells head ≡ true
+    pub order_room : HaveRoom cells order
+    pub free_room : HaveRoom cells free
 
   -- the node at p takes an item, and stands behind all others in the ring of all and in its channel's
   abbrev pub entered : ℕ → ℕ → ℕ → Item T → List (Node T) → List (Node T)

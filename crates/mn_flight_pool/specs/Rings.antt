@@ -1,13 +1,12 @@
 -- Nodes in rings: which node follows which, and what linking and unlinking does.
-use Rattle.std.specs.Prelude.{◌≡◌, ◌⊎◌, ℕ, zero, suc, Bool, false, List, [], ◌∷◌, ◌++◌, length, Option, None, Some, IsSome}
+use Rattle.std.specs.Prelude.{◌≡◌, ◌⊎◌, ℕ, zero, suc, Bool, true, false, List, [], ◌∷◌, ◌++◌, length, Option, None, Some, IsSome}
 use Rattle.mn_flight.specs.declared.Item.{Item}
 use Rattle.std.specs.List.{AllByRecursion, IsDistinct}
 use Rattle.mn_flight_pool.specs.Cells.{same_place, value_at}
 use Rattle.mn_flight_pool.specs.declared.node.Pair.{Pair}
 use Rattle.mn_flight_pool.specs.declared.node.Pair.TheVariants.{Number, Channel, Due}
 use Rattle.mn_flight_pool.specs.declared.node.Link.{Link}
-use Rattle.mn_flight_pool.specs.declared.node.Links.{Links}
-use Rattle.mn_flight_pool.specs.Nodes.{Node}
+use Rattle.mn_flight_pool.specs.Nodes.{Links, Node, nowhere}
 
 -- 1. Neighbours
 -- the pointers from each node of the first list lead to the one at its place in the second, and back
@@ -59,6 +58,14 @@ module _ {T : Type 0} where
   abbrev pub prev_of : Pair → List (Node T) → ℕ → ℕ
   prev_of pair cells p = prev_in pair (value_at p cells)
 
+  -- the neighbours of the node at p
+  abbrev pub link_seen : Pair → Option (Node T) → Link
+  link_seen pair None = nowhere
+  link_seen pair (Some node) = link_of pair node
+
+  abbrev pub link_at : Pair → List (Node T) → ℕ → Link
+  link_at pair cells p = link_seen pair (value_at p cells)
+
   -- 2. Changes
   -- the node at p is changed by f
   abbrev pub change_at : ℕ → (Node T → Node T) → List (Node T) → List (Node T)
@@ -100,9 +107,15 @@ module _ {T : Type 0} where
   abbrev pub room_at : List (Node T) → ℕ → Bool
   room_at cells p = room_in (value_at p cells)
 
-  -- no node has room for an item
-  abbrev pub HasNoRoom : List (Node T) → Type 0
-  HasNoRoom cells = (p : ℕ) → room_at cells p ≡ false
+  -- these nodes have room for an item
+  abbrev pub HaveRoom : List (Node T) → List ℕ → Type 0
+  HaveRoom cells ps = (p : ℕ) → IsIn p ps → room_at cells p ≡ true
+
+  -- the node at p can stand in a ring of the pair: each in one of a channel, and those with room for an item in any
+  abbrev pub CanStand : Pair → List (Node T) → ℕ → Type 0
+  CanStand Channel cells p = IsSome (value_at p cells)
+  CanStand Number cells p = room_at cells p ≡ true
+  CanStand Due cells p = room_at cells p ≡ true
 
   abbrev pub with_item : ℕ → Option (Item T) → List (Node T) → List (Node T)
   with_item p item = change_at p (λ node. record node { item = item })

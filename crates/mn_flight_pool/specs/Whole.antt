@@ -1,12 +1,12 @@
 -- What a pool keeps between two calls, and the items that it holds.
-use Rattle.std.specs.Prelude.{◌≡◌, ◌≤◌, ◌<◌, ◌+◌, ◌++◌, ℕ, List, length, map, slice_get, slice_index, Some, MatchOption, ⊤, vec_len}
+use Rattle.std.specs.Prelude.{◌≡◌, ◌≤◌, ◌<◌, ◌+◌, ◌^◌, ◌++◌, ℕ, List, length, map, slice_get, slice_index, Some, MatchOption, ⊤, vec_len}
 use Rattle.std.specs.Vec.{vec_capacity}
 use Rattle.mn_flight.specs.declared.Item.{Item}
 use Rattle.mn_flight_pool.specs.Rings.{next_of}
 use Rattle.mn_flight_pool.specs.Pool.{trace, order_of, items_in, nodes_on, IsHeld}
 use Rattle.mn_flight_pool.specs.ByDue.{IsByDue}
 use Rattle.mn_flight_pool.specs.declared.node.Place.{Place}
-use Rattle.mn_flight_pool.specs.Nodes.{Node}
+use Rattle.mn_flight_pool.specs.Nodes.{Node, firsts}
 use Rattle.mn_flight_pool.specs.declared.node.Pair.TheVariants.{Due}
 use Rattle.mn_flight_pool.specs.declared.pool.Pool.{Pool}
 
@@ -41,9 +41,10 @@ module _ {T : Type 0} where
   IsPlaced pool channel place node = slice_get (nodes_on pool.store channel (order_in pool)) place ≡ Some node
 
   pub record IsWhole (pool : Pool T) : Type 0 where
-    pub held : IsHeld pool.head.index (ptrs pool.heads.items) (ptrs pool.free.items) pool.count pool.store
-    pub counted : IsCounted pool.counts.items (length pool.heads.items) (order_in pool) pool.store
+    pub held : IsHeld pool.head.index (firsts pool.channels) (ptrs pool.free.items) pool.count pool.store
+    pub counted : IsCounted pool.counts.items pool.channels (order_in pool) pool.store
     pub by_due : IsByDue pool.head.index (order_in pool) (dues_of pool.head.index pool.count pool.store) pool.ticks.items pool.store
+    pub few : pool.count + vec_len pool.free < 2 ^ 32
     pub room : pool.count + vec_len pool.free ≤ vec_capacity pool.free
     pub ticks_room : pool.count + vec_len pool.free ≤ vec_capacity pool.ticks
     pub recent : AreLast (order_in pool) (ptrs pool.recent.items)

@@ -21,7 +21,7 @@ impl<T: Drop> Model for PoolFlight<T> {
 
     ghost use Rattle.mn_flight_pool.specs.Whole.{items_of, IsWhole};
 
-    ghost view = { λ f. record { items = items_of f.pool; spare = vec_len f.pool.free; channels = vec_len f.pool.heads } };
+    ghost view = { λ f. record { items = items_of f.pool; spare = vec_len f.pool.free; channels = f.pool.channels } };
 
     ghost invariant = { λ f. IsWhole f.pool };
 }
@@ -37,6 +37,7 @@ impl<T: Drop> PoolFlight<T> {
     }
 }
 
+#[tactic(auto, using(crate::proofs::Whole::flight))]
 impl<T: Drop> Flight<T> for PoolFlight<T> {
     ghost items = { λ f. f.items };
 

@@ -2,7 +2,7 @@
 //!
 //! Each node that holds an item stands in three rings: that of all items by number, that of its channel, and that of all
 //! items by due tick and number. A ring begins with a node that holds no item, so each node has a neighbour on either side,
-//! and no place is compared.
+//! and no place is compared. A channel's first node is no more than its two neighbours, and stands at its channel's number.
 //!
 //! ```text
 //!            +--------------------------------------------------+
@@ -17,6 +17,7 @@
 //! stays on the node before that which was taken last by its place, so that places near it are walked to from there.
 //!
 //! - `node`, `store`: the neighbours of a node; all nodes, by their places, with their items
+//! - `room`: room in a list of which little may be written
 //! - `walk`: steps along a ring
 //! - `moves`: a node enters or leaves the rings by number and of its channel
 //! - `tick`, `due`: the list of due ticks; a node enters or leaves the ring by due tick
@@ -29,6 +30,7 @@ mod flight;
 mod moves;
 mod node;
 mod pool;
+mod room;
 mod store;
 mod tick;
 mod walk;

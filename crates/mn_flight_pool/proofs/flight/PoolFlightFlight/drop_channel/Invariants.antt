@@ -7,7 +7,7 @@ abbrev pub invariant-loop-node : goal.invariant-loop-node
 invariant-loop-node g l = record {
   whole : IsWhole l.self-inside.pool;
   items : off_channel l.channel (items_of l.self-inside.pool) ≡ off_channel l.channel l.fn.self.items;
-  channels : vec_len l.self-inside.pool.heads ≡ l.fn.self.channels;
+  channels : l.self-inside.pool.channels ≡ l.fn.self.channels;
   spare : vec_len l.self-inside.pool.free + length (items_of l.self-inside.pool) ≡ l.fn.self.spare + length l.fn.self.items;
 }
 

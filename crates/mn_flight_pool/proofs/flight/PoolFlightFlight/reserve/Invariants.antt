@@ -6,7 +6,7 @@ abbrev pub invariant-loop-self : goal.invariant-loop-self
 invariant-loop-self g l = record {
   whole : IsWhole l.self-inside.pool;
   items : items_of l.self-inside.pool ≡ l.fn.self.items;
-  channels : vec_len l.self-inside.pool.heads ≡ l.fn.self.channels;
+  channels : l.self-inside.pool.channels ≡ l.fn.self.channels;
   spare : l.fn.self.spare ≤ vec_len l.self-inside.pool.free;
   enough : l.more ≤ l.fn.self.spare → vec_len l.self-inside.pool.free ≡ l.fn.self.spare;
 }

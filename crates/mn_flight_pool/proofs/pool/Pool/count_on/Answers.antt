@@ -5,7 +5,8 @@ use Rattle.mn_flight_pool.proofs.pool.Pool.count_on.Goals as goal
 pub returns-in-Some : goal.returns-in-Some
 returns-in-Some g c =
     let at = c.in-Some.ensures.lookup.3 in
-    count_there c.args.self.now c.requires c.args.channel c.in-Some.count.now (subst (λ (l : List ℕ). c.args.channel < length l) c.deref.ensures.value at.0)
+    c.from.ensures
+    ∙ count_there c.args.self.now c.requires c.args.channel c.in-Some.count.now (subst (λ (l : List ℕ). c.args.channel < length l) c.deref.ensures.value at.0)
     (at.1 0 ∙ ap (λ (l : List ℕ). get_or l c.args.channel 0) c.deref.ensures.value)
 
 pub returns-in-None : goal.returns-in-None

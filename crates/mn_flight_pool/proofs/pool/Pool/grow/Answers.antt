@@ -1,82 +1,58 @@
-use Rattle.std.proofs.Common.{◌≡◌, ◌++◌, ◌∷◌, [], arith}
-use Rattle.std.proofs.lemmas.Grind.{common_steps}
+use Rattle.std.proofs.Common.{◌≡◌, ◌≤◌, ◌+◌, ◌++◌, ◌∷◌, [], arith, ap, ◌∙◌, vec_len}
+use Rattle.std.specs.Vec.{vec_capacity}
 use Rattle.mn_flight_pool.proofs.Grown.{grown_held, grown_items, grown_counted, grown_by_due, grown_recent, grown_finger}
+use Rattle.mn_flight_pool.proofs.Put.{ticks_count}
 use Rattle.mn_flight_pool.proofs.Whole.{recent_few}
 use Rattle.mn_flight_pool.proofs.pool.Pool.grow.Goals as goal
 
-pub overflow_add-more : goal.overflow_add-more
-overflow_add-more g c = omega (arith, c.requires.room, c.args.self.now.free.small)
-
-pub overflow_add-ticks : goal.overflow_add-ticks
-overflow_add-ticks g c = omega (arith, c.requires.room, c.args.self.now.free.small, c.len.ensures)
-
 pub overflow_sub-ticks : goal.overflow_sub-ticks
-overflow_sub-ticks g c =
-    omega (
-      arith,
-      recent_few c.args.self.now c.requires,
-      c.args.self.now.recent.ok.0,
-      c.len-2.ensures,
-      c.len.ensures,
-    )
+overflow_sub-ticks g c = omega (arith, ticks_count c.args.self.now c.requires, c.args.self.now.ticks.ok.0, c.len-2.ensures, c.len.ensures)
+
+pub overflow_sub-recent : goal.overflow_sub-recent
+overflow_sub-recent g c = omega (arith, recent_few c.args.self.now c.requires, c.args.self.now.recent.ok.0, c.len-3.ensures, c.len.ensures)
+
+pub push_reserved-requires : goal.push_reserved-requires
+push_reserved-requires g c = omega (arith, c.in_ok-make_room.ensures.room, c.make_room.ensures.len)
 
 pub returns-clause-whole : goal.returns-clause-whole
 returns-clause-whole g c =
     let added = (c.in_ok-node.ensures).ok in
     let fresh = (c.in_ok-node.ensures).fresh in
-    let pushed : c.push.new.self.items ≡ c.args.self.now.free.items ++ c.in_ok-node.node ∷ [] =
-    grind (
-      arith,
-      common_steps,
-      c.push.ensures.items,
-      c.push.ensures.succeeds,
-      c.push.ensures.lower_bound,
-      c.in_ok-reserve.ensures,
-      c.reserve.ensures.items,
-    ) in
+    let roomy : c.args.self.now.count + 1 + vec_len c.args.self.now.free ≤ vec_capacity c.make_room.new.list =
+    omega (arith, c.in_ok-make_room.ensures.room, c.make_room.ensures.len) in
+    let pushed : c.push_reserved.new.self.items ≡ c.args.self.now.free.items ++ c.in_ok-node.node ∷ [] =
+    c.push_reserved.ensures.items ∙ ap (λ l. l ++ c.in_ok-node.node ∷ []) c.make_room.ensures.items in
+    let longer : vec_len c.push_reserved.new.self ≡ vec_len c.args.self.now.free + 1 =
+    c.push_reserved.ensures.len ∙ ap (λ n. n + 1) c.make_room.ensures.len in
     record {
-      held = grown_held c.args.self.now c.requires c.in_ok-node.node c.add.new.self added fresh (c.in_ok-node.ensures).room c.push.new.self.items pushed;
+      held = grown_held c.args.self.now c.requires c.in_ok-node.node c.add.new.self added fresh (c.in_ok-node.ensures).room
+          c.push_reserved.new.self.items pushed;
       counted = grown_counted c.args.self.now c.requires c.in_ok-node.node c.add.new.self added fresh;
-      by_due =
-          let same : c.reserve-2.new.self.items ≡ c.args.self.now.ticks.items = c.reserve-2.ensures.items in
-          rw same (grown_by_due c.args.self.now c.requires c.in_ok-node.node c.add.new.self added fresh);
-      room = grind (
+      by_due = rw c.make_room-2.ensures.items (grown_by_due c.args.self.now c.requires c.in_ok-node.node c.add.new.self added fresh);
+      few = omega (arith, longer, c.if-nodes.false, c.len.ensures);
+      room = omega (arith, longer, roomy, c.push_reserved.ensures.capacity);
+      ticks_room = omega (
         arith,
-        common_steps,
-        c.requires.room,
-        c.push.ensures.capacity,
-        c.push.ensures.len,
-        c.push.ensures.upper_bound,
-        c.in_ok-reserve.ensures,
-        c.reserve.ensures,
+        longer,
+        c.in_ok-make_room-2.ensures.room,
+        c.make_room-2.ensures.len,
+        c.len-2.ensures,
+        c.len.ensures,
+        ticks_count c.args.self.now c.requires,
+        c.args.self.now.ticks.ok.0,
       );
-      ticks_room =
-          grind (
-            arith,
-            common_steps,
-            c.requires.ticks_room,
-            c.push.ensures.upper_bound,
-            c.in_ok-reserve-2.ensures,
-            c.reserve-2.ensures,
-            c.reserve.ensures.len,
-            c.len.ensures,
-          );
       finger = grown_finger c.args.self.now c.requires c.in_ok-node.node c.add.new.self added fresh;
-      recent =
-          let same : c.reserve-3.new.self.items ≡ c.args.self.now.recent.items = c.reserve-3.ensures.items in
-          rw same (grown_recent c.args.self.now c.requires c.in_ok-node.node c.add.new.self added fresh);
-      recent_room =
-          grind (
-            arith,
-            common_steps,
-            c.requires.recent_room,
-            c.push.ensures.upper_bound,
-            c.in_ok-reserve-3.ensures,
-            c.reserve-3.ensures,
-            c.reserve.ensures.len,
-            c.len.ensures,
-            c.len-2.ensures,
-          );
+      recent = rw c.make_room-3.ensures.items (grown_recent c.args.self.now c.requires c.in_ok-node.node c.add.new.self added fresh);
+      recent_room = omega (
+        arith,
+        longer,
+        c.in_ok-make_room-3.ensures.room,
+        c.make_room-3.ensures.len,
+        c.len-3.ensures,
+        c.len.ensures,
+        recent_few c.args.self.now c.requires,
+        c.args.self.now.recent.ok.0,
+      );
     }
 
 pub returns-clause-items : goal.returns-clause-items

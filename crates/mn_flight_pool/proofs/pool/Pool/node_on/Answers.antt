@@ -1,68 +1,61 @@
-use Rattle.std.proofs.Common.{◌<◌, ◌≤◌, ◌+◌, ◌-◌, List, length, inl, refl, arith, ap, ◌∙◌, subst}
-use Rattle.std.specs.Prelude.{slice_index_or}
+use Rattle.std.proofs.Common.{◌<◌, ◌+◌, ◌-◌, length, inl, refl, arith, ap, ◌∙◌, subst}
 use Rattle.mn_flight.specs.Flying.{on_channel}
 use Rattle.mn_flight_pool.specs.Rings.{next_of, prev_of}
 use Rattle.mn_flight_pool.specs.Pool.{nodes_on, steps_of}
 use Rattle.mn_flight_pool.specs.Whole.{order_in, items_of, IsPlaced}
-use Rattle.mn_flight_pool.specs.declared.node.Place.{Place}
 use Rattle.mn_flight_pool.specs.declared.node.Pair.TheVariants.{Channel}
-use Rattle.mn_flight_pool.proofs.Whole.{placed, channel_ring, forth_placed, back_placed, past_end, no_channel}
+use Rattle.mn_flight_pool.proofs.Whole.{placed, channel_ring, forth_placed, back_placed, past_end, has_channel}
 use Rattle.mn_flight_pool.proofs.pool.Pool.node_on.Goals as goal
-
-pub returns-in_err-first : goal.returns-in_err-first
-returns-in_err-first g c =
-    rw c.from_residual.ensures
-    (no_channel c.args.self.now c.requires c.args.channel c.args.place
-    (subst (λ (l : List Place). length l ≤ c.args.channel) c.deref.ensures.value c.in_err-first.ensures.lookup.3))
 
 pub returns-then-place-count : goal.returns-then-place-count
 returns-then-place-count g c =
     past_end c.args.self.now c.requires c.args.channel c.args.place (omega (arith, c.if-place-count.true, c.from-place.ensures, c.count_on-count.ensures))
 
+pub near_finger-requires-clause-channel : goal.near_finger-requires-clause-channel
+near_finger-requires-clause-channel g c =
+    has_channel c.args.self.now c.requires c.args.channel c.args.place
+    (omega (arith, c.if-place-count.false, c.from-place.ensures, c.count_on-count.ensures))
+
 pub forth-requires : goal.forth-requires
 forth-requires g c =
-    let at = c.in_ok-first.ensures.lookup.3 in
-    let below : c.args.channel < length c.args.self.now.heads.items = subst (λ (l : List Place). c.args.channel < length l) c.deref.ensures.value at.0 in
-    let read = at.1 c.in_ok-first.field-0.now ∙ ap (λ (l : List Place). slice_index_or l c.args.channel c.in_ok-first.field-0.now) c.deref.ensures.value in (
-      c.in_ok-first.field-0.now.index,
+    let there : c.args.place < length (on_channel c.args.channel (items_of c.args.self.now)) =
+    omega (arith, c.if-place-count.false, c.from-place.ensures, c.count_on-count.ensures) in
+    let below = has_channel c.args.self.now c.requires c.args.channel c.args.place there in (
+      c.args.channel,
       nodes_on c.args.self.now.store c.args.channel (order_in c.args.self.now),
-      channel_ring c.args.self.now c.requires c.args.channel
-          c.in_ok-first.field-0.now below read,
+      channel_ring c.args.self.now c.requires c.args.channel (record { index = c.args.channel }) below refl,
       inl refl,
     )
 
 pub returns-then-place-count-2 : goal.returns-then-place-count-2
 returns-then-place-count-2 g c =
-    let at = c.in_ok-first.ensures.lookup.3 in
-    let below : c.args.channel < length c.args.self.now.heads.items = subst (λ (l : List Place). c.args.channel < length l) c.deref.ensures.value at.0 in
-    let read = at.1 c.in_ok-first.field-0.now ∙ ap (λ (l : List Place). slice_index_or l c.args.channel c.in_ok-first.field-0.now) c.deref.ensures.value in
     let there : c.args.place < length (on_channel c.args.channel (items_of c.args.self.now)) =
     omega (arith, c.if-place-count.false, c.from-place.ensures, c.count_on-count.ensures) in
-    forth_placed c.args.self.now c.requires c.args.channel c.in_ok-first.field-0.now below read c.args.place c.forth.result.index
-    (c.forth.ensures ∙ ap (λ n. steps_of (next_of Channel c.args.self.now.store) c.in_ok-first.field-0.now.index (n + 1)) c.from-place.ensures) there
+    let below = has_channel c.args.self.now c.requires c.args.channel c.args.place there in
+    forth_placed c.args.self.now c.requires c.args.channel (record { index = c.args.channel }) below refl c.args.place c.forth.result.index
+    (c.forth.ensures ∙ ap (λ n. steps_of (next_of Channel c.args.self.now.store) c.args.channel (n + 1)) c.from-place.ensures) there
 
 pub back-requires : goal.back-requires
 back-requires g c =
-    let at = c.in_ok-first.ensures.lookup.3 in
-    let below : c.args.channel < length c.args.self.now.heads.items = subst (λ (l : List Place). c.args.channel < length l) c.deref.ensures.value at.0 in
-    let read = at.1 c.in_ok-first.field-0.now ∙ ap (λ (l : List Place). slice_index_or l c.args.channel c.in_ok-first.field-0.now) c.deref.ensures.value in (
-      c.in_ok-first.field-0.now.index,
+    let there : c.args.place < length (on_channel c.args.channel (items_of c.args.self.now)) =
+    omega (arith, c.if-place-count.false, c.from-place.ensures, c.count_on-count.ensures) in
+    let below = has_channel c.args.self.now c.requires c.args.channel c.args.place there in (
+      c.args.channel,
       nodes_on c.args.self.now.store c.args.channel (order_in c.args.self.now),
-      channel_ring c.args.self.now c.requires c.args.channel
-          c.in_ok-first.field-0.now below read,
+      channel_ring c.args.self.now c.requires c.args.channel (record { index = c.args.channel }) below refl,
       inl refl,
     )
 
 pub returns : goal.returns
 returns g c =
-    let at = c.in_ok-first.ensures.lookup.3 in
-    let below : c.args.channel < length c.args.self.now.heads.items = subst (λ (l : List Place). c.args.channel < length l) c.deref.ensures.value at.0 in
-    let read = at.1 c.in_ok-first.field-0.now ∙ ap (λ (l : List Place). slice_index_or l c.args.channel c.in_ok-first.field-0.now) c.deref.ensures.value in
-    let there : c.args.place < c.count_on-count.result = omega (arith, c.if-place-count.false, c.from-place.ensures) in
-    back_placed c.args.self.now c.requires c.args.channel c.in_ok-first.field-0.now below read c.args.place c.count_on-count.result c.back.result.index
+    let in_count : c.args.place < c.count_on-count.result = omega (arith, c.if-place-count.false, c.from-place.ensures) in
+    let there : c.args.place < length (on_channel c.args.channel (items_of c.args.self.now)) = omega (arith, in_count, c.count_on-count.ensures) in
+    let below = has_channel c.args.self.now c.requires c.args.channel c.args.place there in
+    back_placed c.args.self.now c.requires c.args.channel (record { index = c.args.channel }) below refl c.args.place c.count_on-count.result
+    c.back.result.index
     (c.back.ensures
-    ∙ ap (λ n. steps_of (prev_of Channel c.args.self.now.store) c.in_ok-first.field-0.now.index (c.count_on-count.result - n)) c.from-place.ensures)
-    c.count_on-count.ensures there
+    ∙ ap (λ n. steps_of (prev_of Channel c.args.self.now.store) c.args.channel (c.count_on-count.result - n)) c.from-place.ensures)
+    c.count_on-count.ensures in_count
 
 pub returns-in-Some : goal.returns-in-Some
 returns-in-Some g c =

@@ -1,6 +1,5 @@
-use Rattle.std.proofs.Common.{◌≡◌, ◌<◌, ◌≤◌, ◌+◌, ◌++◌, ◌∷◌, [], length, true, cond, arith, ap, ◌∙◌, get_or}
-use Rattle.std.specs.Prelude.{is_ok, slice_set}
-use Rattle.std.proofs.lemmas.Grind.{common_steps}
+use Rattle.std.proofs.Common.{◌<◌, ◌≤◌, ◌+◌, refl, arith, ap, get_or}
+use Rattle.std.specs.Prelude.{slice_set}
 use Rattle.mn_flight_pool.proofs.Put.{ticks_count, count_within, count_read, free_room, first_ring, node_in_one, last_in_one, next_in_one, put_held}
 use Rattle.mn_flight_pool.proofs.Put.{put_items, put_counted, put_by_due, put_recent, put_finger}
 use Rattle.mn_flight_pool.proofs.Whole.{recent_few}
@@ -11,9 +10,8 @@ enter-requires-clause-node g c = free_room c.args.self.now c.requires.whole c.in
 
 pub enter-requires-clause-channel : goal.enter-requires-clause-channel
 enter-requires-clause-channel g c =
-    let below : c.args.item.channel < length c.args.self.now.heads.items = omega (arith, c.requires.channel, c.args.self.now.heads.ok.0) in
-    first_ring c.args.self.now c.requires.whole c.in-Some.node c.pop.new.self.items c.in-Some.ensures.items c.args.item c.index-first.result.now below
-    c.index-first.ensures
+    let below : c.args.item.channel < c.args.self.now.channels = c.requires.channel in
+    first_ring c.args.self.now c.requires.whole c.in-Some.node c.pop.new.self.items c.in-Some.ensures.items c.args.item (record { index = c.args.item.channel }) below refl
 
 pub link_due-requires-clause-room : goal.link_due-requires-clause-room
 link_due-requires-clause-room g c =
@@ -21,62 +19,65 @@ link_due-requires-clause-room g c =
 
 pub link_due-requires-clause-node : goal.link_due-requires-clause-node
 link_due-requires-clause-node g c =
-    let below : c.args.item.channel < length c.args.self.now.heads.items = omega (arith, c.requires.channel, c.args.self.now.heads.ok.0) in
-    node_in_one c.args.self.now c.requires.whole c.in-Some.node c.pop.new.self.items c.in-Some.ensures.items c.args.item c.index-first.result.now below
-    c.index-first.ensures c.requires.number c.enter.new.store c.enter.ensures
+    let below : c.args.item.channel < c.args.self.now.channels = c.requires.channel in
+    node_in_one c.args.self.now c.requires.whole c.in-Some.node c.pop.new.self.items c.in-Some.ensures.items c.args.item (record { index = c.args.item.channel }) below refl c.requires.number c.enter.new.store c.enter.ensures
 
 pub link_due-requires-clause-at : goal.link_due-requires-clause-at
 link_due-requires-clause-at g c =
-    let below : c.args.item.channel < length c.args.self.now.heads.items = omega (arith, c.requires.channel, c.args.self.now.heads.ok.0) in
-    last_in_one c.args.self.now c.requires.whole c.in-Some.node c.pop.new.self.items c.in-Some.ensures.items c.args.item c.index-first.result.now below
-    c.index-first.ensures c.requires.number c.enter.new.store c.enter.ensures
+    let below : c.args.item.channel < c.args.self.now.channels = c.requires.channel in
+    last_in_one c.args.self.now c.requires.whole c.in-Some.node c.pop.new.self.items c.in-Some.ensures.items c.args.item (record { index = c.args.item.channel }) below refl c.requires.number c.enter.new.store c.enter.ensures
 
 pub link_due-requires-clause-next : goal.link_due-requires-clause-next
 link_due-requires-clause-next g c =
-    let below : c.args.item.channel < length c.args.self.now.heads.items = omega (arith, c.requires.channel, c.args.self.now.heads.ok.0) in
-    next_in_one c.args.self.now c.requires.whole c.in-Some.node c.pop.new.self.items c.in-Some.ensures.items c.args.item c.index-first.result.now below
-    c.index-first.ensures c.requires.number c.enter.new.store c.enter.ensures
+    let below : c.args.item.channel < c.args.self.now.channels = c.requires.channel in
+    next_in_one c.args.self.now c.requires.whole c.in-Some.node c.pop.new.self.items c.in-Some.ensures.items c.args.item (record { index = c.args.item.channel }) below refl c.requires.number c.enter.new.store c.enter.ensures
 
 pub overflow_add-index_mut : goal.overflow_add-index_mut
 overflow_add-index_mut g c =
-    let below : c.args.item.channel < length c.args.self.now.heads.items = omega (arith, c.requires.channel, c.args.self.now.heads.ok.0) in
+    let below : c.args.item.channel < c.args.self.now.channels = c.requires.channel in
     let few : get_or c.args.self.now.counts.items c.args.item.channel 0 ≤ c.args.self.now.count =
     count_within c.args.self.now c.requires.whole c.args.item.channel below in
     let read = count_read c.args.self.now c.requires.whole c.args.item.channel c.index_mut.result.now below c.index_mut.ensures.value in
-    grind (arith, common_steps, few, read, c.requires.whole.room, c.requires.room, c.args.self.now.free.ok, c.args.self.now.free.small)
+    omega (arith, few, read, c.requires.whole.few, c.requires.room)
+
+pub push_reserved-requires : goal.push_reserved-requires
+push_reserved-requires g c =
+    omega (
+      arith,
+      c.requires.whole.recent_room,
+      c.requires.room,
+      recent_few c.args.self.now c.requires.whole,
+      c.args.self.now.recent.ok.0,
+    )
 
 pub returns-in-Some-clause-whole : goal.returns-in-Some-clause-whole
 returns-in-Some-clause-whole g c =
-    let below : c.args.item.channel < length c.args.self.now.heads.items = omega (arith, c.requires.channel, c.args.self.now.heads.ok.0) in
-    let ok : is_ok c.push.result ≡ true =
-    c.push.ensures.succeeds (omega (arith, c.requires.whole.recent_room, c.requires.room, recent_few c.args.self.now c.requires.whole)) in
-    let pushed : c.push.new.self.items ≡ c.args.self.now.recent.items ++ c.in-Some.node ∷ [] =
-    c.push.ensures.items ∙ ap (λ b. cond b (c.args.self.now.recent.items ++ c.in-Some.node ∷ []) c.args.self.now.recent.items) ok in
+    let below : c.args.item.channel < c.args.self.now.channels = c.requires.channel in
     record {
-      held = put_held c.args.self.now c.requires.whole c.in-Some.node c.pop.new.self.items c.in-Some.ensures.items c.args.item c.index-first.result.now
-          below c.index-first.ensures c.requires.number c.enter.new.store c.enter.ensures c.link_due.new.store c.link_due.ensures.store;
+      held = put_held c.args.self.now c.requires.whole c.in-Some.node c.pop.new.self.items c.in-Some.ensures.items c.args.item (record { index = c.args.item.channel })
+          below refl c.requires.number c.enter.new.store c.enter.ensures c.link_due.new.store c.link_due.ensures.store;
       counted =
-          put_counted c.args.self.now c.requires.whole c.in-Some.node c.pop.new.self.items c.in-Some.ensures.items c.args.item c.index-first.result.now
-          below c.index-first.ensures c.requires.number c.enter.new.store c.enter.ensures c.link_due.new.store c.link_due.ensures.store
+          put_counted c.args.self.now c.requires.whole c.in-Some.node c.pop.new.self.items c.in-Some.ensures.items c.args.item (record { index = c.args.item.channel })
+          below refl c.requires.number c.enter.new.store c.enter.ensures c.link_due.new.store c.link_due.ensures.store
           (slice_set c.args.self.now.counts.items c.args.item.channel (c.index_mut.result.now + 1))
           (ap (λ n. slice_set c.args.self.now.counts.items c.args.item.channel (n + 1))
           (count_read c.args.self.now c.requires.whole c.args.item.channel c.index_mut.result.now below c.index_mut.ensures.value));
       by_due =
-          put_by_due c.args.self.now c.requires.whole c.in-Some.node c.pop.new.self.items c.in-Some.ensures.items c.args.item c.index-first.result.now below
-          c.index-first.ensures c.requires.number c.enter.new.store c.enter.ensures c.link_due.new.store c.link_due.ensures.store
+          put_by_due c.args.self.now c.requires.whole c.in-Some.node c.pop.new.self.items c.in-Some.ensures.items c.args.item (record { index = c.args.item.channel }) below
+          refl c.requires.number c.enter.new.store c.enter.ensures c.link_due.new.store c.link_due.ensures.store
           c.link_due.new.ticks.items c.link_due.ensures.ticks;
+      few = omega (arith, c.requires.whole.few, c.in-Some.ensures.len);
       room = omega (arith, c.requires.whole.room, c.in-Some.ensures.len, c.in-Some.ensures.capacity);
       ticks_room = omega (arith, c.requires.whole.ticks_room, c.in-Some.ensures.len, c.link_due.ensures.capacity);
-      finger = put_finger c.args.self.now c.requires.whole c.in-Some.node c.pop.new.self.items c.in-Some.ensures.items c.args.item c.index-first.result.now
-          below c.index-first.ensures c.requires.number c.enter.new.store c.enter.ensures c.link_due.new.store c.link_due.ensures.store;
-      recent = put_recent c.args.self.now c.requires.whole c.in-Some.node c.pop.new.self.items c.in-Some.ensures.items c.args.item c.index-first.result.now
-          below c.index-first.ensures c.requires.number c.enter.new.store c.enter.ensures c.link_due.new.store c.link_due.ensures.store
-          c.push.new.self.items pushed;
-      recent_room = omega (arith, c.requires.whole.recent_room, c.in-Some.ensures.len, c.push.ensures.capacity);
+      finger = put_finger c.args.self.now c.requires.whole c.in-Some.node c.pop.new.self.items c.in-Some.ensures.items c.args.item (record { index = c.args.item.channel })
+          below refl c.requires.number c.enter.new.store c.enter.ensures c.link_due.new.store c.link_due.ensures.store;
+      recent = put_recent c.args.self.now c.requires.whole c.in-Some.node c.pop.new.self.items c.in-Some.ensures.items c.args.item (record { index = c.args.item.channel })
+          below refl c.requires.number c.enter.new.store c.enter.ensures c.link_due.new.store c.link_due.ensures.store
+          c.push_reserved.new.self.items c.push_reserved.ensures.items;
+      recent_room = omega (arith, c.requires.whole.recent_room, c.in-Some.ensures.len, c.push_reserved.ensures.capacity);
     }
 
 pub returns-in-Some-clause-items : goal.returns-in-Some-clause-items
 returns-in-Some-clause-items g c =
-    let below : c.args.item.channel < length c.args.self.now.heads.items = omega (arith, c.requires.channel, c.args.self.now.heads.ok.0) in
-    put_items c.args.self.now c.requires.whole c.in-Some.node c.pop.new.self.items c.in-Some.ensures.items c.args.item c.index-first.result.now below
-    c.index-first.ensures c.requires.number c.enter.new.store c.enter.ensures c.link_due.new.store c.link_due.ensures.store
+    let below : c.args.item.channel < c.args.self.now.channels = c.requires.channel in
+    put_items c.args.self.now c.requires.whole c.in-Some.node c.pop.new.self.items c.in-Some.ensures.items c.args.item (record { index = c.args.item.channel }) below refl c.requires.number c.enter.new.store c.enter.ensures c.link_due.new.store c.link_due.ensures.store

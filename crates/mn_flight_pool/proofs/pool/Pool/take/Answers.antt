@@ -1,5 +1,5 @@
-use Rattle.std.proofs.Common.{◌≡◌, ◌<◌, ◌-◌, ◌++◌, ◌∷◌, [], length, true, cond, arith, refl, ap, sym, ◌∙◌, get_or}
-use Rattle.std.specs.Prelude.{is_ok, slice_set}
+use Rattle.std.proofs.Common.{◌≡◌, ◌<◌, ◌-◌, arith, refl, ap, sym, ◌∙◌, get_or}
+use Rattle.std.specs.Prelude.{slice_set}
 use Rattle.mn_flight.specs.declared.Item.{Item}
 use Rattle.mn_flight_pool.specs.Rings.{item_at, next_of, prev_of}
 use Rattle.mn_flight_pool.specs.ByDue.{ticks_left}
@@ -49,7 +49,7 @@ index_mut-requires g c =
     let same =
     same_item c.args.self.now c.requires.whole c.args.node.index c.requires.node c.unlink_due.new.store c.unlink_due.ensures.store c.in_ok-due.field-0.now
     c.in_ok-item.item c.in_ok-due.ensures.value c.in_ok-item.ensures.value in
-    let within : c.in_ok-item.item.channel < length c.args.self.now.heads.items =
+    let within : c.in_ok-item.item.channel < c.args.self.now.channels =
     below c.args.self.now c.requires.whole c.args.node.index c.requires.node c.in_ok-item.item same.0 in
     omega (arith, within, c.args.self.now.counts.ok.0, c.requires.whole.counted.many)
 
@@ -58,7 +58,7 @@ overflow_sub-index_mut g c =
     let same =
     same_item c.args.self.now c.requires.whole c.args.node.index c.requires.node c.unlink_due.new.store c.unlink_due.ensures.store c.in_ok-due.field-0.now
     c.in_ok-item.item c.in_ok-due.ensures.value c.in_ok-item.ensures.value in
-    let within : c.in_ok-item.item.channel < length c.args.self.now.heads.items =
+    let within : c.in_ok-item.item.channel < c.args.self.now.channels =
     below c.args.self.now c.requires.whole c.args.node.index c.requires.node c.in_ok-item.item same.0 in
     let read : c.index_mut.result.now ≡ get_or c.args.self.now.counts.items c.in_ok-item.item.channel 0 =
     count_read c.args.self.now c.requires.whole c.in_ok-item.item.channel c.index_mut.result.now within c.index_mut.ensures.value in
@@ -66,22 +66,22 @@ overflow_sub-index_mut g c =
     some_on c.args.self.now c.requires.whole c.args.node.index c.requires.node c.in_ok-item.item same.0 in
     omega (arith, read, some)
 
+pub push_reserved-requires : goal.push_reserved-requires
+push_reserved-requires g c =
+    omega (arith, c.requires.whole.room, some_count c.args.self.now c.requires.whole c.args.node.index c.requires.node)
+
 pub returns-clause-whole : goal.returns-clause-whole
 returns-clause-whole g c =
     let same =
     same_item c.args.self.now c.requires.whole c.args.node.index c.requires.node c.unlink_due.new.store c.unlink_due.ensures.store c.in_ok-due.field-0.now
     c.in_ok-item.item c.in_ok-due.ensures.value c.in_ok-item.ensures.value in
-    let within : c.in_ok-item.item.channel < length c.args.self.now.heads.items =
+    let within : c.in_ok-item.item.channel < c.args.self.now.channels =
     below c.args.self.now c.requires.whole c.args.node.index c.requires.node c.in_ok-item.item same.0 in
-    let ok : is_ok c.push.result ≡ true =
-    c.push.ensures.succeeds (omega (arith, c.requires.whole.room, some_count c.args.self.now c.requires.whole c.args.node.index c.requires.node)) in
-    let pushed : c.push.new.self.items ≡ c.args.self.now.free.items ++ c.args.node ∷ [] =
-    c.push.ensures.items ∙ ap (λ b. cond b (c.args.self.now.free.items ++ c.args.node ∷ []) c.args.self.now.free.items) ok in
     record {
       held =
           take_held c.args.self.now c.requires.whole c.args.node.index c.requires.node c.in_ok-item.item same.0 c.unlink_due.new.store
           c.unlink_due.ensures.store c.leave.new.store c.leave.ensures.left
-          (ptrs c.push.new.self.items) (ap (λ l. ptrs l) pushed ∙ ptrs_push c.args.self.now.free.items c.args.node);
+          (ptrs c.push_reserved.new.self.items) (ap (λ l. ptrs l) c.push_reserved.ensures.items ∙ ptrs_push c.args.self.now.free.items c.args.node);
       counted =
           take_counted c.args.self.now c.requires.whole c.args.node.index c.requires.node c.in_ok-item.item same.0 c.unlink_due.new.store
           c.unlink_due.ensures.store c.leave.new.store c.leave.ensures.left
@@ -96,11 +96,18 @@ returns-clause-whole g c =
           ∙ ap (λ (z : Item g.row.T.Denot). ticks_left z.due (prev_of Due c.args.self.now.store c.args.node.index)
           (item_at c.args.self.now.store (prev_of Due c.args.self.now.store c.args.node.index))
           (item_at c.args.self.now.store (next_of Due c.args.self.now.store c.args.node.index)) c.args.self.now.ticks.items) same.1);
+      few = omega (
+        arith,
+        c.requires.whole.few,
+        c.push_reserved.ensures.len,
+        some_count c.args.self.now c.requires.whole c.args.node.index
+            c.requires.node,
+      );
       room = omega (
         arith,
         c.requires.whole.room,
-        c.push.ensures.upper_bound,
-        c.push.ensures.capacity,
+        c.push_reserved.ensures.len,
+        c.push_reserved.ensures.capacity,
         some_count c.args.self.now c.requires.whole c.args.node.index
             c.requires.node,
       );
@@ -108,7 +115,7 @@ returns-clause-whole g c =
           omega (
             arith,
             c.requires.whole.ticks_room,
-            c.push.ensures.upper_bound,
+            c.push_reserved.ensures.len,
             c.unlink_due.ensures.capacity,
             some_count c.args.self.now c.requires.whole
                 c.args.node.index c.requires.node,
@@ -119,7 +126,7 @@ returns-clause-whole g c =
           omega (
             arith,
             c.requires.whole.recent_room,
-            c.push.ensures.upper_bound,
+            c.push_reserved.ensures.len,
             c.clear.ensures.capacity,
             some_count c.args.self.now c.requires.whole
                 c.args.node.index c.requires.node,

@@ -17,6 +17,7 @@ returns-then-place-gt0-clause-whole g c =
       held = w.held;
       counted = w.counted;
       by_due = w.by_due;
+      few = w.few;
       room = w.room;
       ticks_room = w.ticks_room;
       recent = w.recent;

@@ -8,7 +8,7 @@ returns g c =
       arith,
       c.in-Ok.ensures,
       c.len.ensures,
-      c.self.inside.links.ok.0,
-      many c.self.inside.bare c.self.inside.links.items c.self.inside.items.items,
+      c.self.inside.channel.ok.0,
+      many c.self.inside.firsts c.self.inside.channel.items c.self.inside.common.items c.self.inside.items.items,
       ap (λ l. length l) c.self.view_is,
     )
