@@ -11,12 +11,11 @@ pub detach-requires : goal.detach-requires
 detach-requires g c =
     let there : 0 < length c.in_ok-topology.topology.sites = search rules in
     record {
-      may =
-          λ works. record {
-            journal = [];
-            stands = c.in_ok-transport.ensures.stands;
-            turn = first_detached c.in_ok-topology.topology (record { 0 = 0 }) there;
-          };
+      may = record {
+        journal = [];
+        stands = c.in_ok-transport.ensures.stands;
+        turn = first_detached c.in_ok-topology.topology (record { 0 = 0 }) there;
+      };
     }
 
 pub attach-requires : goal.attach-requires
@@ -25,7 +24,7 @@ attach-requires g c =
     let a : SiteNo = record { 0 = 0 } in
     let there : 0 < length c.in_ok-topology.topology.sites = search rules in
     record {
-      may = λ works. record {
+      may = record {
         journal = pushed [] 0 (step.Detach a);
         stands = c.detach.ensures.goes [] 0 c.in_ok-transport.ensures.stands (first_detached t a there);
         turn = then_attached t c.laws.ensures a there;
