@@ -5,17 +5,21 @@ use std::alloc::{AllocError, Global};
 use std::marker::Model;
 
 /// How many Releases of each FEC a neighbour owes.
+///
+/// It stands behind a pointer: a node keeps room for a row by each node, and few are open to it.
 #[derive(Drop)]
 pub struct Row {
-    counts: Vec<u64>,
+    counts: Box<Vec<u64>>,
 }
+
+const _: () = prove!(size_of::<Option<Row>>() == 16);
 
 impl Model for Row {
     ghost use Rattle.std.specs.Prelude.{List, ℕ};
 
     ghost Value = { List ℕ };
 
-    ghost view = { λ row. row.counts.items };
+    ghost view = { λ row. row.counts.value.items };
 }
 
 impl Row {
@@ -25,7 +29,9 @@ impl Row {
     {
         let mut counts = Vec::new(alloc);
         counts.resize(nodes, 0)?;
-        Ok(Row { counts })
+        Ok(Row {
+            counts: Box::new(alloc, counts)?,
+        })
     }
 
     /// How many of a FEC.
