@@ -1,18 +1,16 @@
 -- What is heard aside changes no way, and so nothing is told of it.
-use Rattle.std.proofs.Common.{ℕ, zero, suc, ◌≡◌, ◌≢◌, ◌+◌, ◌<◌, Bool, true, false, List, [], ◌∷◌, ◌++◌, Option, Some, None, refl, arith, sym, ◌∙◌, ap, subst, inl, inr}
+use Rattle.std.proofs.Common.{ℕ, zero, suc, ◌≡◌, ◌≢◌, ◌+◌, Bool, true, false, List, [], ◌∷◌, Option, Some, None, refl, arith, sym, ◌∙◌, ap, inl, inr}
 use Rattle.std.specs.Prelude.{◌==◌, ◌||◌, not, is_some, slice_index_or, slice_set}
 use Rattle.std.specs.List.{flat_map, range_with_len}
 use Rattle.std.proofs.lemmas.Bool.Decides.{eqb_tells}
 use Rattle.std.proofs.lemmas.List.{get_or-set_other}
 use Rattle.mn_base.specs.declared.numbers.NodeNo.{NodeNo}
-use Rattle.mn_rest.specs.Rests.{Resting}
 use Rattle.mn_lib.specs.declared.event.LibEvent.{LibEvent}
 use Rattle.mn_lib.specs.declared.event.LibEvent.TheVariants.{Opened, Closed, Map, Withdraw, Released, Next}
 use Rattle.mn_lib.specs.declared.event.Tell.{Tell}
-use Rattle.mn_lib.specs.declared.news.SoFar.{SoFar}
 use Rattle.mn_lib.specs.Bindings.{Bindings, nodes, row_of, label_learned, labelled, usable, usable_by, offers, with_label, after_event, after_events}
 use Rattle.mn_lib.specs.Tells.{opens, tells, tells_of, changes, offered}
-use Rattle.mn_lib.specs.News.{begun, begun_of, ended, ended_of, so_far, told_since}
+use Rattle.mn_lib.specs.News.{begun, begun_of, ended, ended_of}
 use Rattle.mn_lib.specs.Known.{Known, known_after, all_stopped, owed_for}
 use Rattle.mn_lib.specs.Aside.{is_hop, is_aside}
 use Rattle.mn_lib.proofs.Events.{nodes-after_events, told_of-same}

@@ -1,5 +1,5 @@
 -- What is heard of a FEC from a neighbour that isn't its next hop: it is kept (RFC 5036, section 2.6.2.2), and changes no way.
-use Rattle.std.specs.Prelude.{ℕ, ◌==◌, not, Bool, true, false, Option, Some, None, slice_index_or}
+use Rattle.std.specs.Prelude.{ℕ, ◌==◌, not, Bool, false, Option, Some, None, slice_index_or}
 use Rattle.mn_base.specs.declared.numbers.NodeNo.{NodeNo}
 use Rattle.mn_lib.specs.declared.event.LibEvent.{LibEvent}
 use Rattle.mn_lib.specs.declared.event.LibEvent.TheVariants as event

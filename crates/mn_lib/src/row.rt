@@ -6,18 +6,31 @@ use std::marker::Model;
 
 /// What a neighbour said last of each FEC: its label, or none.
 ///
-/// A row is made as its neighbour opens, so that a node's memory goes with its neighbours and not with all nodes.
+/// A row is made as its neighbour opens, so that a node's memory goes with its neighbours and not with all nodes. It stands behind a
+/// pointer: a node keeps room for a row by each node, and few are open to it.
 #[derive(Drop)]
 pub struct Row {
-    labels: Vec<Option<u32>>,
+    said: Box<Said>,
+}
+
+const _: () = prove!(size_of::<Option<Row>>() == 16);
+
+/// The labels, and apart from them which FECs have one: five bytes a FEC.
+#[derive(Drop)]
+struct Said {
+    labels: Vec<u32>,
+    mapped: Vec<bool>,
 }
 
 impl Model for Row {
     ghost use Rattle.std.specs.Prelude.{List, ℕ, Option};
+    ghost use Rattle.mn_lib.specs.Rows.{labels_of, AreOfOneLength};
 
     ghost Value = { List (Option ℕ) };
 
-    ghost view = { λ row. row.labels.items };
+    ghost view = { λ row. labels_of row.said.value.mapped.items row.said.value.labels.items };
+
+    ghost invariant = { λ row. AreOfOneLength row.said.value.mapped.items row.said.value.labels.items };
 }
 
 impl Row {
@@ -26,8 +39,12 @@ impl Row {
         ensures { IfOk result (λ row. row ≡ replicate nodes None) }
     {
         let mut labels = Vec::new(alloc);
-        labels.resize(nodes, None)?;
-        Ok(Row { labels })
+        labels.resize(nodes, 0)?;
+        let mut mapped = Vec::new(alloc);
+        mapped.resize(nodes, false)?;
+        Ok(Row {
+            said: Box::new(alloc, Said { labels, mapped })?,
+        })
     }
 
     /// The FEC's label, where it was mapped last.
@@ -35,8 +52,8 @@ impl Row {
         ensures { result ≡ slice_index_or self.now fec.0 None }
     {
         let at = fec.0 as usize;
-        if at < self.labels.len() {
-            self.labels[at]
+        if at < self.said.mapped.len() && self.said.mapped[at] {
+            Some(self.said.labels[at])
         } else {
             None
         }
@@ -47,8 +64,14 @@ impl Row {
         ensures { self.new ≡ slice_set self.old fec.0 label }
     {
         let at = fec.0 as usize;
-        if at < self.labels.len() {
-            self.labels[at] = label;
+        if at < self.said.mapped.len() {
+            match label {
+                None => self.said.mapped[at] = false,
+                Some(label) => {
+                    self.said.mapped[at] = true;
+                    self.said.labels[at] = label;
+                }
+            }
         }
     }
 }

@@ -1,7 +1,5 @@
 use Rattle.std.proofs.Common.{◌≡◌, [], ◌∷◌, true, sym, ◌∙◌, ap, subst}
-use Rattle.mn_lib.specs.Bindings.{Bindings, after_event, after_events, usable}
-use Rattle.mn_lib.specs.Tells.{tells}
-use Rattle.mn_lib.specs.News.{begun}
+use Rattle.mn_lib.specs.Bindings.{Bindings}
 use Rattle.mn_lib.specs.Known.{Known, known_after}
 use Rattle.mn_lib.specs.Aside.{is_aside}
 use Rattle.mn_lib.proofs.Aside.{known_aside, tells_aside, begun_aside, offers_aside, ways_aside}
