@@ -37,6 +37,15 @@ module _ {T : Type 0} where
   abbrev pub others : ℕ → Item T → Bool
   others n item = not (item.number == n)
 
+  -- the first goes by its number, and no other
+  first_goes : (y : Item T) (ys : List (Item T)) (x : Item T) → Ascends (y ∷ ys) → y ≡ x →
+      (others x.number y ≡ false) × (filter (others x.number) ys ≡ ys)
+  first_goes y ys x up same = (
+    subst (λ (z : Item T). others z.number y ≡ false) same (same_gone y.number),
+    filter_all (others x.number) ys
+        (λ z i. more_stays z.number x.number (subst (λ (k : Item T). k.number < z.number) same (first_below y ys up z i))),
+  )
+
   -- without the item of the number at a place of the channel is without that place
   pub left_on : (c : ℕ) (xs : List (Item T)) (n : ℕ) (x : Item T) → Ascends xs → slice_get (on_channel c xs) n ≡ Some x →
       on_channel c (filter (others x.number) xs) ≡ without_at n (on_channel c xs)
@@ -48,12 +57,8 @@ module _ {T : Type 0} where
           (n : ℕ) → slice_get (cond b (y ∷ on_channel c ys) (on_channel c ys)) n ≡ Some x →
           on_channel c (filter (others x.number) (y ∷ ys)) ≡ without_at n (cond b (y ∷ on_channel c ys) (on_channel c ys))
       by true e hyp zero g =
-          let same : y ≡ x = same_Some y x g in
-          let gone : others x.number y ≡ false = subst (λ (z : Item T). others z.number y ≡ false) same (same_gone y.number) in
-          let all : filter (others x.number) ys ≡ ys =
-          filter_all (others x.number) ys
-          (λ z i. more_stays z.number x.number (subst (λ (k : Item T). k.number < z.number) same (first_below y ys up z i))) in
-          rw (gone, all) refl
+          let first = first_goes y ys x up (same_Some y x g) in
+          rw (first.0, first.1) refl
       by true e hyp (suc n) g =
           let stays : others x.number y ≡ true = less_stays y.number x.number (first_below y ys up x (on_it c ys n x g)) in
           rw (stays, e) (ap (λ l. y ∷ l) (hyp n g))
@@ -82,12 +87,8 @@ module _ {T : Type 0} where
           (n : ℕ) → slice_get (cond b (y ∷ on_channel c ys) (on_channel c ys)) n ≡ Some x →
           on_channel d (filter (others x.number) (y ∷ ys)) ≡ on_channel d (y ∷ ys)
       by true e hyp zero g =
-          let same : y ≡ x = same_Some y x g in
-          let gone : others x.number y ≡ false = subst (λ (z : Item T). others z.number y ≡ false) same (same_gone y.number) in
-          let all : filter (others x.number) ys ≡ ys =
-          filter_all (others x.number) ys
-          (λ z i. more_stays z.number x.number (subst (λ (k : Item T). k.number < z.number) same (first_below y ys up z i))) in
-          rw (gone, elsewhere e) (ap (on_channel d) all)
+          let first = first_goes y ys x up (same_Some y x g) in
+          rw (first.0, elsewhere e) (ap (on_channel d) first.1)
       by true e hyp (suc n) g =
           let stays : others x.number y ≡ true = less_stays y.number x.number (first_below y ys up x (on_it c ys n x g)) in
           rw stays (under (y.channel == d) _ _ (hyp n g))

@@ -97,22 +97,22 @@ module _ {T : Type 0} where
       ap (λ es. of_length size es ++ pairs_from (suc size) levels) (h 0 level (omega arith))
       ∙ none_from (suc size) levels (λ i d k. h (suc i) d (omega (arith, k)))
 
+  none_at : (size : ℕ) (level : BTreeMap ℕ T) (levels : List (BTreeMap ℕ T)) (p : AddressBlock) → p.length ≢ size →
+      value_at p (pairs_from (suc size) levels) ≡ None → value_at p (pairs_from size (level ∷ levels)) ≡ None
+  none_at size level levels p apart none =
+      value_append p (of_length size level.entries) (pairs_from (suc size) levels)
+      ∙ ap (λ o. option_or o (value_at p (pairs_from (suc size) levels)))
+      (value_of_length p size level.entries ∙ ap (λ b. cond b (get nat_cmp level p.address) None) (other_test p.length size apart))
+      ∙ none
+
   -- what comes before the levels has no value
   none_below : (size : ℕ) (levels : List (BTreeMap ℕ T)) (p : AddressBlock) → p.length < size → value_at p (pairs_from size levels) ≡ None
   none_below size [] p h = refl
-  none_below size (level ∷ levels) p h =
-      value_append p (of_length size level.entries) (pairs_from (suc size) levels)
-      ∙ ap (λ o. option_or o (value_at p (pairs_from (suc size) levels)))
-      (value_of_length p size level.entries ∙ ap (λ b. cond b (get nat_cmp level p.address) None) (other_test p.length size (omega (arith, h))))
-      ∙ none_below (suc size) levels p (omega (arith, h))
+  none_below size (level ∷ levels) p h = none_at size level levels p (omega (arith, h)) (none_below (suc size) levels p (omega (arith, h)))
 
   none_above : (size : ℕ) (levels : List (BTreeMap ℕ T)) (p : AddressBlock) → size + length levels ≤ p.length → value_at p (pairs_from size levels) ≡ None
   none_above size [] p h = refl
-  none_above size (level ∷ levels) p h =
-      value_append p (of_length size level.entries) (pairs_from (suc size) levels)
-      ∙ ap (λ o. option_or o (value_at p (pairs_from (suc size) levels)))
-      (value_of_length p size level.entries ∙ ap (λ b. cond b (get nat_cmp level p.address) None) (other_test p.length size (omega (arith, h))))
-      ∙ none_above (suc size) levels p (omega (arith, h))
+  none_above size (level ∷ levels) p h = none_at size level levels p (omega (arith, h)) (none_above (suc size) levels p (omega (arith, h)))
 
   or_none : (o : Option T) → option_or o None ≡ o
   or_none None = refl
