@@ -183,12 +183,14 @@ module _ {T : Type 0} (pool : Pool T) (whole : IsWhole pool) where
                 (items_kept three four (alike_link node.index last three) pool.head.index (firsts pool.channels) (ptrs front) (pool.count + 1) held_three
                 ∙ items_pushed pool.head.index (firsts pool.channels) (ptrs front) pool.count node.index pool.store held_cut x first.index at)
 
-            pub put_recent : (late : List Place) → late ≡ pool.recent.items ++ node ∷ [] → AreLast (order_of pool.head.index (pool.count + 1) two) (ptrs late)
-            put_recent late e = record {
-              front = whole.recent.front;
+            pub put_recent : (late : List Place) → AreLast (ptrs (pool.recent.items ++ node ∷ [])) (ptrs late) →
+                AreLast (order_of pool.head.index (pool.count + 1) two) (ptrs late)
+            put_recent late kept = record {
+              front = whole.recent.front ++ kept.front;
               cut = ap (λ c. order_of pool.head.index (pool.count + 1) c) is ∙ order_four ∙ ap (λ o. o ++ node.index ∷ []) whole.recent.cut
                   ∙ append_assoc whole.recent.front (ptrs pool.recent.items) (node.index ∷ [])
-                  ∙ ap (λ l. whole.recent.front ++ l) (sym (ap (λ l. ptrs l) e ∙ ptrs_push pool.recent.items node));
+                  ∙ ap (λ l. whole.recent.front ++ l) (sym (ptrs_push pool.recent.items node) ∙ kept.cut)
+                  ∙ sym (append_assoc whole.recent.front kept.front (ptrs late));
             }
 
             nodes_four : (c : ℕ) → nodes_on four c (order_of pool.head.index (pool.count + 1) four) ≡

@@ -1,5 +1,5 @@
 -- What a pool keeps between two calls, and the items that it holds.
-use Rattle.std.specs.Prelude.{◌≡◌, ◌≤◌, ◌<◌, ◌+◌, ◌^◌, ◌++◌, ℕ, List, length, map, slice_get, slice_index, Some, MatchOption, ⊤, vec_len}
+use Rattle.std.specs.Prelude.{◌≡◌, ◌≤◌, ◌<◌, ◌+◌, ◌^◌, ◌++◌, ℕ, List, length, map, slice_get, slice_index, Some, MatchOption, ⊤, min, vec_len}
 use Rattle.std.specs.Vec.{vec_capacity}
 use Rattle.mn_flight.specs.declared.Item.{Item}
 use Rattle.mn_flight_pool.specs.Rings.{next_of}
@@ -48,5 +48,5 @@ module _ {T : Type 0} where
     pub room : pool.count + vec_len pool.free ≤ vec_capacity pool.free
     pub ticks_room : pool.count + vec_len pool.free ≤ vec_capacity pool.ticks
     pub recent : AreLast (order_in pool) (ptrs pool.recent.items)
-    pub recent_room : pool.count + vec_len pool.free ≤ vec_capacity pool.recent
+    pub recent_room : min (pool.count + vec_len pool.free) 65536 ≤ vec_capacity pool.recent
     pub finger : MatchOption pool.finger ⊤ (λ finger. IsPlaced pool finger.channel finger.place finger.node.index)

@@ -17,6 +17,7 @@
 //! stays on the node before that which was taken last by its place, so that places near it are walked to from there.
 //!
 //! - `node`, `store`: the neighbours of a node; all nodes, by their places, with their items
+//! - `recent`: the nodes of the items that were put last
 //! - `room`: room in a list of which little may be written
 //! - `walk`: steps along a ring
 //! - `moves`: a node enters or leaves the rings by number and of its channel
@@ -30,6 +31,7 @@ mod flight;
 mod moves;
 mod node;
 mod pool;
+mod recent;
 mod room;
 mod store;
 mod tick;

@@ -8,9 +8,6 @@ use Rattle.mn_flight_pool.proofs.pool.Pool.grow.Goals as goal
 pub overflow_sub-ticks : goal.overflow_sub-ticks
 overflow_sub-ticks g c = omega (arith, ticks_count c.args.self.now c.requires, c.args.self.now.ticks.ok.0, c.len-2.ensures, c.len.ensures)
 
-pub overflow_sub-recent : goal.overflow_sub-recent
-overflow_sub-recent g c = omega (arith, recent_few c.args.self.now c.requires, c.args.self.now.recent.ok.0, c.len-3.ensures, c.len.ensures)
-
 pub push_reserved-requires : goal.push_reserved-requires
 push_reserved-requires g c = omega (arith, c.in_ok-make_room.ensures.room, c.make_room.ensures.len)
 

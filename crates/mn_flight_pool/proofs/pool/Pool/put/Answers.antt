@@ -40,8 +40,8 @@ overflow_add-index_mut g c =
     let read = count_read c.args.self.now c.requires.whole c.args.item.channel c.index_mut.result.now below c.index_mut.ensures.value in
     omega (arith, few, read, c.requires.whole.few, c.requires.room)
 
-pub push_reserved-requires : goal.push_reserved-requires
-push_reserved-requires g c =
+pub keep-requires : goal.keep-requires
+keep-requires g c =
     omega (
       arith,
       c.requires.whole.recent_room,
@@ -73,8 +73,8 @@ returns-in-Some-clause-whole g c =
           below refl c.requires.number c.enter.new.store c.enter.ensures c.link_due.new.store c.link_due.ensures.store;
       recent = put_recent c.args.self.now c.requires.whole c.in-Some.node c.pop.new.self.items c.in-Some.ensures.items c.args.item (record { index = c.args.item.channel })
           below refl c.requires.number c.enter.new.store c.enter.ensures c.link_due.new.store c.link_due.ensures.store
-          c.push_reserved.new.self.items c.push_reserved.ensures.items;
-      recent_room = omega (arith, c.requires.whole.recent_room, c.in-Some.ensures.len, c.push_reserved.ensures.capacity);
+          c.keep.new.recent.items c.keep.ensures.last;
+      recent_room = omega (arith, c.requires.whole.recent_room, c.in-Some.ensures.len, c.keep.ensures.capacity);
     }
 
 pub returns-in-Some-clause-items : goal.returns-in-Some-clause-items
