@@ -1,5 +1,5 @@
 -- A whole pool with one more node, and the one that holds nothing.
-use Rattle.std.proofs.Common.{◌≡◌, ℕ, zero, suc, true, false, List, [], ◌∷◌, ◌++◌, length, Some, None, IsSome, refl, sym, ap, ◌∙◌, subst, arith}
+use Rattle.std.proofs.Common.{◌≡◌, ◌+◌, ℕ, zero, suc, true, false, List, [], ◌∷◌, ◌++◌, length, Some, None, IsSome, refl, sym, ap, ◌∙◌, subst, arith}
 use Rattle.std.proofs.Common.{◌-◌, append-nil, take, replicate, get_or}
 use Rattle.std.proofs.lemmas.List.{length-replicate}
 use Rattle.std.specs.Prelude.{MatchOption, ⊤, slice_get}
@@ -7,10 +7,11 @@ use Rattle.std.specs.List.{AllByRecursion, IsDistinct}
 use Rattle.mn_flight.proofs.Kept.{none_flies}
 use Rattle.mn_flight_pool.specs.Cells.{same_place, value_at}
 use Rattle.mn_flight_pool.specs.Rings.{IsIn, IsRing, IsVacantLast, item_in, item_at, room_at, next_in, prev_in, next_of, link_of, with_link, set_next, lone}
-use Rattle.mn_flight_pool.specs.ByDue.{IsByDue, IsTick}
-use Rattle.mn_flight_pool.specs.Pool.{items_in, nodes_on, order_of, trace, IsHeld}
-use Rattle.mn_flight_pool.specs.Whole.{AreLast, ptrs, dues_of, order_in, items_of, IsWhole, IsCounted}
+use Rattle.mn_flight_pool.specs.ByDue.{IsByDue}
+use Rattle.mn_flight_pool.specs.Pool.{items_in, nodes_on, order_of, free_of, trace, IsHeld}
+use Rattle.mn_flight_pool.specs.Whole.{AreLast, ptrs, dues_of, order_in, free_in, items_of, IsWhole, IsCounted}
 use Rattle.mn_flight_pool.specs.declared.pool.Pool.{Pool}
+use Rattle.mn_flight_pool.specs.declared.free.Free.{Free}
 use Rattle.mn_flight_pool.specs.declared.node.Place.{Place}
 use Rattle.mn_flight_pool.specs.declared.tick.Tick.{Tick}
 use Rattle.mn_flight_pool.specs.declared.node.Pair.{Pair}
@@ -22,10 +23,11 @@ use Rattle.mn_flight_pool.proofs.Rings.{Unlike, room_lone, next_at, prev_at, nex
 use Rattle.mn_flight_pool.proofs.Entered.{same_nodes_on, unlike}
 use Rattle.mn_flight_pool.proofs.Finger.{finger_kept}
 use Rattle.mn_flight_pool.proofs.Held as held
-use Rattle.mn_flight_pool.proofs.Sooner.{sooner_same, tick_item, item_tick, all_kept}
+use Rattle.mn_flight_pool.proofs.FreeNodes.{by_due_same, free_same}
+use Rattle.mn_flight_pool.proofs.Freed.{held_freed, order_freed, items_freed, nodes_freed, counted_freed, by_due_freed}
+use Rattle.mn_flight_pool.proofs.Sooner.{all_in}
 use Rattle.mn_flight_pool.proofs.Traces.{trace_ring}
 use Rattle.mn_flight_pool.proofs.Whole.{order_length}
-use Rattle.mn_flight_pool.proofs.Put.{ptrs_push}
 use Rattle.mn_flight_pool.proofs.PastDue.{due_number, due_channel}
 use Rattle.mn_flight_pool.proofs.Firsts.{first_is, apart_firsts, many, ring_alone}
 
@@ -86,66 +88,46 @@ module _ {T : Type 0} where
   first_vacant : (p : ℕ) (old new : List (Node T)) → IsVacantLast p old new → item_at new p ≡ None
   first_vacant p old new added = ap item_in (held.value_added p old new added) ∙ added.2
 
-  -- 2. The ring by due tick where the items stay
-  by_due_same : (head : ℕ) (order dues : List ℕ) (ticks : List Tick) (old new : List (Node T)) → IsByDue head order dues ticks old →
-      IsRing Due new head dues → item_at new head ≡ None → ((q : ℕ) → IsIn q order → item_at new q ≡ item_at old q)
-      → IsByDue head order dues ticks new
-  by_due_same head order dues ticks old new due ring vacant same = record {
-    ring = ring;
-    vacant = vacant;
-    sooner = sooner_same old new dues (λ q i. same q (due.flies q i)) due.sooner;
-    flies = due.flies;
-    stands = due.stands;
-    many = due.many;
-    ascending = due.ascending;
-    lasts = all_kept (IsTick old order) (IsTick new order) ticks (λ t is.
-        let last = tick_item old order t.due (item_at old t.last.index) is.last in
-        record {
-          there = is.there;
-          last =
-              item_tick new order t.due (item_at new t.last.index) last.0 (same t.last.index is.there ∙ last.1) last.2
-              (λ q y i e f. last.3 q y i (sym (same q i) ∙ e) f);
-        }) due.lasts;
-    each = λ q y i e. due.each q y i (sym (same q i) ∙ e);
-  }
-
-  -- 3. One more node
+  -- 2. One more node
   module _ (pool : Pool T) (whole : IsWhole pool) (node : Place) (new : List (Node T)) (added : IsVacantLast node.index pool.store new)
       (fresh : value_at node.index pool.store ≡ None) where
     heads_there : AllByRecursion (λ q. IsSome (value_at q pool.store)) (firsts pool.channels)
-    heads_there = held.heads_there pool.head.index (firsts pool.channels) (ptrs pool.free.items) (order_in pool) pool.store whole.held.linked
+    heads_there = held.heads_there pool.head.index (firsts pool.channels) (free_in pool) (order_in pool) pool.store whole.held.linked
 
     same_order : order_of pool.head.index pool.count new ≡ order_in pool
     same_order =
-        held.order_kept node.index pool.store new added fresh pool.head.index (firsts pool.channels) (ptrs pool.free.items) pool.count whole.held heads_there
+        held.order_kept node.index pool.store new added fresh pool.head.index (firsts pool.channels) (free_in pool) pool.count whole.held heads_there
 
     same_item : (q : ℕ) → IsIn q (order_in pool) → item_at new q ≡ item_at pool.store q
     same_item q i =
         held.item_kept node.index pool.store new added fresh pool.head.index (firsts pool.channels)
-        (ptrs pool.free.items) pool.count whole.held heads_there q i
+        (free_in pool) pool.count whole.held heads_there q i
 
-    pub grown_held : room_at new node.index ≡ true → (then : List Place) → then ≡ pool.free.items ++ node ∷ [] →
-        IsHeld pool.head.index (firsts pool.channels) (ptrs then) pool.count new
-    grown_held own then e =
-        subst (λ l. IsHeld pool.head.index (firsts pool.channels) l pool.count new) (sym (ap (λ l. ptrs l) e ∙ ptrs_push pool.free.items node))
-        (held.held_added node.index pool.store new added fresh pool.head.index (firsts pool.channels) (ptrs pool.free.items) pool.count whole.held heads_there
-        own)
+    held_added : room_at new node.index ≡ true → IsHeld pool.head.index (firsts pool.channels) (free_in pool ++ node.index ∷ []) pool.count new
+    held_added own =
+        held.held_added node.index pool.store new added fresh pool.head.index (firsts pool.channels) (free_in pool) pool.count whole.held heads_there own
 
-    pub grown_items : items_in new (order_of pool.head.index pool.count new) ≡ items_of pool
-    grown_items =
-        held.items_added node.index pool.store new added fresh pool.head.index (firsts pool.channels) (ptrs pool.free.items) pool.count whole.held heads_there
+    same_free : free_of pool.free.first.index pool.free.count new ≡ free_in pool
+    same_free =
+        free_same pool.store new pool.free.first.index pool.free.count
+        (λ q i. ap (next_in Due) (held.value_kept node.index pool.store new added fresh q
+        (all_in (λ r. IsSome (value_at r pool.store)) (free_in pool) q whole.held.linked.there i)))
 
-    pub grown_recent : AreLast (order_of pool.head.index pool.count new) (ptrs pool.recent.items)
-    grown_recent = record { front = whole.recent.front; cut = same_order ∙ whole.recent.cut }
+    items_added : items_in new (order_of pool.head.index pool.count new) ≡ items_of pool
+    items_added =
+        held.items_added node.index pool.store new added fresh pool.head.index (firsts pool.channels) (free_in pool) pool.count whole.held heads_there
 
-    pub grown_finger : MatchOption pool.finger ⊤ (λ f. slice_get (nodes_on new f.channel (order_of pool.head.index pool.count new)) f.place ≡ Some f.node.index)
-    grown_finger =
+    recent_added : AreLast (order_of pool.head.index pool.count new) (ptrs pool.recent.items)
+    recent_added = record { front = whole.recent.front; cut = same_order ∙ whole.recent.cut }
+
+    finger_added : MatchOption pool.finger ⊤ (λ f. slice_get (nodes_on new f.channel (order_of pool.head.index pool.count new)) f.place ≡ Some f.node.index)
+    finger_added =
         finger_kept pool.finger _ _ (λ f at.
         ap (λ l. slice_get l f.place) (ap (λ o. nodes_on new f.channel o) same_order ∙ same_nodes_on pool.store new f.channel (order_in pool) same_item) ∙ at)
         whole.finger
 
-    pub grown_counted : IsCounted pool.counts.items pool.channels (order_of pool.head.index pool.count new) new
-    grown_counted =
+    counted_added : IsCounted pool.counts.items pool.channels (order_of pool.head.index pool.count new) new
+    counted_added =
         subst (λ o. IsCounted pool.counts.items pool.channels o new) (sym same_order)
         (record {
           many = whole.counted.many;
@@ -167,13 +149,53 @@ module _ {T : Type 0} where
     head_vacant : item_at new pool.head.index ≡ None
     head_vacant = ap item_in (held.value_kept node.index pool.store new added fresh pool.head.index whole.held.linked.number.there.0) ∙ whole.by_due.vacant
 
-    pub grown_by_due : IsByDue pool.head.index (order_of pool.head.index pool.count new) (dues_of pool.head.index pool.count new) pool.ticks.items new
-    grown_by_due =
+    by_due_added : IsByDue pool.head.index (order_of pool.head.index pool.count new) (dues_of pool.head.index pool.count new) pool.ticks.items new
+    by_due_added =
         subst (λ o. IsByDue pool.head.index o (dues_of pool.head.index pool.count new) pool.ticks.items new) (sym same_order)
         (subst (λ d. IsByDue pool.head.index (order_in pool) d pool.ticks.items new) (sym same_dues)
         (by_due_same pool.head.index (order_in pool) dues pool.ticks.items pool.store new whole.by_due new_due_ring head_vacant same_item))
 
-  -- 4. The pool that holds nothing
+    -- and it is the first of the free ones
+    module _ (own : room_at new node.index ≡ true) (then : List (Node T)) (is : then ≡ set_next Due node.index pool.free.first.index new) where
+      pub grown_held : (free : Free) → free.first ≡ node → free.count ≡ pool.free.count + 1 →
+          IsHeld pool.head.index (firsts pool.channels) (free_of free.first.index free.count then) pool.count then
+      grown_held free f m =
+          let more : free.count ≡ suc pool.free.count = omega (arith, m) in
+          subst (λ l. IsHeld pool.head.index (firsts pool.channels) l pool.count then)
+          ((λ i. free_of (sym f i).index (sym more i) then))
+          (held_freed pool.head.index (firsts pool.channels) (free_in pool) pool.count node.index pool.free.first.index new (held_added own) then is
+          pool.free.count same_free)
+
+      order_grown : order_of pool.head.index pool.count then ≡ order_of pool.head.index pool.count new
+      order_grown =
+          order_freed pool.head.index (firsts pool.channels) (free_in pool) pool.count node.index pool.free.first.index new (held_added own) then is
+
+      pub grown_items : items_in then (order_of pool.head.index pool.count then) ≡ items_of pool
+      grown_items =
+          items_freed pool.head.index (firsts pool.channels) (free_in pool) pool.count node.index pool.free.first.index new (held_added own) then is
+          ∙ items_added
+
+      pub grown_recent : AreLast (order_of pool.head.index pool.count then) (ptrs pool.recent.items)
+      grown_recent = subst (λ o. AreLast o (ptrs pool.recent.items)) (sym order_grown) recent_added
+
+      pub grown_finger : MatchOption pool.finger ⊤ (λ f. slice_get (nodes_on then f.channel (order_of pool.head.index pool.count then)) f.place ≡ Some f.node.index)
+      grown_finger =
+          finger_kept pool.finger _ _ (λ f at.
+          ap (λ l. slice_get l f.place)
+          (nodes_freed pool.head.index (firsts pool.channels) (free_in pool) pool.count node.index pool.free.first.index new (held_added own) then is f.channel)
+          ∙ at) finger_added
+
+      pub grown_counted : IsCounted pool.counts.items pool.channels (order_of pool.head.index pool.count then) then
+      grown_counted =
+          counted_freed pool.head.index (firsts pool.channels) (free_in pool) pool.count node.index pool.free.first.index new (held_added own) then is
+          pool.counts.items pool.channels counted_added
+
+      pub grown_by_due : IsByDue pool.head.index (order_of pool.head.index pool.count then) (dues_of pool.head.index pool.count then) pool.ticks.items then
+      grown_by_due =
+          by_due_freed pool.head.index (firsts pool.channels) (free_in pool) pool.count node.index pool.free.first.index new (held_added own) then is
+          pool.ticks.items by_due_added
+
+  -- 3. The pool that holds nothing
   module _ (n : ℕ) (head : ℕ) (one two three : List (Node T)) (added : IsVacantLast head (lone_firsts n) one)
       (fresh : value_at head (lone_firsts {T = T} n) ≡ None) (own : room_at one head ≡ true) (two_is : two ≡ lone Number head one)
       (three_is : three ≡ lone Due head two) where
@@ -198,10 +220,10 @@ module _ {T : Type 0} where
     apart_last =
         subst (λ l. IsDistinct same_place l) (sym (append-nil (head ∷ firsts n))) (apart_firsts head n (omega (arith, added.3, many T n)))
 
-    pub empty_held : (free : List Place) → free ≡ [] → IsHeld head (firsts n) (ptrs free) 0 three
-    empty_held free f =
-        subst (λ c. IsHeld head (firsts n) (ptrs free) 0 c) (sym is)
-        (subst (λ l. IsHeld head (firsts n) (ptrs l) 0 last) (sym f) (record {
+    pub empty_held : (first count : ℕ) → count ≡ 0 → IsHeld head (firsts n) (free_of first count three) 0 three
+    empty_held first count none =
+        subst (λ c. IsHeld head (firsts n) (free_of first count c) 0 c) (sym is)
+        (subst (λ m. IsHeld head (firsts n) (free_of first m last) 0 last) (sym none) (record {
           linked = record {
             number = ring_past_lone Due Number due_number head (lone Number head one) head [] (ring_lone Number head one there);
             channel = channel_last;

@@ -16,7 +16,9 @@ pub mod DueEntered
 pub mod DueLeft
 pub mod Items
 pub mod PastDue
+pub mod FreeNodes
 pub mod Counted
+pub mod Freed
 pub mod Soonest
 pub mod Whole
 pub mod Newest

@@ -1,18 +1,18 @@
 -- A whole pool takes an item.
-use Rattle.std.proofs.Common.{◌≡◌, ◌<◌, ◌≤◌, ◌+◌, ℕ, zero, suc, true, List, [], ◌∷◌, ◌++◌, length, Option, Some, None, IsSome, inl, inr, refl, sym, ap, ◌∙◌}
+use Rattle.std.proofs.Common.{◌≡◌, ◌<◌, ◌≤◌, ◌+◌, ◌-◌, ℕ, zero, suc, true, List, [], ◌∷◌, ◌++◌, length, Option, Some, None, inl, inr, refl, sym, ap, ◌∙◌}
 use Rattle.std.proofs.Common.{subst, arith, append_assoc, length-append, get_or}
 use Rattle.std.specs.Prelude.{◌==◌, cond, MatchOption, ⊤, slice_get, slice_set}
-use Rattle.std.specs.List.{All, AllByRecursion}
+use Rattle.std.specs.List.{All}
 use Rattle.std.proofs.lemmas.List.{map-append}
 use Rattle.mn_flight.specs.declared.Item.{Item}
 use Rattle.mn_flight.proofs.Members as members
-use Rattle.mn_flight_pool.specs.Cells.{value_at}
 use Rattle.mn_flight_pool.specs.Rings.{IsIn, IsRing, item_at, room_at, next_of, link_behind}
 use Rattle.mn_flight_pool.specs.Ticks.{last_by, put_tick}
 use Rattle.mn_flight_pool.specs.ByDue.{IsByDue, IsTick}
-use Rattle.mn_flight_pool.specs.Pool.{is_on, items_in, nodes_on, order_of, trace, entered, IsHeld}
-use Rattle.mn_flight_pool.specs.Whole.{AreLast, ptrs, dues_of, order_in, items_of, IsWhole, IsCounted}
+use Rattle.mn_flight_pool.specs.Pool.{is_on, items_in, nodes_on, order_of, free_of, trace, entered, IsLinked, IsHeld}
+use Rattle.mn_flight_pool.specs.Whole.{AreLast, ptrs, dues_of, order_in, free_in, items_of, IsWhole, IsCounted}
 use Rattle.mn_flight_pool.specs.declared.pool.Pool.{Pool}
+use Rattle.mn_flight_pool.specs.declared.free.Free.{Free}
 use Rattle.mn_flight_pool.specs.declared.node.Place.{Place}
 use Rattle.mn_flight_pool.specs.declared.tick.Tick.{Tick}
 use Rattle.mn_flight_pool.specs.Nodes.{Node, firsts}
@@ -25,6 +25,7 @@ use Rattle.mn_flight_pool.proofs.Counted.{counted_entered, counted_alike}
 use Rattle.mn_flight_pool.proofs.DueEntered.{due_entered, due_three, stand, then}
 use Rattle.mn_flight_pool.proofs.Items.{item_member, fewer_kept}
 use Rattle.mn_flight_pool.proofs.Sooner.{in_front, in_middle, tick_item, fewer, all_kept}
+use Rattle.mn_flight_pool.proofs.FreeNodes.{linked_turned, first_apart, free_apart, free_same, next_entered, next_linked}
 use Rattle.mn_flight_pool.proofs.Traces.{trace_ring}
 use Rattle.mn_flight_pool.proofs.Walks.{ring_next}
 use Rattle.mn_flight_pool.proofs.Firsts.{firsts_length, first_at}
@@ -64,23 +65,27 @@ module _ {T : Type 0} (pool : Pool T) (whole : IsWhole pool) where
       same (n ∷ ns) zero b = refl
       same (n ∷ ns) (suc k) b = same ns k (omega (arith, b))
 
-  module _ (node : Place) (front : List Place) (cut : pool.free.items ≡ front ++ node ∷ []) where
-    held_cut : IsHeld pool.head.index (firsts pool.channels) (ptrs front ++ node.index ∷ []) pool.count pool.store
-    held_cut = subst (λ l. IsHeld pool.head.index (firsts pool.channels) l pool.count pool.store) (ap (λ l. ptrs l) cut ∙ ptrs_push front node) whole.held
+  module _ (node : Place) (is_first : node ≡ pool.free.first) (some : 0 < pool.free.count) where
+    -- the free nodes behind the first
+    abbrev pub rest : List ℕ
+    rest = free_of (next_of Due pool.store pool.free.first.index) (pool.free.count - 1) pool.store
 
-    pub free_there : IsSome (value_at node.index pool.store)
-    free_there = last (ptrs front) held_cut.linked.there
-      where
-        last : (fs : List ℕ) → AllByRecursion (λ q. IsSome (value_at q pool.store)) (fs ++ node.index ∷ []) → IsSome (value_at node.index pool.store)
-        last [] h = h.0
-        last (f ∷ fs) h = last fs h.1
+    cut : free_in pool ≡ node.index ∷ rest
+    cut =
+        let many : pool.free.count ≡ suc (pool.free.count - 1) = omega (arith, some) in
+        ap (λ m. free_of pool.free.first.index m pool.store) many ∙ ap (λ (p : Place). p.index ∷ rest) (sym is_first)
+
+    linked_cut : IsLinked pool.head.index (firsts pool.channels) (node.index ∷ rest) (order_in pool) pool.store
+    linked_cut = subst (λ l. IsLinked pool.head.index (firsts pool.channels) l (order_in pool) pool.store) cut whole.held.linked
+
+    held_cut : IsHeld pool.head.index (firsts pool.channels) (rest ++ node.index ∷ []) pool.count pool.store
+    held_cut = record {
+      linked = linked_turned pool.head.index (firsts pool.channels) rest (order_in pool) node.index pool.store linked_cut;
+      flight = whole.held.flight;
+    }
 
     pub free_room : room_at pool.store node.index ≡ true
-    free_room = held_cut.linked.free_room node.index (last (ptrs front))
-      where
-        last : (fs : List ℕ) → IsIn node.index (fs ++ node.index ∷ [])
-        last [] = inl refl
-        last (f ∷ fs) = inr (last fs)
+    free_room = linked_cut.free_room node.index (inl refl)
 
     module _ (x : Item T) (first : Place) (below : x.channel < pool.channels) (read : first.index ≡ x.channel) where
       at : slice_get (firsts pool.channels) x.channel ≡ Some first.index
@@ -106,23 +111,23 @@ module _ {T : Type 0} (pool : Pool T) (whole : IsWhole pool) where
 
         abbrev dues_then : List ℕ
         dues_then =
-            then pool.head.index (firsts pool.channels) (ptrs front) (order_in pool) node.index pool.store held_cut.linked x first.index at dues pool.ticks.items
+            then pool.head.index (firsts pool.channels) rest (order_in pool) node.index pool.store held_cut.linked x first.index at dues pool.ticks.items
             whole.by_due greatest
 
         entered_dues : IsByDue pool.head.index (order_in pool ++ node.index ∷ []) dues_then (put_tick x.due node.index pool.ticks.items)
             (link_behind Due node.index last three)
         entered_dues =
-            due_entered pool.head.index (firsts pool.channels) (ptrs front)
+            due_entered pool.head.index (firsts pool.channels) rest
             (order_in pool) node.index pool.store held_cut.linked x first.index at dues pool.ticks.items whole.by_due greatest
 
         three_ring : IsRing Due three pool.head.index dues
         three_ring =
-            due_three pool.head.index (firsts pool.channels) (ptrs front)
+            due_three pool.head.index (firsts pool.channels) rest
             (order_in pool) node.index pool.store held_cut.linked x first.index at dues pool.ticks.items whole.by_due greatest
 
         last_in : IsIn last (pool.head.index ∷ dues)
         last_in =
-            let s = stand pool.head.index (firsts pool.channels) (ptrs front)
+            let s = stand pool.head.index (firsts pool.channels) rest
             (order_in pool) node.index pool.store held_cut.linked x first.index at dues pool.ticks.items whole.by_due greatest in
             elim s.end [
               | inl e ↦ inl e.1
@@ -133,7 +138,7 @@ module _ {T : Type 0} (pool : Pool T) (whole : IsWhole pool) where
           room_one : (q : ℕ) → room_at pool.store q ≡ true → room_at one q ≡ true
           room_one q h =
               ap (λ c. room_at c q) one_is
-              ∙ room_three pool.head.index (firsts pool.channels) (ptrs front) (order_in pool) node.index pool.store held_cut.linked x first.index at q ∙ h
+              ∙ room_three pool.head.index (firsts pool.channels) rest (order_in pool) node.index pool.store held_cut.linked x first.index at q ∙ h
 
           room_due : (q : ℕ) → IsIn q (pool.head.index ∷ dues) → room_at one q ≡ true
           room_due q i = room_one q (elim i [ inl e ↦ rooms pool whole q (inl e) | inr j ↦ rooms pool whole q (inr (whole.by_due.flies q j)) ])
@@ -156,15 +161,15 @@ module _ {T : Type 0} (pool : Pool T) (whole : IsWhole pool) where
             is : two ≡ four
             is = two_is ∙ ap (λ c. link_behind Due node.index last c) one_is
 
-            held_three : IsHeld pool.head.index (firsts pool.channels) (ptrs front) (pool.count + 1) three
+            held_three : IsHeld pool.head.index (firsts pool.channels) rest (pool.count + 1) three
             held_three =
-                held_pushed pool.head.index (firsts pool.channels) (ptrs front) pool.count node.index pool.store held_cut x first.index at above
+                held_pushed pool.head.index (firsts pool.channels) rest pool.count node.index pool.store held_cut x first.index at above
                 (omega (arith, below, firsts_length pool.channels))
 
             order_four : order_of pool.head.index (pool.count + 1) four ≡ order_in pool ++ node.index ∷ []
             order_four =
-                order_alike three four (alike_link node.index last three) pool.head.index (firsts pool.channels) (ptrs front) (pool.count + 1) held_three
-                ∙ order_then pool.head.index (firsts pool.channels) (ptrs front) pool.count node.index pool.store held_cut x first.index at
+                order_alike three four (alike_link node.index last three) pool.head.index (firsts pool.channels) rest (pool.count + 1) held_three
+                ∙ order_then pool.head.index (firsts pool.channels) rest pool.count node.index pool.store held_cut x first.index at
 
             dues_four : dues_of pool.head.index (pool.count + 1) four ≡ dues_then
             dues_four =
@@ -172,16 +177,29 @@ module _ {T : Type 0} (pool : Pool T) (whole : IsWhole pool) where
                 omega (arith, entered_dues.many, length-append (order_in pool) (node.index ∷ []), order_length pool whole) in
                 ap (λ n. trace (next_of Due four) pool.head.index n) (sym many) ∙ trace_ring Due four pool.head.index dues_then entered_dues.ring
 
-            pub put_held : IsHeld pool.head.index (firsts pool.channels) (ptrs front) (pool.count + 1) two
-            put_held =
-                subst (λ c. IsHeld pool.head.index (firsts pool.channels) (ptrs front) (pool.count + 1) c) (sym is)
-                (held_alike three four (alike_link node.index last three) pool.head.index (firsts pool.channels) (ptrs front) (pool.count + 1) held_three)
+            held_four : IsHeld pool.head.index (firsts pool.channels) rest (pool.count + 1) four
+            held_four = held_alike three four (alike_link node.index last three) pool.head.index (firsts pool.channels) rest (pool.count + 1) held_three
+
+            rest_four : free_of (next_of Due pool.store pool.free.first.index) (pool.free.count - 1) four ≡ rest
+            rest_four = free_same pool.store four (next_of Due pool.store pool.free.first.index) (pool.free.count - 1) (λ q i.
+                let in_order : IsIn last (pool.head.index ∷ order_in pool) = elim last_in [ inl e ↦ inl e | inr j ↦ inr (whole.by_due.flies last j) ] in
+                next_linked node.index last three q (first_apart pool.head.index (firsts pool.channels) rest (order_in pool) node.index pool.store linked_cut q i)
+                (free_apart pool.head.index (firsts pool.channels) (node.index ∷ rest) (order_in pool) pool.store linked_cut last q in_order (inr i))
+                ∙ next_entered pool.head.index first.index node.index x pool.store q)
+
+            pub put_held : (free : Free) → free.first.index ≡ next_of Due pool.store pool.free.first.index → free.count + 1 ≡ pool.free.count →
+                IsHeld pool.head.index (firsts pool.channels) (free_of free.first.index free.count two) (pool.count + 1) two
+            put_held free f m =
+                let less : free.count ≡ pool.free.count - 1 = omega (arith, m) in
+                subst (λ c. IsHeld pool.head.index (firsts pool.channels) (free_of free.first.index free.count c) (pool.count + 1) c) (sym is)
+                (subst (λ l. IsHeld pool.head.index (firsts pool.channels) l (pool.count + 1) four)
+                (sym ((λ i. free_of (f i) (less i) four) ∙ rest_four)) held_four)
 
             pub put_items : items_in two (order_of pool.head.index (pool.count + 1) two) ≡ items_of pool ++ x ∷ []
             put_items =
                 subst (λ c. items_in c (order_of pool.head.index (pool.count + 1) c) ≡ items_of pool ++ x ∷ []) (sym is)
-                (items_kept three four (alike_link node.index last three) pool.head.index (firsts pool.channels) (ptrs front) (pool.count + 1) held_three
-                ∙ items_pushed pool.head.index (firsts pool.channels) (ptrs front) pool.count node.index pool.store held_cut x first.index at)
+                (items_kept three four (alike_link node.index last three) pool.head.index (firsts pool.channels) rest (pool.count + 1) held_three
+                ∙ items_pushed pool.head.index (firsts pool.channels) rest pool.count node.index pool.store held_cut x first.index at)
 
             pub put_recent : (late : List Place) → AreLast (ptrs (pool.recent.items ++ node ∷ [])) (ptrs late) →
                 AreLast (order_of pool.head.index (pool.count + 1) two) (ptrs late)
@@ -197,7 +215,7 @@ module _ {T : Type 0} (pool : Pool T) (whole : IsWhole pool) where
                 nodes_on pool.store c (order_in pool) ++ cond (x.channel == c) (node.index ∷ []) []
             nodes_four c =
                 ap (λ o. nodes_on four c o) order_four ∙ nodes_alike three four (alike_link node.index last three) c (order_in pool ++ node.index ∷ [])
-                ∙ nodes_then pool.head.index (firsts pool.channels) (ptrs front) (order_in pool) node.index pool.store held_cut.linked x first.index at c
+                ∙ nodes_then pool.head.index (firsts pool.channels) rest (order_in pool) node.index pool.store held_cut.linked x first.index at c
 
             pub put_finger : MatchOption pool.finger ⊤
                 (λ f. slice_get (nodes_on two f.channel (order_of pool.head.index (pool.count + 1) two)) f.place ≡ Some f.node.index)
@@ -215,7 +233,7 @@ module _ {T : Type 0} (pool : Pool T) (whole : IsWhole pool) where
                 (subst (λ o. IsCounted counts pool.channels o four) (sym order_four)
                 (subst (λ l. IsCounted l pool.channels (order_in pool ++ node.index ∷ []) four) (sym e)
                 (counted_alike _ pool.channels (order_in pool ++ node.index ∷ []) three four (alike_link node.index last three)
-                (counted_entered pool.head.index (firsts pool.channels) (ptrs front)
+                (counted_entered pool.head.index (firsts pool.channels) rest
                 (order_in pool) node.index pool.store held_cut.linked x first.index at pool.counts.items pool.channels whole.counted below))))
 
             pub put_by_due : (ticks : List Tick) → ticks ≡ put_tick x.due node.index pool.ticks.items →

@@ -57,7 +57,7 @@ module _ {T : Type 0} where
         ap (prev_in pair) (value_same p (λ node. with_link pair (record (link_of pair node) { prev = record { index = q } }) node) cells)
         ∙ prev_same pair q (value_at p cells) h
 
-    next_else : (p q x : ℕ) (cells : List (Node T)) → same_place p x ≡ false → next_of pair (set_next pair p q cells) x ≡ next_of pair cells x
+    pub next_else : (p q x : ℕ) (cells : List (Node T)) → same_place p x ≡ false → next_of pair (set_next pair p q cells) x ≡ next_of pair cells x
     next_else p q x cells h =
         ap (next_in pair) (value_other p x (λ node. with_link pair (record (link_of pair node) { next = record { index = q } }) node) cells h)
 
@@ -394,7 +394,7 @@ module _ {T : Type 0} where
       kept (Some node) = refl
 
   -- a change of items keeps the rings
-  item_next : (pair : Pair) (item : Option (Item T)) (o : Option (Node T)) →
+  pub item_next : (pair : Pair) (item : Option (Item T)) (o : Option (Node T)) →
       next_in pair (option_map (λ (node : Node T). record node { item = item }) o) ≡ next_in pair o
   item_next pair item None = refl
   item_next Number item (Some node) = refl

@@ -1,5 +1,5 @@
 -- A whole pool gives an item out, and its node is free.
-use Rattle.std.proofs.Common.{◌≡◌, ◌<◌, ◌-◌, ℕ, zero, suc, true, false, Bool, cond, List, [], ◌∷◌, ◌++◌, length, Option, Some, None, IsSome, inl, inr, refl, sym, ap, ◌∙◌, subst, arith}
+use Rattle.std.proofs.Common.{◌≡◌, ◌<◌, ◌+◌, ◌-◌, ℕ, zero, suc, true, false, Bool, cond, List, [], ◌∷◌, ◌++◌, length, Option, Some, None, IsSome, inl, inr, refl, sym, ap, ◌∙◌, subst, arith}
 use Rattle.std.proofs.Common.{length-append, get_or, eq-eqb}
 use Rattle.std.specs.Prelude.{◌==◌, slice_get, slice_set}
 use Rattle.std.specs.List.{IsDistinct}
@@ -8,11 +8,12 @@ use Rattle.mn_flight.specs.declared.Item.{Item}
 use Rattle.mn_flight.specs.Flying.{without}
 use Rattle.mn_flight.proofs.Members as members
 use Rattle.mn_flight_pool.specs.Cells.{same_place}
-use Rattle.mn_flight_pool.specs.Rings.{IsIn, IsRing, HaveRoom, item_at, room_at, next_of, prev_of, unlink}
+use Rattle.mn_flight_pool.specs.Rings.{IsIn, IsRing, HaveRoom, item_at, room_at, next_of, prev_of, set_next, unlink}
 use Rattle.mn_flight_pool.specs.ByDue.{IsByDue, ticks_left}
-use Rattle.mn_flight_pool.specs.Pool.{is_on, items_in, nodes_on, order_of, trace, left, IsHeld, IsLinked}
-use Rattle.mn_flight_pool.specs.Whole.{ptrs, dues_of, order_in, items_of, IsWhole, IsCounted}
+use Rattle.mn_flight_pool.specs.Pool.{is_on, items_in, nodes_on, order_of, free_of, trace, left, IsHeld, IsLinked}
+use Rattle.mn_flight_pool.specs.Whole.{dues_of, order_in, free_in, items_of, IsWhole, IsCounted}
 use Rattle.mn_flight_pool.specs.declared.pool.Pool.{Pool}
+use Rattle.mn_flight_pool.specs.declared.free.Free.{Free}
 use Rattle.mn_flight_pool.specs.declared.tick.Tick.{Tick}
 use Rattle.mn_flight_pool.specs.Nodes.{Node, firsts}
 use Rattle.mn_flight_pool.specs.declared.node.Pair.TheVariants.{Number, Channel, Due}
@@ -23,6 +24,10 @@ use Rattle.mn_flight_pool.proofs.PastDue.{alike_unlink, held_alike, nodes_alike,
 use Rattle.mn_flight_pool.proofs.Counted.{counted_left, counted_alike, some_counted}
 use Rattle.mn_flight_pool.proofs.DueLeft as dues
 use Rattle.mn_flight_pool.proofs.Items.{item_member}
+use Rattle.mn_flight_pool.proofs.FreeNodes.{free_apart, free_same, next_left, next_unlinked}
+use Rattle.mn_flight_pool.proofs.Freed.{held_freed, items_freed, nodes_freed, counted_freed, by_due_freed}
+use Rattle.mn_flight_pool.proofs.Walks.{ring_prev}
+use Rattle.mn_flight_pool.proofs.Rings.{room_past_item, room_past_unlink}
 use Rattle.mn_flight_pool.proofs.Sides as sides
 use Rattle.mn_flight_pool.proofs.Sooner.{in_cut}
 use Rattle.mn_flight_pool.proofs.Traces.{trace_ring}
@@ -42,7 +47,7 @@ module _ {T : Type 0} (pool : Pool T) (whole : IsWhole pool) (p : ℕ) (i : IsIn
   heads = firsts pool.channels
 
   abbrev free : List ℕ
-  free = ptrs pool.free.items
+  free = free_in pool
 
   abbrev n : ℕ
   n = pool.count - 1
@@ -86,6 +91,13 @@ module _ {T : Type 0} (pool : Pool T) (whole : IsWhole pool) (p : ℕ) (i : IsIn
         | inr k ↦ rooms pool whole q (inr (whole.by_due.flies q k))
       ])
 
+  prev_in : IsIn (prev_of Due pool.store p) (head ∷ order_in pool)
+  prev_in =
+      elim (ring_prev Due pool.store head old_dues whole.by_due.ring p (inr (whole.by_due.stands p i))) [
+        | inl e ↦ inl e
+        | inr j ↦ inr (whole.by_due.flies (prev_of Due pool.store p) j)
+      ]
+
   pub node_room : room_at pool.store p ≡ true
   node_room = whole.held.linked.order_room p i
 
@@ -108,6 +120,11 @@ module _ {T : Type 0} (pool : Pool T) (whole : IsWhole pool) (p : ℕ) (i : IsIn
 
   pub room_one : (one : List (Node T)) → one ≡ unlink Due p pool.store → room_at one p ≡ true
   room_one one e = ap (λ c. room_at c p) e ∙ (alike_unlink p pool.store).rooms p ∙ whole.held.linked.order_room p i
+
+  pub room_two : (one : List (Node T)) → one ≡ unlink Due p pool.store → (two : List (Node T)) → two ≡ left p one → room_at two p ≡ true
+  room_two one e two f =
+      ap (λ c. room_at c p) f ∙ room_past_item p p None (unlink Channel p (unlink Number p one)) ∙ room_past_unlink Channel p p (unlink Number p one)
+      ∙ room_past_unlink Number p p one ∙ room_one one e
 
   module _ (x : Item T) (holds : item_at pool.store p ≡ Some x) where
     pub below : x.channel < pool.channels
@@ -184,14 +201,21 @@ module _ {T : Type 0} (pool : Pool T) (whole : IsWhole pool) (p : ℕ) (i : IsIn
         order_two : order_of head n (left p mid) ≡ us ++ vs
         order_two = order_after head heads free us p vs n mid held_mid order_mid x first holds_mid first_at.1
 
-        pub take_held : (frees : List ℕ) → frees ≡ free ++ p ∷ [] → IsHeld head heads frees n two
-        take_held frees e =
-            subst (λ l. IsHeld head heads l n two) (sym e)
-            (subst (λ c. IsHeld head heads (free ++ p ∷ []) n c) (sym is)
-            (held_left head heads free us p vs n mid held_mid order_mid x first holds_mid first_at.1))
+        held_two : IsHeld head heads (free ++ p ∷ []) n two
+        held_two =
+            subst (λ c. IsHeld head heads (free ++ p ∷ []) n c) (sym is)
+            (held_left head heads free us p vs n mid held_mid order_mid x first holds_mid first_at.1)
 
-        pub take_items : items_in two (order_of head n two) ≡ without (Some x) (items_of pool)
-        take_items =
+        -- no free node was a neighbour of the one that left
+        free_two : free_of pool.free.first.index pool.free.count two ≡ free
+        free_two =
+            ap (λ c. free_of pool.free.first.index pool.free.count c) is
+            ∙ free_same pool.store (left p mid) pool.free.first.index pool.free.count (λ q j.
+            next_left p mid q
+            ∙ next_unlinked p pool.store q (free_apart head heads free (order_in pool) pool.store whole.held.linked (prev_of Due pool.store p) q prev_in j))
+
+        items_two : items_in two (order_of head n two) ≡ without (Some x) (items_of pool)
+        items_two =
             subst (λ c. items_in c (order_of head n c) ≡ without (Some x) (items_of pool)) (sym is)
             (items_without head heads free us p vs n mid held_mid order_mid x first holds_mid first_at.1
             ∙ ap (λ l. without (Some x) l)
@@ -199,10 +223,9 @@ module _ {T : Type 0} (pool : Pool T) (whole : IsWhole pool) (p : ℕ) (i : IsIn
             (subst (λ m. IsHeld head heads free m pool.store) count_is whole.held)
             ∙ ap (λ m. items_in pool.store (order_of head m pool.store)) (sym count_is)))
 
-        -- what stands before it on a channel stays at its place
-        pub take_before : (c m k q : ℕ) → slice_get (nodes_on pool.store c (order_in pool)) m ≡ Some p →
+        before_two : (c m k q : ℕ) → slice_get (nodes_on pool.store c (order_in pool)) m ≡ Some p →
             slice_get (nodes_on pool.store c (order_in pool)) k ≡ Some q → k < m → slice_get (nodes_on two c (order_of head n two)) k ≡ Some q
-        take_before c m k q e f h = ap (λ z. slice_get (nodes_on z c (order_of head n z)) k) is ∙ ap (λ l. slice_get l k) nodes_two ∙ by (x.channel == c) nodes_old
+        before_two c m k q e f h = ap (λ z. slice_get (nodes_on z c (order_of head n z)) k) is ∙ ap (λ l. slice_get l k) nodes_two ∙ by (x.channel == c) nodes_old
           where
             nodes_two : nodes_on (left p mid) c (order_of head n (left p mid)) ≡ nodes_on pool.store c us ++ nodes_on pool.store c vs
             nodes_two =
@@ -224,9 +247,9 @@ module _ {T : Type 0} (pool : Pool T) (whole : IsWhole pool) (p : ℕ) (i : IsIn
                 (ap (λ l. slice_get l m) (sym old) ∙ e) (ap (λ l. slice_get l k) (sym old) ∙ f) h
             by false old = ap (λ l. slice_get l k) (sym old) ∙ f
 
-        pub take_counted : (counts : List ℕ) → counts ≡ slice_set pool.counts.items x.channel (get_or pool.counts.items x.channel 0 - 1) →
+        counted_two : (counts : List ℕ) → counts ≡ slice_set pool.counts.items x.channel (get_or pool.counts.items x.channel 0 - 1) →
             IsCounted counts pool.channels (order_of head n two) two
-        take_counted counts e =
+        counted_two counts e =
             subst (λ c. IsCounted counts pool.channels (order_of head n c) c) (sym is)
             (subst (λ o. IsCounted counts pool.channels o (left p mid)) (sym order_two)
             (subst (λ l. IsCounted l pool.channels (us ++ vs) (left p mid)) (sym e)
@@ -249,9 +272,35 @@ module _ {T : Type 0} (pool : Pool T) (whole : IsWhole pool) (p : ℕ) (i : IsIn
             omega (arith, left_due.many, order_length pool whole, ap length cut.2, length-append us vs, length-append us (p ∷ vs)) in
             ap (λ m. trace (next_of Due (left p mid)) head m) (sym many) ∙ trace_ring Due (left p mid) head dues_then left_due.ring
 
-        pub take_by_due : (ticks : List Tick) → ticks ≡ ticks_then → IsByDue head (order_of head n two) (dues_of head n two) ticks two
-        take_by_due ticks e =
+        by_due_two : (ticks : List Tick) → ticks ≡ ticks_then → IsByDue head (order_of head n two) (dues_of head n two) ticks two
+        by_due_two ticks e =
             subst (λ c. IsByDue head (order_of head n c) (dues_of head n c) ticks c) (sym is)
             (subst (λ o. IsByDue head o (dues_of head n (left p mid)) ticks (left p mid)) (sym order_two)
             (subst (λ d. IsByDue head (us ++ vs) d ticks (left p mid)) (sym dues_two)
             (subst (λ l. IsByDue head (us ++ vs) dues_then l (left p mid)) (sym e) left_due)))
+
+        -- the node is the first of the free ones
+        module _ (three : List (Node T)) (three_is : three ≡ set_next Due p pool.free.first.index two) where
+          pub take_held : (frees : Free) → frees.first.index ≡ p → frees.count ≡ pool.free.count + 1 →
+              IsHeld head heads (free_of frees.first.index frees.count three) n three
+          take_held frees f m =
+              let more : frees.count ≡ suc pool.free.count = omega (arith, m) in
+              subst (λ l. IsHeld head heads l n three) (λ i. free_of (sym f i) (sym more i) three)
+              (held_freed head heads free n p pool.free.first.index two held_two three three_is pool.free.count free_two)
+
+          pub take_items : items_in three (order_of head n three) ≡ without (Some x) (items_of pool)
+          take_items = items_freed head heads free n p pool.free.first.index two held_two three three_is ∙ items_two
+
+          -- what stands before it on a channel stays at its place
+          pub take_before : (c m k q : ℕ) → slice_get (nodes_on pool.store c (order_in pool)) m ≡ Some p →
+              slice_get (nodes_on pool.store c (order_in pool)) k ≡ Some q → k < m → slice_get (nodes_on three c (order_of head n three)) k ≡ Some q
+          take_before c m k q e f h =
+              ap (λ l. slice_get l k) (nodes_freed head heads free n p pool.free.first.index two held_two three three_is c) ∙ before_two c m k q e f h
+
+          pub take_counted : (counts : List ℕ) → counts ≡ slice_set pool.counts.items x.channel (get_or pool.counts.items x.channel 0 - 1) →
+              IsCounted counts pool.channels (order_of head n three) three
+          take_counted counts e =
+              counted_freed head heads free n p pool.free.first.index two held_two three three_is counts pool.channels (counted_two counts e)
+
+          pub take_by_due : (ticks : List Tick) → ticks ≡ ticks_then → IsByDue head (order_of head n three) (dues_of head n three) ticks three
+          take_by_due ticks e = by_due_freed head heads free n p pool.free.first.index two held_two three three_is ticks (by_due_two ticks e)

@@ -7,12 +7,17 @@ use Rattle.mn_flight.specs.Flying.{IsFlight}
 use Rattle.mn_flight_pool.specs.Cells.{same_place, value_at}
 use Rattle.mn_flight_pool.specs.Rings.{IsRing, item_at, room_at, HaveRoom, next_of, prev_of, with_item, link_behind, unlink}
 use Rattle.mn_flight_pool.specs.Nodes.{Node}
-use Rattle.mn_flight_pool.specs.declared.node.Pair.TheVariants.{Number, Channel}
+use Rattle.mn_flight_pool.specs.declared.node.Pair.TheVariants.{Number, Channel, Due}
 
 -- so many places from s on, each the next of the one before
 abbrev pub trace : (ℕ → ℕ) → ℕ → ℕ → List ℕ
 trace next s zero = []
 trace next s (suc n) = next s ∷ trace next (next s) n
+
+-- so many places, of which s is the first, each the next of the one before
+abbrev pub chain : (ℕ → ℕ) → ℕ → ℕ → List ℕ
+chain next s zero = []
+chain next s (suc n) = s ∷ chain next (next s) n
 
 -- so many steps from s
 abbrev pub steps_of : (ℕ → ℕ) → ℕ → ℕ → ℕ
@@ -57,6 +62,10 @@ module _ {T : Type 0} where
   -- the nodes that hold items, in the order of the items' numbers
   abbrev pub order_of : ℕ → ℕ → List (Node T) → List ℕ
   order_of head count cells = trace (next_of Number cells) head count
+
+  -- so many nodes that hold no item, each naming the one behind it
+  abbrev pub free_of : ℕ → ℕ → List (Node T) → List ℕ
+  free_of first count cells = chain (next_of Due cells) first count
 
   -- so many nodes hold items, and these are a flight
   pub record IsHeld (head : ℕ) (heads free : List ℕ) (count : ℕ) (cells : List (Node T)) : Type 0 where

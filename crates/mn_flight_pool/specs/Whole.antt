@@ -1,9 +1,9 @@
 -- What a pool keeps between two calls, and the items that it holds.
-use Rattle.std.specs.Prelude.{◌≡◌, ◌≤◌, ◌<◌, ◌+◌, ◌^◌, ◌++◌, ℕ, List, length, map, slice_get, slice_index, Some, MatchOption, ⊤, min, vec_len}
+use Rattle.std.specs.Prelude.{◌≡◌, ◌≤◌, ◌<◌, ◌+◌, ◌^◌, ◌++◌, ℕ, List, length, map, slice_get, slice_index, Some, MatchOption, ⊤, min}
 use Rattle.std.specs.Vec.{vec_capacity}
 use Rattle.mn_flight.specs.declared.Item.{Item}
 use Rattle.mn_flight_pool.specs.Rings.{next_of}
-use Rattle.mn_flight_pool.specs.Pool.{trace, order_of, items_in, nodes_on, IsHeld}
+use Rattle.mn_flight_pool.specs.Pool.{trace, order_of, free_of, items_in, nodes_on, IsHeld}
 use Rattle.mn_flight_pool.specs.ByDue.{IsByDue}
 use Rattle.mn_flight_pool.specs.declared.node.Place.{Place}
 use Rattle.mn_flight_pool.specs.Nodes.{Node, firsts}
@@ -32,6 +32,10 @@ module _ {T : Type 0} where
   abbrev pub order_in : Pool T → List ℕ
   order_in pool = order_of pool.head.index pool.count pool.store
 
+  -- the nodes that hold none
+  abbrev pub free_in : Pool T → List ℕ
+  free_in pool = free_of pool.free.first.index pool.free.count pool.store
+
   -- the items, in the order of their numbers
   abbrev pub items_of : Pool T → List (Item T)
   items_of pool = items_in pool.store (order_in pool)
@@ -41,12 +45,11 @@ module _ {T : Type 0} where
   IsPlaced pool channel place node = slice_get (nodes_on pool.store channel (order_in pool)) place ≡ Some node
 
   pub record IsWhole (pool : Pool T) : Type 0 where
-    pub held : IsHeld pool.head.index (firsts pool.channels) (ptrs pool.free.items) pool.count pool.store
+    pub held : IsHeld pool.head.index (firsts pool.channels) (free_in pool) pool.count pool.store
     pub counted : IsCounted pool.counts.items pool.channels (order_in pool) pool.store
     pub by_due : IsByDue pool.head.index (order_in pool) (dues_of pool.head.index pool.count pool.store) pool.ticks.items pool.store
-    pub few : pool.count + vec_len pool.free < 2 ^ 32
-    pub room : pool.count + vec_len pool.free ≤ vec_capacity pool.free
-    pub ticks_room : pool.count + vec_len pool.free ≤ vec_capacity pool.ticks
+    pub few : pool.count + pool.free.count < 2 ^ 32
+    pub ticks_room : pool.count + pool.free.count ≤ vec_capacity pool.ticks
     pub recent : AreLast (order_in pool) (ptrs pool.recent.items)
-    pub recent_room : min (pool.count + vec_len pool.free) 65536 ≤ vec_capacity pool.recent
+    pub recent_room : min (pool.count + pool.free.count) 65536 ≤ vec_capacity pool.recent
     pub finger : MatchOption pool.finger ⊤ (λ finger. IsPlaced pool finger.channel finger.place finger.node.index)

@@ -14,14 +14,13 @@ pub struct PoolFlight<T: Drop> {
 }
 
 impl<T: Drop> Model for PoolFlight<T> {
-    ghost use Rattle.std.specs.Prelude.{vec_len};
     ghost use Rattle.mn_flight.specs.Contents.{Contents};
 
     ghost Value = { Contents T };
 
     ghost use Rattle.mn_flight_pool.specs.Whole.{items_of, IsWhole};
 
-    ghost view = { λ f. record { items = items_of f.pool; spare = vec_len f.pool.free; channels = f.pool.channels } };
+    ghost view = { λ f. record { items = items_of f.pool; spare = f.pool.free.count; channels = f.pool.channels } };
 
     ghost invariant = { λ f. IsWhole f.pool };
 }
@@ -48,14 +47,14 @@ impl<T: Drop> Flight<T> for PoolFlight<T> {
     ghost exact = { λ f. ⊤ };
 
     fn reserve(&mut self, more: u32) -> Result<(), AllocError> {
-        while self.pool.free.len() < more as usize {
+        while self.pool.free.count < more as usize {
             self.pool.grow()?;
         }
         Ok(())
     }
 
     fn push(&mut self, channel: u32, due: u64, number: u64, item: T) -> Result<(), Back<T>> {
-        if self.pool.free.is_empty() {
+        if self.pool.free.count == 0 {
             if self.pool.grow().is_err() {
                 return Err(Back(item));
             }

@@ -17,6 +17,7 @@
 //! stays on the node before that which was taken last by its place, so that places near it are walked to from there.
 //!
 //! - `node`, `store`: the neighbours of a node; all nodes, by their places, with their items
+//! - `free`: the nodes that hold no item
 //! - `recent`: the nodes of the items that were put last
 //! - `room`: room in a list of which little may be written
 //! - `walk`: steps along a ring
@@ -28,6 +29,7 @@
 
 mod due;
 mod flight;
+mod free;
 mod moves;
 mod node;
 mod pool;

@@ -1,4 +1,4 @@
-use Rattle.std.proofs.Common.{◌≡◌, ◌≤◌, ◌-◌, vec_len}
+use Rattle.std.proofs.Common.{◌≡◌, ◌≤◌, ◌-◌}
 use Rattle.mn_flight_pool.specs.Whole.{items_of, IsWhole}
 use Rattle.mn_flight_pool.proofs.flight.PoolFlightFlight.reserve.Given as goal
 
@@ -7,9 +7,9 @@ invariant-loop-self g l = record {
   whole : IsWhole l.self-inside.pool;
   items : items_of l.self-inside.pool ≡ l.fn.self.items;
   channels : l.self-inside.pool.channels ≡ l.fn.self.channels;
-  spare : l.fn.self.spare ≤ vec_len l.self-inside.pool.free;
-  enough : l.more ≤ l.fn.self.spare → vec_len l.self-inside.pool.free ≡ l.fn.self.spare;
+  spare : l.fn.self.spare ≤ l.self-inside.pool.free.count;
+  enough : l.more ≤ l.fn.self.spare → l.self-inside.pool.free.count ≡ l.fn.self.spare;
 }
 
 abbrev pub decreases-loop-self : goal.decreases-loop-self
-decreases-loop-self g l = l.more - vec_len l.self-inside.pool.free
+decreases-loop-self g l = l.more - l.self-inside.pool.free.count

@@ -22,18 +22,17 @@ returns-clause-whole g c =
     let fresh = subst (λ o. value_at head o ≡ None) c.in_ok-store.ensures (c.in_ok-head.ensures).fresh in
     let own = (c.in_ok-head.ensures).room in
     record {
-      held = empty_held n head c.add.new.self c.lone.new.self c.lone-2.new.self added fresh own c.lone.ensures c.lone-2.ensures c.new-3.result.items
-          c.new-3.ensures.items;
+      held = empty_held n head c.add.new.self c.lone.new.self c.lone-2.new.self added fresh own c.lone.ensures c.lone-2.ensures
+          c.none.result.first.index c.none.result.count c.none.ensures;
       counted = empty_counted n head c.add.new.self c.lone.new.self c.lone-2.new.self added fresh own c.lone.ensures c.lone-2.ensures
           c.resize.new.self.items
           (filled n c.new-counts.result.items c.new-counts.result.len c.resize.new.self.items c.new-counts.ensures.items
           (omega (arith, c.new-counts.ensures.len)) (c.in_ok-resize.ensures).items);
       by_due = empty_by_due n head c.add.new.self c.lone.new.self c.lone-2.new.self added fresh own c.lone.ensures c.lone-2.ensures
           c.new-2.result.items c.new-2.ensures.items;
-      few = omega (arith, c.new-3.ensures.len);
-      room = omega (arith, c.new-3.ensures.len);
-      ticks_room = omega (arith, c.new-3.ensures.len);
+      few = omega (arith, c.none.ensures);
+      ticks_room = omega (arith, c.none.ensures);
       finger = tt;
-      recent = none_last [] c.new-4.result.items c.new-4.ensures.items;
-      recent_room = omega (arith, c.new-3.ensures.len);
+      recent = none_last [] c.new-3.result.items c.new-3.ensures.items;
+      recent_room = omega (arith, c.none.ensures);
     }

@@ -3,10 +3,10 @@ use Rattle.std.specs.Prelude.{slice_set}
 use Rattle.mn_flight.specs.declared.Item.{Item}
 use Rattle.mn_flight_pool.specs.Rings.{item_at, next_of, prev_of}
 use Rattle.mn_flight_pool.specs.ByDue.{ticks_left}
-use Rattle.mn_flight_pool.specs.Whole.{ptrs}
+use Rattle.mn_flight_pool.specs.declared.node.Place.{Place}
 use Rattle.mn_flight_pool.specs.declared.node.Pair.TheVariants.{Due}
-use Rattle.mn_flight_pool.proofs.Put.{ptrs_push, count_read}
-use Rattle.mn_flight_pool.proofs.Take.{some_count, next_there, prev_there, no_item, same_item, below, some_on, number_ring, channel_ring, room_one, item_one}
+use Rattle.mn_flight_pool.proofs.Put.{count_read}
+use Rattle.mn_flight_pool.proofs.Take.{some_count, next_there, prev_there, no_item, same_item, below, some_on, number_ring, channel_ring, room_one, room_two, item_one}
 use Rattle.mn_flight_pool.proofs.Take.{take_held, take_items, take_counted, take_by_due, take_before}
 use Rattle.mn_flight_pool.proofs.Whole.{node_holds, items_count, none_last}
 use Rattle.mn_flight_pool.proofs.pool.Pool.take.Goals as goal
@@ -66,9 +66,13 @@ overflow_sub-index_mut g c =
     some_on c.args.self.now c.requires.whole c.args.node.index c.requires.node c.in_ok-item.item same.0 in
     omega (arith, read, some)
 
-pub push_reserved-requires : goal.push_reserved-requires
-push_reserved-requires g c =
-    omega (arith, c.requires.whole.room, some_count c.args.self.now c.requires.whole c.args.node.index c.requires.node)
+pub push-requires-clause-room : goal.push-requires-clause-room
+push-requires-clause-room g c =
+    room_two c.args.self.now c.requires.whole c.args.node.index c.requires.node c.unlink_due.new.store c.unlink_due.ensures.store
+    c.leave.new.store c.leave.ensures.left
+
+pub push-requires-clause-few : goal.push-requires-clause-few
+push-requires-clause-few g c = omega (arith, c.requires.whole.few)
 
 pub returns-clause-whole : goal.returns-clause-whole
 returns-clause-whole g c =
@@ -81,16 +85,16 @@ returns-clause-whole g c =
       held =
           take_held c.args.self.now c.requires.whole c.args.node.index c.requires.node c.in_ok-item.item same.0 c.unlink_due.new.store
           c.unlink_due.ensures.store c.leave.new.store c.leave.ensures.left
-          (ptrs c.push_reserved.new.self.items) (ap (λ l. ptrs l) c.push_reserved.ensures.items ∙ ptrs_push c.args.self.now.free.items c.args.node);
+          c.push.new.store c.push.ensures.store c.push.new.self (ap (λ (q : Place). q.index) c.push.ensures.first) c.push.ensures.count;
       counted =
           take_counted c.args.self.now c.requires.whole c.args.node.index c.requires.node c.in_ok-item.item same.0 c.unlink_due.new.store
-          c.unlink_due.ensures.store c.leave.new.store c.leave.ensures.left
+          c.unlink_due.ensures.store c.leave.new.store c.leave.ensures.left c.push.new.store c.push.ensures.store
           (slice_set c.args.self.now.counts.items c.in_ok-item.item.channel (c.index_mut.result.now - 1))
           (ap (λ m. slice_set c.args.self.now.counts.items c.in_ok-item.item.channel (m - 1))
           (count_read c.args.self.now c.requires.whole c.in_ok-item.item.channel c.index_mut.result.now within c.index_mut.ensures.value));
       by_due =
           take_by_due c.args.self.now c.requires.whole c.args.node.index c.requires.node c.in_ok-item.item same.0 c.unlink_due.new.store
-          c.unlink_due.ensures.store c.leave.new.store c.leave.ensures.left
+          c.unlink_due.ensures.store c.leave.new.store c.leave.ensures.left c.push.new.store c.push.ensures.store
           c.unlink_due.new.ticks.items
           (c.unlink_due.ensures.ticks
           ∙ ap (λ (z : Item g.row.T.Denot). ticks_left z.due (prev_of Due c.args.self.now.store c.args.node.index)
@@ -99,15 +103,7 @@ returns-clause-whole g c =
       few = omega (
         arith,
         c.requires.whole.few,
-        c.push_reserved.ensures.len,
-        some_count c.args.self.now c.requires.whole c.args.node.index
-            c.requires.node,
-      );
-      room = omega (
-        arith,
-        c.requires.whole.room,
-        c.push_reserved.ensures.len,
-        c.push_reserved.ensures.capacity,
+        c.push.ensures.count,
         some_count c.args.self.now c.requires.whole c.args.node.index
             c.requires.node,
       );
@@ -115,7 +111,7 @@ returns-clause-whole g c =
           omega (
             arith,
             c.requires.whole.ticks_room,
-            c.push_reserved.ensures.len,
+            c.push.ensures.count,
             c.unlink_due.ensures.capacity,
             some_count c.args.self.now c.requires.whole
                 c.args.node.index c.requires.node,
@@ -126,7 +122,7 @@ returns-clause-whole g c =
           omega (
             arith,
             c.requires.whole.recent_room,
-            c.push_reserved.ensures.len,
+            c.push.ensures.count,
             c.clear.ensures.capacity,
             some_count c.args.self.now c.requires.whole
                 c.args.node.index c.requires.node,
@@ -146,7 +142,7 @@ returns-clause-items g c =
     same_item c.args.self.now c.requires.whole c.args.node.index c.requires.node c.unlink_due.new.store c.unlink_due.ensures.store c.in_ok-due.field-0.now
     c.in_ok-item.item c.in_ok-due.ensures.value c.in_ok-item.ensures.value in
     take_items c.args.self.now c.requires.whole c.args.node.index c.requires.node c.in_ok-item.item same.0 c.unlink_due.new.store c.unlink_due.ensures.store
-    c.leave.new.store c.leave.ensures.left
+    c.leave.new.store c.leave.ensures.left c.push.new.store c.push.ensures.store
 
 pub returns-clause-length : goal.returns-clause-length
 returns-clause-length g c =
@@ -164,4 +160,4 @@ returns-clause-before g c =
     same_item c.args.self.now c.requires.whole c.args.node.index c.requires.node c.unlink_due.new.store c.unlink_due.ensures.store c.in_ok-due.field-0.now
     c.in_ok-item.item c.in_ok-due.ensures.value c.in_ok-item.ensures.value in
     take_before c.args.self.now c.requires.whole c.args.node.index c.requires.node c.in_ok-item.item same.0 c.unlink_due.new.store
-    c.unlink_due.ensures.store c.leave.new.store c.leave.ensures.left
+    c.unlink_due.ensures.store c.leave.new.store c.leave.ensures.left c.push.new.store c.push.ensures.store

@@ -18,7 +18,6 @@ returns-then-place-gt0-clause-whole g c =
       counted = w.counted;
       by_due = w.by_due;
       few = w.few;
-      room = w.room;
       ticks_room = w.ticks_room;
       recent = w.recent;
       recent_room = w.recent_room;
