@@ -41,7 +41,7 @@ module _ {T : Type 0} where
       (x : Item T) (first : ℕ) (at : slice_get heads x.channel ≡ Some first)
       (counts : List ℕ) (channels : ℕ) (counted : IsCounted counts channels order cells) (below : x.channel < channels) where
     lengths : (c : ℕ) (b : Bool) →
-        (x.channel == c) ≡ b → length (nodes_on (entered head first p x cells) c (order ++ p ∷ [])) ≡ length (nodes_on cells c order) + cond b 1 0
+        (x.channel == c) ≡ b → length (nodes_on (entered first p x cells) c (order ++ p ∷ [])) ≡ length (nodes_on cells c order) + cond b 1 0
     lengths c b e =
         ap length (enters.nodes_then head heads free order p cells linked x first at c ∙ ap (λ v. nodes_on cells c order ++ cond v (p ∷ []) []) e) ∙ by b
       where
@@ -49,9 +49,9 @@ module _ {T : Type 0} where
         by true = length-append (nodes_on cells c order) (p ∷ [])
         by false = length-append (nodes_on cells c order) []
 
-    pub counted_entered : IsCounted (slice_set counts x.channel (get_or counts x.channel 0 + 1)) channels (order ++ p ∷ []) (entered head first p x cells)
+    pub counted_entered : IsCounted (slice_set counts x.channel (get_or counts x.channel 0 + 1)) channels (order ++ p ∷ []) (entered first p x cells)
     counted_entered =
-        recount counts channels x.channel (get_or counts x.channel 0 + 1) order (order ++ p ∷ []) cells (entered head first p x cells) counted below
+        recount counts channels x.channel (get_or counts x.channel 0 + 1) order (order ++ p ∷ []) cells (entered first p x cells) counted below
         (ap (λ n. n + 1) (counted.each x.channel below) ∙ sym (lengths x.channel true (eq-eqb x.channel x.channel refl)))
         (λ c e. omega (arith, lengths c false e))
 

@@ -11,18 +11,15 @@ use Rattle.mn_flight_pool.specs.Ticks.{tick_at, last_by, put_tick}
 use Rattle.mn_flight_pool.specs.ByDue.{IsSooner, AreSooner, IsTick, HasTick, IsByDue}
 use Rattle.mn_flight_pool.specs.Pool.{IsLinked, entered}
 use Rattle.mn_flight_pool.specs.declared.tick.Tick.{Tick}
-use Rattle.mn_flight_pool.specs.declared.node.Pair.TheVariants.{Number, Channel, Due}
+use Rattle.mn_flight_pool.specs.declared.node.Pair.TheVariants.{Channel, Due}
 use Rattle.mn_flight_pool.specs.Nodes.{Node}
 use Rattle.mn_flight_pool.proofs.Changed.{some_value}
 use Rattle.mn_flight_pool.proofs.Neighbours.{free_from, free_at}
 use Rattle.mn_flight_pool.proofs.Rings.{ring_front, ring_behind, ring_past_link, ring_past_item, item_past_link, item_else}
-use Rattle.mn_flight_pool.proofs.Entered.{old_item, new_item, alone_heads, alone_order, p_there, three_there}
+use Rattle.mn_flight_pool.proofs.Entered.{old_item, new_item, alone_heads, alone_order, p_there, two_there}
 use Rattle.mn_flight_pool.proofs.Sooner.{in_cut, in_front, in_back, in_either, in_with, in_middle, all_in, sooner_same, sooner_with, sooner_before}
 use Rattle.mn_flight_pool.proofs.Sooner.{sooner_after, as_items, of_items, no_later, not_before, tick_item, item_tick, last_by_is, asc_put, all_put}
 use Rattle.mn_flight_pool.proofs.Sooner.{has_new, has_put}
-
-pub number_due : Number ≡ Due → ⊥
-number_due e = cc
 
 pub channel_due : Channel ≡ Due → ⊥
 channel_due e = cc
@@ -117,7 +114,7 @@ module _ {T : Type 0} where
       (dues : List ℕ) (ticks : List Tick) (due : IsByDue head order dues ticks cells) (greatest : (q : ℕ) (y : Item T) → IsIn q order →
       item_at cells q ≡ Some y → y.number < x.number) where
     abbrev pub three : List (Node T)
-    three = entered head first p x cells
+    three = entered first p x cells
 
     abbrev pub a : ℕ
     a = last_by x.due head ticks
@@ -140,9 +137,7 @@ module _ {T : Type 0} where
     pub due_three : IsRing Due three head dues
     due_three =
         let one = with_item p (Some x) cells in
-        let two = link_behind Number p (prev_of Number one head) one in
-        ring_past_link Channel Due channel_due p (prev_of Channel two first) two head dues
-        (ring_past_link Number Due number_due p (prev_of Number one head) one head dues (ring_past_item Due p (Some x) cells head dues due.ring))
+        ring_past_link Channel Due channel_due p (prev_of Channel one first) one head dues (ring_past_item Due p (Some x) cells head dues due.ring)
 
     fresh : IsFree p (head ∷ dues)
     fresh = (
@@ -201,7 +196,7 @@ module _ {T : Type 0} where
     pub due_entered : IsByDue head (order ++ p ∷ []) then (put_tick x.due p ticks) four
     due_entered = record {
       ring = linked_at p head a three
-          (three_there head heads free order p cells linked x first at p (p_there head heads free order p cells linked x first at)) stand.front stand.behind
+          (two_there head heads free order p cells linked x first at p (p_there head heads free order p cells linked x first at)) stand.front stand.behind
           stand.end (subst (λ l. IsRing Due three head l) stand.cut due_three) (subst (λ l. IsFree p (head ∷ l)) stand.cut fresh);
       vacant = item_past_link Due p a head three ∙ vacant_three;
       sooner = sooner_with four stand.front p stand.behind before_it behind_it
@@ -237,6 +232,4 @@ module _ {T : Type 0} where
         vacant_three : item_at three head ≡ None
         vacant_three =
             let one = with_item p (Some x) cells in
-            let two = link_behind Number p (prev_of Number one head) one in
-            item_past_link Channel p (prev_of Channel two first) head two ∙ item_past_link Number p (prev_of Number one head) head one
-            ∙ item_else p head (Some x) cells fresh.0 ∙ due.vacant
+            item_past_link Channel p (prev_of Channel one first) head one ∙ item_else p head (Some x) cells fresh.0 ∙ due.vacant

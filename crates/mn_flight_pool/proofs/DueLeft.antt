@@ -13,15 +13,16 @@ use Rattle.mn_flight_pool.specs.ByDue.{is_due, IsSooner, AreSooner, IsTick, HasT
 use Rattle.mn_flight_pool.specs.Pool.{IsLinked, left}
 use Rattle.mn_flight_pool.specs.declared.tick.Tick.{Tick}
 use Rattle.mn_flight_pool.specs.declared.node.Pair.{Pair}
-use Rattle.mn_flight_pool.specs.declared.node.Pair.TheVariants.{Number, Channel, Due}
+use Rattle.mn_flight_pool.specs.declared.node.Pair.TheVariants.{Channel, Due}
 use Rattle.mn_flight_pool.specs.Nodes.{Node}
 use Rattle.mn_flight_pool.proofs.Changed.{some_value, same_place_eq, same_place_refl}
+use Rattle.mn_flight_pool.proofs.Linked.{order_apart}
 use Rattle.mn_flight_pool.proofs.Neighbours.{neighbour, last_of_cons, free_at, others_free}
 use Rattle.mn_flight_pool.proofs.Rings.{ring_unlinked, ring_past_unlink, ring_past_item, item_past_unlink, item_else}
 use Rattle.mn_flight_pool.proofs.Sooner.{in_cut, in_front, in_back, in_either, in_with, in_without, in_middle, all_in, sooner_same, sooner_without}
 use Rattle.mn_flight_pool.proofs.Sooner.{sooner_before, sooner_after, as_items, no_later, not_before, number_before, tick_item, item_tick, asc_set}
 use Rattle.mn_flight_pool.proofs.Sooner.{asc_drop, all_set, all_drop, all_kept, has_set, has_drop}
-use Rattle.mn_flight_pool.proofs.DueEntered.{IsEnd, number_due, channel_due}
+use Rattle.mn_flight_pool.proofs.DueEntered.{IsEnd, channel_due}
 
 abbrev IsStart : ℕ → List ℕ → ℕ → Type 0
 IsStart s vs b = ((vs ≡ []) × (b ≡ s)) ⊎ ((ws : List ℕ) × (vs ≡ b ∷ ws))
@@ -110,7 +111,7 @@ module _ {T : Type 0} where
     other_rest : (q : ℕ) → IsIn q rest → q ≡ p → ⊥
     other_rest q i e =
         not_both_ways (same_place p q) (subst (λ r. same_place p r ≡ true) (sym e) (same_place_refl p))
-        (free_at p rest q (others_free us₀ p vs₀ (tail_apart head order linked.number.apart)) i)
+        (free_at p rest q (others_free us₀ p vs₀ (tail_apart head order (order_apart head heads free order cells linked))) i)
 
     other_then : (q : ℕ) → IsIn q then → q ≡ p → ⊥
     other_then q i e =
@@ -128,8 +129,7 @@ module _ {T : Type 0} where
 
     item_kept : (q : ℕ) → (q ≡ p → ⊥) → item_at three q ≡ item_at cells q
     item_kept q n =
-        item_else p q None (unlink Channel p (unlink Number p one)) (apart (same_place p q) refl) ∙ item_past_unlink Channel p q (unlink Number p one)
-        ∙ item_past_unlink Number p q one ∙ item_past_unlink Due p q cells
+        item_else p q None (unlink Channel p one) (apart (same_place p q) refl) ∙ item_past_unlink Channel p q one ∙ item_past_unlink Due p q cells
       where
         apart : (b : Bool) → same_place p q ≡ b → same_place p q ≡ false
         apart true t = absurd (n (sym (same_place_eq p q t)))
@@ -144,9 +144,8 @@ module _ {T : Type 0} where
     -- 2. The ring, and the order in it
     ring_then : IsRing Due three head then
     ring_then =
-        ring_past_item Due p None (unlink Channel p (unlink Number p one)) head then
-        (ring_past_unlink Channel Due channel_due p (unlink Number p one) head then
-        (ring_past_unlink Number Due number_due p one head then (ring_unlinked Due head cells us p vs ring)))
+        ring_past_item Due p None (unlink Channel p one) head then
+        (ring_past_unlink Channel Due channel_due p one head then (ring_unlinked Due head cells us p vs ring))
 
     sooner_then : AreSooner three then
     sooner_then = sooner_same cells three then item_then (sooner_without cells us p vs sooner)

@@ -1,4 +1,4 @@
--- A node that takes an item comes to stand in the ring of all and in its channel's.
+-- A node that takes an item comes to stand in its channel's ring.
 use Rattle.std.proofs.Common.{◌≡◌, ℕ, true, false, cond, Bool, List, [], ◌∷◌, ◌++◌, Option, Some, None, IsSome, inl, inr, refl, sym, ap, ◌∙◌, subst}
 use Rattle.std.proofs.Common.{append_assoc, append-nil, eq-eqb}
 use Rattle.std.specs.Prelude.{◌==◌, filter, filter_map, slice_get}
@@ -8,15 +8,15 @@ use Rattle.std.proofs.lemmas.Option.{same_Some}
 use Rattle.std.proofs.lemmas.List.Elements.{filter-append, filter_map-append}
 use Rattle.mn_flight.specs.declared.Item.{Item}
 use Rattle.mn_flight_pool.specs.Cells.{same_place, value_at}
-use Rattle.mn_flight_pool.specs.Rings.{IsFree, IsRing, item_at, room_at, with_item, prev_of, link_behind, IsIn}
+use Rattle.mn_flight_pool.specs.Rings.{IsFree, IsRing, item_at, room_at, with_item, prev_of, IsIn}
 use Rattle.mn_flight_pool.specs.Pool.{is_on, items_in, nodes_on, IsLinked, entered}
-use Rattle.mn_flight_pool.specs.declared.node.Pair.TheVariants.{Number, Channel}
+use Rattle.mn_flight_pool.specs.declared.node.Pair.TheVariants.{Channel}
 use Rattle.mn_flight_pool.specs.Nodes.{Node}
 use Rattle.mn_flight_pool.proofs.Changed.{same_place_eq}
 use Rattle.mn_flight_pool.proofs.Changed.{same_place_symm, stays}
 use Rattle.mn_flight_pool.proofs.Neighbours.{in_left, in_at, free_left, free_right, free_from, free_at, others_free, distinct_with, distinct_without}
 use Rattle.mn_flight_pool.proofs.Neighbours.{apart_parts, at_places}
-use Rattle.mn_flight_pool.proofs.Rings.{ring_back, ring_last, ring_past_link, ring_past_item, ring_aside_link, link_stays, item_past_link, item_put, item_else}
+use Rattle.mn_flight_pool.proofs.Rings.{ring_back, ring_last, ring_past_item, ring_aside_link, link_stays, item_past_link, item_put, item_else}
 use Rattle.mn_flight_pool.proofs.Rings.{room_past_link, room_past_item}
 
 pub in_right : (xs ys : List ℕ) (x : ℕ) → IsIn x ys → IsIn x (xs ++ ys)
@@ -34,12 +34,6 @@ from_filter test x (y ∷ ys) i = split (test y) refl (from_filter test x ys) i
 
 pub free_filter : (p : ℕ) (test : ℕ → Bool) (xs : List ℕ) → IsFree p xs → IsFree p (filter test xs)
 free_filter p test xs f = free_from p (filter test xs) (λ x i. free_at p xs x f (from_filter test x xs i).1)
-
-pub unlike : Number ≡ Channel → ⊥
-unlike e = cc
-
-pub unlike' : Channel ≡ Number → ⊥
-unlike' e = cc
 
 module _ {T : Type 0} where
   pub one_channel : (c d : ℕ) (o : Option (Item T)) → is_on c o ≡ true → is_on d o ≡ true → c ≡ d
@@ -65,10 +59,7 @@ module _ {T : Type 0} where
     one = with_item p (Some x) cells
 
     abbrev two : List (Node T)
-    two = link_behind Number p (prev_of Number one head) one
-
-    abbrev three : List (Node T)
-    three = entered head first p x cells
+    two = entered first p x cells
 
     -- 1. The node is none of the others
     abbrev others : List ℕ
@@ -98,33 +89,20 @@ module _ {T : Type 0} where
         last_there (f ∷ fs) h = last_there fs h.1
 
     -- 2. What holds of the others' items, and of its own
-    pub old_item : (q : ℕ) → IsIn q order → item_at three q ≡ item_at cells q
+    pub old_item : (q : ℕ) → IsIn q order → item_at two q ≡ item_at cells q
     old_item q i =
-        item_past_link Channel p (prev_of Channel two first) q two ∙ item_past_link Number p (prev_of Number one head) q one
-        ∙ item_else p q (Some x) cells (free_at p order q alone_order i)
+        item_past_link Channel p (prev_of Channel one first) q one ∙ item_else p q (Some x) cells (free_at p order q alone_order i)
 
-    pub new_item : item_at three p ≡ Some x
+    pub new_item : item_at two p ≡ Some x
     new_item =
-        item_past_link Channel p (prev_of Channel two first) p two ∙ item_past_link Number p (prev_of Number one head) p one
-        ∙ item_put p (Some x) cells p_there
+        item_past_link Channel p (prev_of Channel one first) p one ∙ item_put p (Some x) cells p_there
 
     one_there : IsSome (value_at p one)
     one_there = stays p p (λ (node : Node T). record node { item = Some x }) cells p_there
 
-    two_there : IsSome (value_at p two)
-    two_there = link_stays Number p (prev_of Number one head) p one one_there
-
-    -- 3. The ring of all
-    pub number_entered : IsRing Number three head (order ++ p ∷ [])
-    number_entered =
-        ring_past_link Channel Number unlike' p (prev_of Channel two first) two head (order ++ p ∷ [])
-        (ring_back Number p head one one_there order (ring_past_item Number p (Some x) cells head order linked.number) (alone_heads.0, alone_order))
-
-    -- 4. The channels' rings
-    ring_two : (c : ℕ) (f : ℕ) → slice_get heads c ≡ Some f → IsRing Channel two f (nodes_on cells c order)
-    ring_two c f e =
-        ring_past_link Number Channel unlike p (prev_of Number one head) one f (nodes_on cells c order)
-        (ring_past_item Channel p (Some x) cells f (nodes_on cells c order) (linked.channel c f e))
+    -- 3. The channels' rings
+    ring_one : (c : ℕ) (f : ℕ) → slice_get heads c ≡ Some f → IsRing Channel one f (nodes_on cells c order)
+    ring_one c f e = ring_past_item Channel p (Some x) cells f (nodes_on cells c order) (linked.channel c f e)
 
     alone_ring : (c : ℕ) (f : ℕ) → slice_get heads c ≡ Some f → IsFree p (f ∷ nodes_on cells c order)
     alone_ring c f e = (free_at p heads f alone_heads.1 (in_at heads c f e), free_filter p (λ q. is_on c (item_at cells q)) order alone_order)
@@ -159,36 +137,36 @@ module _ {T : Type 0} where
             by true t = absurd (n (same_place_eq a q t))
             by false t = t
 
-    pub nodes_then : (c : ℕ) → nodes_on three c (order ++ p ∷ []) ≡ nodes_on cells c order ++ cond (x.channel == c) (p ∷ []) []
+    pub nodes_then : (c : ℕ) → nodes_on two c (order ++ p ∷ []) ≡ nodes_on cells c order ++ cond (x.channel == c) (p ∷ []) []
     nodes_then c =
-        filter-append (λ q. is_on c (item_at three q)) order (p ∷ [])
-        ∙ ap (λ l. l ++ filter (λ q. is_on c (item_at three q)) (p ∷ [])) (same_nodes_on cells three c order old_item)
+        filter-append (λ q. is_on c (item_at two q)) order (p ∷ [])
+        ∙ ap (λ l. l ++ filter (λ q. is_on c (item_at two q)) (p ∷ [])) (same_nodes_on cells two c order old_item)
         ∙ ap (λ o. nodes_on cells c order ++ cond (is_on c o) (p ∷ []) []) new_item
 
-    pub channel_entered : (c : ℕ) (f : ℕ) → slice_get heads c ≡ Some f → IsRing Channel three f (nodes_on three c (order ++ p ∷ []))
-    channel_entered c f e = subst (λ l. IsRing Channel three f l) (sym (nodes_then c)) (by (x.channel == c) refl)
+    pub channel_entered : (c : ℕ) (f : ℕ) → slice_get heads c ≡ Some f → IsRing Channel two f (nodes_on two c (order ++ p ∷ []))
+    channel_entered c f e = subst (λ l. IsRing Channel two f l) (sym (nodes_then c)) (by (x.channel == c) refl)
       where
-        by : (b : Bool) → (x.channel == c) ≡ b → IsRing Channel three f (nodes_on cells c order ++ cond b (p ∷ []) [])
+        by : (b : Bool) → (x.channel == c) ≡ b → IsRing Channel two f (nodes_on cells c order ++ cond b (p ∷ []) [])
         by true t =
             let same : x.channel ≡ c = eqb-true x.channel c t in
             let firsts : first ≡ f = same_Some first f (sym at ∙ ap (λ n. slice_get heads n) same ∙ e) in
-            subst (λ g. IsRing Channel three g (nodes_on cells c order ++ p ∷ [])) firsts
-            (ring_back Channel p first two two_there (nodes_on cells c order)
-            (subst (λ n. IsRing Channel two first (nodes_on cells n order)) same (ring_two x.channel first at))
+            subst (λ g. IsRing Channel two g (nodes_on cells c order ++ p ∷ [])) firsts
+            (ring_back Channel p first one one_there (nodes_on cells c order)
+            (subst (λ n. IsRing Channel one first (nodes_on cells n order)) same (ring_one x.channel first at))
             (subst (λ n. IsFree p (first ∷ nodes_on cells n order)) same (alone_ring x.channel first at)))
         by false t =
             let ne : x.channel ≡ c → ⊥ = λ same. clash (x.channel == c) (eq-eqb x.channel c same) t in
-            let last = ring_last Channel two first (nodes_on cells x.channel order) (ring_two x.channel first at) in
-            subst (λ l. IsRing Channel three f l) (sym (append-nil (nodes_on cells c order)))
-            (ring_aside_link Channel p (prev_of Channel two first) two f (nodes_on cells c order) (alone_ring c f e)
-            (strangers x.channel c first f at e ne (prev_of Channel two first) last.0)
-            (subst (λ g. IsFree g (f ∷ nodes_on cells c order)) (sym last.1) (strangers x.channel c first f at e ne first (inl refl))) (ring_two c f e))
+            let last = ring_last Channel one first (nodes_on cells x.channel order) (ring_one x.channel first at) in
+            subst (λ l. IsRing Channel two f l) (sym (append-nil (nodes_on cells c order)))
+            (ring_aside_link Channel p (prev_of Channel one first) one f (nodes_on cells c order) (alone_ring c f e)
+            (strangers x.channel c first f at e ne (prev_of Channel one first) last.0)
+            (subst (λ g. IsFree g (f ∷ nodes_on cells c order)) (sym last.1) (strangers x.channel c first f at e ne first (inl refl))) (ring_one c f e))
           where
             clash : (b : Bool) → b ≡ true → b ≡ false → ⊥
             clash true q r = cc
             clash false q r = cc
 
-    -- 5. All together
+    -- 4. All together
     all_old : (P : ℕ → Type 0) (xs : List ℕ) → ((q : ℕ) → IsIn q xs → P q) → AllByRecursion P xs
     all_old P [] h = tt
     all_old P (q ∷ qs) h = (h q (inl refl), all_old P qs (λ r i. h r (inr i)))
@@ -205,23 +183,20 @@ module _ {T : Type 0} where
     all_front P [] h = tt
     all_front P (y ∷ ys) h = (h.0, all_front P ys h.1)
 
-    pub three_there : (q : ℕ) → IsSome (value_at q cells) → IsSome (value_at q three)
-    three_there q h =
-        link_stays Channel p (prev_of Channel two first) q two
-        (link_stays Number p (prev_of Number one head) q one (stays p q (λ (node : Node T). record node { item = Some x }) cells h))
+    pub two_there : (q : ℕ) → IsSome (value_at q cells) → IsSome (value_at q two)
+    two_there q h =
+        link_stays Channel p (prev_of Channel one first) q one (stays p q (λ (node : Node T). record node { item = Some x }) cells h)
 
-    pub room_three : (q : ℕ) → room_at three q ≡ room_at cells q
-    room_three q =
-        room_past_link Channel p (prev_of Channel two first) q two ∙ room_past_link Number p (prev_of Number one head) q one
-        ∙ room_past_item p q (Some x) cells
+    pub room_two : (q : ℕ) → room_at two q ≡ room_at cells q
+    room_two q =
+        room_past_link Channel p (prev_of Channel one first) q one ∙ room_past_item p q (Some x) cells
 
     room_order : (qs : List ℕ) → ((q : ℕ) → IsIn q qs → room_at cells q ≡ true) → (q : ℕ) → IsIn q (qs ++ p ∷ []) → room_at cells q ≡ true
     room_order [] old q i = elim i [ inl e ↦ subst (λ r. room_at cells r ≡ true) (sym e) (linked.free_room p (in_right free (p ∷ []) p (inl refl))) | inr j ↦ absurd j ]
     room_order (r ∷ qs) old q i = elim i [ inl e ↦ old q (inl e) | inr j ↦ room_order qs (λ s k. old s (inr k)) q j ]
 
-    pub linked_entered : IsLinked head heads free (order ++ p ∷ []) three
+    pub linked_entered : IsLinked head heads free (order ++ p ∷ []) two
     linked_entered = record {
-      number = number_entered;
       channel = channel_entered;
       apart =
           let moved : ((head ∷ heads) ++ order) ++ p ∷ free ≡ (head ∷ heads) ++ ((order ++ p ∷ []) ++ free) =
@@ -230,17 +205,17 @@ module _ {T : Type 0} where
           subst (λ l. IsDistinct same_place l) moved
           (distinct_with ((head ∷ heads) ++ order) p free (subst (λ l. IsFree p l) split alone) (subst (λ l. IsDistinct same_place l) split rest_apart));
       held =
-          all_push (λ q. IsSome (item_at three q)) order
-          (all_old (λ q. IsSome (item_at three q)) order (λ q i. rw (old_item q i) (all_at (λ r. IsSome (item_at cells r)) order q linked.held i)))
+          all_push (λ q. IsSome (item_at two q)) order
+          (all_old (λ q. IsSome (item_at two q)) order (λ q i. rw (old_item q i) (all_at (λ r. IsSome (item_at cells r)) order q linked.held i)))
           (rw new_item refl);
-      there = all_old (λ q. IsSome (value_at q three)) free
-          (λ q i. three_there q (all_at (λ r. IsSome (value_at r cells)) free q (all_front (λ r. IsSome (value_at r cells)) free linked.there) i));
-      head_room = room_three head ∙ linked.head_room;
-      order_room = λ q i. room_three q ∙ room_order order linked.order_room q i;
-      free_room = λ q i. room_three q ∙ linked.free_room q (in_left free (p ∷ []) q i);
+      there = all_old (λ q. IsSome (value_at q two)) free
+          (λ q i. two_there q (all_at (λ r. IsSome (value_at r cells)) free q (all_front (λ r. IsSome (value_at r cells)) free linked.there) i));
+      head_room = room_two head ∙ linked.head_room;
+      order_room = λ q i. room_two q ∙ room_order order linked.order_room q i;
+      free_room = λ q i. room_two q ∙ linked.free_room q (in_left free (p ∷ []) q i);
     }
 
-    pub items_entered : items_in three (order ++ p ∷ []) ≡ items_in cells order ++ x ∷ []
+    pub items_entered : items_in two (order ++ p ∷ []) ≡ items_in cells order ++ x ∷ []
     items_entered =
-        filter_map-append (item_at three) order (p ∷ []) ∙ ap (λ l. l ++ filter_map (item_at three) (p ∷ [])) (same_items cells three order old_item)
+        filter_map-append (item_at two) order (p ∷ []) ∙ ap (λ l. l ++ filter_map (item_at two) (p ∷ [])) (same_items cells two order old_item)
         ∙ ap (λ o. items_in cells order ++ cons_option o []) new_item

@@ -1,5 +1,5 @@
 -- The nodes that hold no item, one behind another.
-use Rattle.std.proofs.Common.{◌≡◌, ℕ, zero, suc, true, false, List, [], ◌∷◌, ◌++◌, Some, None, IsSome, inl, inr, refl, sym, ap, ◌∙◌, subst, append_assoc, append-nil}
+use Rattle.std.proofs.Common.{◌≡◌, ℕ, zero, suc, false, List, [], ◌∷◌, ◌++◌, Some, None, IsSome, inl, inr, refl, sym, ap, ◌∙◌, subst, append_assoc, append-nil}
 use Rattle.std.specs.List.{AllByRecursion, IsDistinct}
 use Rattle.mn_flight_pool.specs.Cells.{same_place, value_at}
 use Rattle.mn_flight_pool.specs.Rings.{IsFree, IsIn, IsRing, item_in, item_at, room_in, next_in, prev_in, next_of, prev_of, with_item, set_next, set_prev, link_behind, unlink}
@@ -8,7 +8,7 @@ use Rattle.mn_flight_pool.specs.ByDue.{IsByDue, IsTick}
 use Rattle.mn_flight_pool.specs.Nodes.{Node}
 use Rattle.mn_flight_pool.specs.declared.node.Link.{Link}
 use Rattle.mn_flight_pool.specs.declared.node.Pair.{Pair}
-use Rattle.mn_flight_pool.specs.declared.node.Pair.TheVariants.{Number, Channel, Due}
+use Rattle.mn_flight_pool.specs.declared.node.Pair.TheVariants.{Channel, Due}
 use Rattle.mn_flight_pool.specs.declared.tick.Tick.{Tick}
 use Rattle.mn_flight.specs.declared.Item.{Item}
 use Rattle.mn_flight_pool.proofs.Changed.{next_stays, keeps}
@@ -17,7 +17,8 @@ use Rattle.mn_flight_pool.proofs.Rings.{Unlike, item_kept, room_kept, link_unlik
 use Rattle.mn_flight_pool.proofs.Rings.{next_at, next_else, next_past, prev_past}
 use Rattle.mn_flight_pool.proofs.Sooner.{all_in, sooner_same, tick_item, item_tick, all_kept}
 use Rattle.mn_flight_pool.proofs.Entered.{in_right}
-use Rattle.mn_flight_pool.proofs.PastDue.{Alike, due_number, due_channel}
+use Rattle.mn_flight_pool.proofs.PastDue.{Alike, due_channel}
+use Rattle.mn_flight_pool.proofs.DueEntered.{channel_due}
 
 -- 1. The ring by due tick where the items stay
 module _ {T : Type 0} where
@@ -75,7 +76,6 @@ module _ {T : Type 0} where
   module _ (head : ℕ) (heads rest order : List ℕ) (p : ℕ) (cells : List (Node T)) where
     pub linked_turned : IsLinked head heads (p ∷ rest) order cells → IsLinked head heads (rest ++ p ∷ []) order cells
     linked_turned linked = record {
-      number = linked.number;
       channel = linked.channel;
       apart = subst (λ l. IsDistinct same_place l) (sym (at_front head heads order (rest ++ p ∷ [])))
           (apart_turned ((head ∷ heads) ++ order) rest p (subst (λ l. IsDistinct same_place l) (at_front head heads order (p ∷ rest)) linked.apart));
@@ -88,7 +88,6 @@ module _ {T : Type 0} where
 
     pub linked_back : IsLinked head heads (rest ++ p ∷ []) order cells → IsLinked head heads (p ∷ rest) order cells
     linked_back linked = record {
-      number = linked.number;
       channel = linked.channel;
       apart = subst (λ l. IsDistinct same_place l) (sym (at_front head heads order (p ∷ rest)))
           (apart_back ((head ∷ heads) ++ order) rest p (subst (λ l. IsDistinct same_place l) (at_front head heads order (rest ++ p ∷ [])) linked.apart));
@@ -122,32 +121,17 @@ module _ {T : Type 0} where
   free_same old new p (suc n) h =
       ap (λ q. p ∷ chain (next_of Due new) q n) (h p (inl refl)) ∙ ap (λ l. p ∷ l) (free_same old new (next_of Due old p) n (λ q i. h q (inr i)))
 
-  -- an item and the neighbours in other rings don't change a node's next
-  pub next_entered : (head first p : ℕ) (x : Item T) (cells : List (Node T)) (q : ℕ) → next_of Due (entered head first p x cells) q ≡ next_of Due cells q
-  next_entered head first p x cells q =
-      let one = with_item p (Some x) cells in let two = link_behind Number p (prev_of Number one head) one in
-      link_leaves Channel (next_in Due) (λ link node. ap (λ (l : Link). l.next.index) (link_unlike Channel Due channel_due link node)) p (prev_of Channel two first) q two
-      ∙ link_leaves Number (next_in Due) (λ link node. ap (λ (l : Link). l.next.index) (link_unlike Number Due number_due link node)) p (prev_of Number one head) q one
+  -- an item and the neighbours on a channel don't change a node's next
+  pub next_entered : (first p : ℕ) (x : Item T) (cells : List (Node T)) (q : ℕ) → next_of Due (entered first p x cells) q ≡ next_of Due cells q
+  next_entered first p x cells q =
+      let one = with_item p (Some x) cells in
+      link_leaves Channel (next_in Due) (λ link node. ap (λ (l : Link). l.next.index) (link_unlike Channel Due channel_due link node)) p (prev_of Channel one first) q one
       ∙ keeps (next_in Due) p q (λ (node : Node T). record node { item = Some x }) cells (item_next Due (Some x))
-    where
-      channel_due : Channel ≡ Due → ⊥
-      channel_due e = cc
-
-      number_due : Number ≡ Due → ⊥
-      number_due e = cc
 
   pub next_left : (p : ℕ) (cells : List (Node T)) (q : ℕ) → next_of Due (left p cells) q ≡ next_of Due cells q
   next_left p cells q =
-      let one = unlink Number p cells in let two = unlink Channel p one in
-      keeps (next_in Due) p q (λ (node : Node T). record node { item = None }) two (item_next Due None)
-      ∙ unlink_leaves Channel (next_in Due) (λ link node. ap (λ (l : Link). l.next.index) (link_unlike Channel Due channel_due link node)) p q one
-      ∙ unlink_leaves Number (next_in Due) (λ link node. ap (λ (l : Link). l.next.index) (link_unlike Number Due number_due link node)) p q cells
-    where
-      channel_due : Channel ≡ Due → ⊥
-      channel_due e = cc
-
-      number_due : Number ≡ Due → ⊥
-      number_due e = cc
+      keeps (next_in Due) p q (λ (node : Node T). record node { item = None }) (unlink Channel p cells) (item_next Due None)
+      ∙ unlink_leaves Channel (next_in Due) (λ link node. ap (λ (l : Link). l.next.index) (link_unlike Channel Due channel_due link node)) p q cells
 
   -- nor do links of other nodes
   pub next_linked : (p a : ℕ) (cells : List (Node T)) (q : ℕ) → same_place p q ≡ false → same_place a q ≡ false →
@@ -179,7 +163,6 @@ module _ {T : Type 0} where
       stay = λ q h. next_stays Due p f q cells new refl h;
       items = λ q. set_next_leaves Due item_in (item_kept Due) p f q cells;
       rooms = λ q. set_next_leaves Due room_in (room_kept Due) p f q cells;
-      number = ring_past Number due_number;
       channel = ring_past Channel due_channel;
     }
 

@@ -8,27 +8,30 @@ use Rattle.mn_flight.proofs.Kept.{none_flies}
 use Rattle.mn_flight_pool.specs.Cells.{same_place, value_at}
 use Rattle.mn_flight_pool.specs.Rings.{IsIn, IsRing, IsVacantLast, item_in, item_at, room_at, next_in, prev_in, next_of, link_of, with_link, set_next, lone}
 use Rattle.mn_flight_pool.specs.ByDue.{IsByDue}
-use Rattle.mn_flight_pool.specs.Pool.{items_in, nodes_on, order_of, free_of, trace, IsHeld}
-use Rattle.mn_flight_pool.specs.Whole.{AreLast, ptrs, dues_of, order_in, free_in, items_of, IsWhole, IsCounted}
+use Rattle.mn_flight_pool.specs.Pool.{items_in, nodes_on, dues_of, order_of, free_of, trace, IsLinked, IsHeld}
+use Rattle.mn_flight_pool.specs.Whole.{AreLast, ptrs, order_in, free_in, items_of, IsWhole, IsCounted}
 use Rattle.mn_flight_pool.specs.declared.pool.Pool.{Pool}
 use Rattle.mn_flight_pool.specs.declared.free.Free.{Free}
 use Rattle.mn_flight_pool.specs.declared.node.Place.{Place}
 use Rattle.mn_flight_pool.specs.declared.tick.Tick.{Tick}
 use Rattle.mn_flight_pool.specs.declared.node.Pair.{Pair}
-use Rattle.mn_flight_pool.specs.declared.node.Pair.TheVariants.{Number, Channel, Due}
+use Rattle.mn_flight_pool.specs.declared.node.Pair.TheVariants.{Channel, Due}
 use Rattle.mn_flight_pool.specs.declared.node.Link.{Link}
 use Rattle.mn_flight_pool.specs.Nodes.{Node, firsts, lone_firsts}
 use Rattle.mn_flight_pool.proofs.Changed.{value_other, next_stays, prev_stays}
 use Rattle.mn_flight_pool.proofs.Rings.{Unlike, room_lone, next_at, prev_at, next_past, set_next_leaves, set_prev_leaves, link_unlike, item_kept, ring_same}
-use Rattle.mn_flight_pool.proofs.Entered.{same_nodes_on, unlike}
+use Rattle.mn_flight_pool.proofs.Entered.{same_nodes_on}
 use Rattle.mn_flight_pool.proofs.Finger.{finger_kept}
 use Rattle.mn_flight_pool.proofs.Held as held
 use Rattle.mn_flight_pool.proofs.FreeNodes.{by_due_same, free_same}
 use Rattle.mn_flight_pool.proofs.Freed.{held_freed, order_freed, items_freed, nodes_freed, counted_freed, by_due_freed}
 use Rattle.mn_flight_pool.proofs.Sooner.{all_in}
 use Rattle.mn_flight_pool.proofs.Traces.{trace_ring}
-use Rattle.mn_flight_pool.proofs.Whole.{order_length}
-use Rattle.mn_flight_pool.proofs.PastDue.{due_number, due_channel}
+use Rattle.mn_flight_pool.proofs.Whole.{order_length, ascends}
+use Rattle.mn_flight_pool.proofs.Linked.{head_there}
+use Rattle.mn_flight_pool.proofs.Sorted.{ascend_same, order_is}
+use Rattle.mn_flight.specs.Flying.{IsFlight}
+use Rattle.mn_flight_pool.proofs.PastDue.{due_channel}
 use Rattle.mn_flight_pool.proofs.Firsts.{first_is, apart_firsts, many, ring_alone}
 
 -- a list that was empty and has so many of a value since
@@ -94,28 +97,53 @@ module _ {T : Type 0} where
     heads_there : AllByRecursion (λ q. IsSome (value_at q pool.store)) (firsts pool.channels)
     heads_there = held.heads_there pool.head.index (firsts pool.channels) (free_in pool) (order_in pool) pool.store whole.held.linked
 
-    same_order : order_of pool.head.index pool.count new ≡ order_in pool
-    same_order =
-        held.order_kept node.index pool.store new added fresh pool.head.index (firsts pool.channels) (free_in pool) pool.count whole.held heads_there
-
     same_item : (q : ℕ) → IsIn q (order_in pool) → item_at new q ≡ item_at pool.store q
     same_item q i =
-        held.item_kept node.index pool.store new added fresh pool.head.index (firsts pool.channels)
-        (free_in pool) pool.count whole.held heads_there q i
+        held.item_kept node.index pool.store new added fresh pool.head.index (firsts pool.channels) (free_in pool) (order_in pool) whole.held.linked
+        heads_there q i
+
+    abbrev dues : List ℕ
+    dues = dues_of pool.head.index pool.count pool.store
+
+    new_due_ring : IsRing Due new pool.head.index dues
+    new_due_ring = held.ring_kept node.index pool.store new added fresh Due pool.head.index dues whole.by_due.ring
+
+    same_dues : dues_of pool.head.index pool.count new ≡ dues
+    same_dues =
+        let many : length dues ≡ pool.count = whole.by_due.many ∙ order_length pool whole in
+        ap (λ n. trace (next_of Due new) pool.head.index n) (sym many) ∙ trace_ring Due new pool.head.index dues new_due_ring
+
+    head_vacant : item_at new pool.head.index ≡ None
+    head_vacant =
+        ap item_in (held.value_kept node.index pool.store new added fresh pool.head.index
+        (head_there pool.head.index (firsts pool.channels) (free_in pool) (order_in pool) pool.store whole.held.linked)) ∙ whole.by_due.vacant
+
+    due_added : IsByDue pool.head.index (order_in pool) dues pool.ticks.items new
+    due_added = by_due_same pool.head.index (order_in pool) dues pool.ticks.items pool.store new whole.by_due new_due_ring head_vacant same_item
+
+    same_order : order_of pool.head.index pool.count new ≡ order_in pool
+    same_order =
+        order_is new pool.head.index pool.count (order_in pool) dues pool.ticks.items due_added same_dues
+        (ascend_same pool.store new (order_in pool) same_item (ascends pool whole))
+
+    items_added : items_in new (order_of pool.head.index pool.count new) ≡ items_of pool
+    items_added =
+        ap (λ o. items_in new o) same_order
+        ∙ held.items_added node.index pool.store new added fresh pool.head.index (firsts pool.channels) (free_in pool) (order_in pool) whole.held.linked heads_there
 
     held_added : room_at new node.index ≡ true → IsHeld pool.head.index (firsts pool.channels) (free_in pool ++ node.index ∷ []) pool.count new
-    held_added own =
-        held.held_added node.index pool.store new added fresh pool.head.index (firsts pool.channels) (free_in pool) pool.count whole.held heads_there own
+    held_added own = record {
+      linked = subst (λ o. IsLinked pool.head.index (firsts pool.channels) (free_in pool ++ node.index ∷ []) o new) (sym same_order)
+          (held.linked_added node.index pool.store new added fresh pool.head.index (firsts pool.channels) (free_in pool) (order_in pool) whole.held.linked
+          heads_there own);
+      flight = subst (λ xs. IsFlight (length (firsts pool.channels)) xs) (sym items_added) whole.held.flight;
+    }
 
     same_free : free_of pool.free.first.index pool.free.count new ≡ free_in pool
     same_free =
         free_same pool.store new pool.free.first.index pool.free.count
         (λ q i. ap (next_in Due) (held.value_kept node.index pool.store new added fresh q
         (all_in (λ r. IsSome (value_at r pool.store)) (free_in pool) q whole.held.linked.there i)))
-
-    items_added : items_in new (order_of pool.head.index pool.count new) ≡ items_of pool
-    items_added =
-        held.items_added node.index pool.store new added fresh pool.head.index (firsts pool.channels) (free_in pool) pool.count whole.held heads_there
 
     recent_added : AreLast (order_of pool.head.index pool.count new) (ptrs pool.recent.items)
     recent_added = record { front = whole.recent.front; cut = same_order ∙ whole.recent.cut }
@@ -135,25 +163,10 @@ module _ {T : Type 0} where
               λ c h. whole.counted.each c h ∙ ap length (sym (same_nodes_on pool.store new c (order_in pool) same_item));
         })
 
-    abbrev dues : List ℕ
-    dues = dues_of pool.head.index pool.count pool.store
-
-    new_due_ring : IsRing Due new pool.head.index dues
-    new_due_ring = held.ring_kept node.index pool.store new added fresh Due pool.head.index dues whole.by_due.ring
-
-    same_dues : dues_of pool.head.index pool.count new ≡ dues
-    same_dues =
-        let many : length dues ≡ pool.count = whole.by_due.many ∙ order_length pool whole in
-        ap (λ n. trace (next_of Due new) pool.head.index n) (sym many) ∙ trace_ring Due new pool.head.index dues new_due_ring
-
-    head_vacant : item_at new pool.head.index ≡ None
-    head_vacant = ap item_in (held.value_kept node.index pool.store new added fresh pool.head.index whole.held.linked.number.there.0) ∙ whole.by_due.vacant
-
     by_due_added : IsByDue pool.head.index (order_of pool.head.index pool.count new) (dues_of pool.head.index pool.count new) pool.ticks.items new
     by_due_added =
         subst (λ o. IsByDue pool.head.index o (dues_of pool.head.index pool.count new) pool.ticks.items new) (sym same_order)
-        (subst (λ d. IsByDue pool.head.index (order_in pool) d pool.ticks.items new) (sym same_dues)
-        (by_due_same pool.head.index (order_in pool) dues pool.ticks.items pool.store new whole.by_due new_due_ring head_vacant same_item))
+        (subst (λ d. IsByDue pool.head.index (order_in pool) d pool.ticks.items new) (sym same_dues) due_added)
 
     -- and it is the first of the free ones
     module _ (own : room_at new node.index ≡ true) (then : List (Node T)) (is : then ≡ set_next Due node.index pool.free.first.index new) where
@@ -163,16 +176,16 @@ module _ {T : Type 0} where
           let more : free.count ≡ suc pool.free.count = omega (arith, m) in
           subst (λ l. IsHeld pool.head.index (firsts pool.channels) l pool.count then)
           ((λ i. free_of (sym f i).index (sym more i) then))
-          (held_freed pool.head.index (firsts pool.channels) (free_in pool) pool.count node.index pool.free.first.index new (held_added own) then is
+          (held_freed pool.head.index (firsts pool.channels) (free_in pool) pool.count node.index pool.free.first.index pool.ticks.items new (held_added own) by_due_added then is
           pool.free.count same_free)
 
       order_grown : order_of pool.head.index pool.count then ≡ order_of pool.head.index pool.count new
       order_grown =
-          order_freed pool.head.index (firsts pool.channels) (free_in pool) pool.count node.index pool.free.first.index new (held_added own) then is
+          order_freed pool.head.index (firsts pool.channels) (free_in pool) pool.count node.index pool.free.first.index pool.ticks.items new (held_added own) by_due_added then is
 
       pub grown_items : items_in then (order_of pool.head.index pool.count then) ≡ items_of pool
       grown_items =
-          items_freed pool.head.index (firsts pool.channels) (free_in pool) pool.count node.index pool.free.first.index new (held_added own) then is
+          items_freed pool.head.index (firsts pool.channels) (free_in pool) pool.count node.index pool.free.first.index pool.ticks.items new (held_added own) by_due_added then is
           ∙ items_added
 
       pub grown_recent : AreLast (order_of pool.head.index pool.count then) (ptrs pool.recent.items)
@@ -182,28 +195,23 @@ module _ {T : Type 0} where
       grown_finger =
           finger_kept pool.finger _ _ (λ f at.
           ap (λ l. slice_get l f.place)
-          (nodes_freed pool.head.index (firsts pool.channels) (free_in pool) pool.count node.index pool.free.first.index new (held_added own) then is f.channel)
+          (nodes_freed pool.head.index (firsts pool.channels) (free_in pool) pool.count node.index pool.free.first.index pool.ticks.items new (held_added own) by_due_added then is f.channel)
           ∙ at) finger_added
 
       pub grown_counted : IsCounted pool.counts.items pool.channels (order_of pool.head.index pool.count then) then
       grown_counted =
-          counted_freed pool.head.index (firsts pool.channels) (free_in pool) pool.count node.index pool.free.first.index new (held_added own) then is
+          counted_freed pool.head.index (firsts pool.channels) (free_in pool) pool.count node.index pool.free.first.index pool.ticks.items new (held_added own) by_due_added then is
           pool.counts.items pool.channels counted_added
 
       pub grown_by_due : IsByDue pool.head.index (order_of pool.head.index pool.count then) (dues_of pool.head.index pool.count then) pool.ticks.items then
       grown_by_due =
-          by_due_freed pool.head.index (firsts pool.channels) (free_in pool) pool.count node.index pool.free.first.index new (held_added own) then is
-          pool.ticks.items by_due_added
+          by_due_freed pool.head.index (firsts pool.channels) (free_in pool) pool.count node.index pool.free.first.index pool.ticks.items new (held_added own) by_due_added then is
 
   -- 3. The pool that holds nothing
-  module _ (n : ℕ) (head : ℕ) (one two three : List (Node T)) (added : IsVacantLast head (lone_firsts n) one)
-      (fresh : value_at head (lone_firsts {T = T} n) ≡ None) (own : room_at one head ≡ true) (two_is : two ≡ lone Number head one)
-      (three_is : three ≡ lone Due head two) where
+  module _ (n : ℕ) (head : ℕ) (one two : List (Node T)) (added : IsVacantLast head (lone_firsts n) one)
+      (fresh : value_at head (lone_firsts {T = T} n) ≡ None) (own : room_at one head ≡ true) (is : two ≡ lone Due head one) where
     abbrev last : List (Node T)
-    last = lone Due head (lone Number head one)
-
-    is : three ≡ last
-    is = three_is ∙ ap (λ c. lone Due head c) two_is
+    last = lone Due head one
 
     there : IsSome (value_at head one)
     there = first_there head (lone_firsts n) one added
@@ -212,32 +220,30 @@ module _ {T : Type 0} where
     channel_last c first e =
         let at = first_is n c first e in
         subst (λ f. IsRing Channel last f []) (sym at.1)
-        (ring_past_lone Due Channel due_channel head (lone Number head one) c []
-        (ring_past_lone Number Channel unlike head one c []
-        (held.ring_kept head (lone_firsts n) one added fresh Channel c [] (ring_alone T n c at.0))))
+        (ring_past_lone Due Channel due_channel head one c []
+        (held.ring_kept head (lone_firsts n) one added fresh Channel c [] (ring_alone T n c at.0)))
 
     apart_last : IsDistinct same_place ((head ∷ firsts n) ++ [])
     apart_last =
         subst (λ l. IsDistinct same_place l) (sym (append-nil (head ∷ firsts n))) (apart_firsts head n (omega (arith, added.3, many T n)))
 
-    pub empty_held : (first count : ℕ) → count ≡ 0 → IsHeld head (firsts n) (free_of first count three) 0 three
+    pub empty_held : (first count : ℕ) → count ≡ 0 → IsHeld head (firsts n) (free_of first count two) 0 two
     empty_held first count none =
         subst (λ c. IsHeld head (firsts n) (free_of first count c) 0 c) (sym is)
         (subst (λ m. IsHeld head (firsts n) (free_of first m last) 0 last) (sym none) (record {
           linked = record {
-            number = ring_past_lone Due Number due_number head (lone Number head one) head [] (ring_lone Number head one there);
             channel = channel_last;
             apart = apart_last;
             held = tt;
             there = tt;
-            head_room = room_lone Due head head (lone Number head one) ∙ room_lone Number head head one ∙ own;
+            head_room = room_lone Due head head one ∙ own;
             order_room = λ q i. absurd i;
             free_room = λ q i. absurd i;
           };
           flight = none_flies (length (firsts n));
         }))
 
-    pub empty_counted : (counts : List ℕ) → counts ≡ replicate n zero → IsCounted counts n [] three
+    pub empty_counted : (counts : List ℕ) → counts ≡ replicate n zero → IsCounted counts n [] two
     empty_counted counts e = record { many = ap length e ∙ length-replicate n zero; each = λ c h. ap (λ l. get_or l c 0) e ∙ zeros n c }
       where
         zeros : (m c : ℕ) → get_or (replicate m zero) c 0 ≡ 0
@@ -245,12 +251,12 @@ module _ {T : Type 0} where
         zeros (suc m) zero = refl
         zeros (suc m) (suc c) = zeros m c
 
-    pub empty_by_due : (ticks : List Tick) → ticks ≡ [] → IsByDue head [] [] ticks three
+    pub empty_by_due : (ticks : List Tick) → ticks ≡ [] → IsByDue head [] [] ticks two
     empty_by_due ticks e =
         subst (λ c. IsByDue head [] [] ticks c) (sym is)
         (subst (λ l. IsByDue head [] [] l last) (sym e) (record {
-          ring = ring_lone Due head (lone Number head one) (lone_stays Number head head one there);
-          vacant = item_lone Due head head (lone Number head one) ∙ item_lone Number head head one ∙ first_vacant head (lone_firsts n) one added;
+          ring = ring_lone Due head one there;
+          vacant = item_lone Due head head one ∙ first_vacant head (lone_firsts n) one added;
           sooner = tt;
           flies = λ q i. absurd i;
           stands = λ q i. absurd i;

@@ -1,4 +1,4 @@
--- A node leaves the rings with its item, and is free.
+-- A node leaves its channel's ring with its item, and is free.
 use Rattle.std.proofs.Common.{◌≡◌, ℕ, true, false, cond, Bool, List, [], ◌∷◌, ◌++◌, Some, None, IsSome, inl, inr, refl, sym, ap, ◌∙◌, subst, append_assoc}
 use Rattle.std.proofs.Common.{append-nil, eq-eqb}
 use Rattle.std.specs.Prelude.{◌==◌, slice_get}
@@ -8,15 +8,16 @@ use Rattle.mn_flight.specs.declared.Item.{Item}
 use Rattle.mn_flight_pool.specs.Cells.{same_place, value_at}
 use Rattle.mn_flight_pool.specs.Rings.{IsFree, IsRing, item_at, room_at, next_of, prev_of, unlink, IsIn}
 use Rattle.mn_flight_pool.specs.Pool.{is_on, items_in, nodes_on, IsLinked, left}
-use Rattle.mn_flight_pool.specs.declared.node.Pair.TheVariants.{Number, Channel}
+use Rattle.mn_flight_pool.specs.declared.node.Pair.TheVariants.{Channel}
 use Rattle.mn_flight_pool.specs.Nodes.{Node}
 use Rattle.mn_flight_pool.proofs.Changed.{same_place_eq}
 use Rattle.mn_flight_pool.proofs.Changed.{same_place_symm, stays}
+use Rattle.mn_flight_pool.proofs.Linked.{order_there}
 use Rattle.mn_flight_pool.proofs.Neighbours.{in_left, in_at, free_left, free_right, free_both, free_from, free_at, others_free, distinct_with}
 use Rattle.mn_flight_pool.proofs.Neighbours.{distinct_without, apart_parts, at_places, all_without}
-use Rattle.mn_flight_pool.proofs.Rings.{ring_unlinked, ring_past_unlink, ring_past_item, ring_aside_unlink, ring_sides, unlink_stays, item_past_unlink}
+use Rattle.mn_flight_pool.proofs.Rings.{ring_unlinked, ring_past_item, ring_aside_unlink, ring_sides, unlink_stays, item_past_unlink}
 use Rattle.mn_flight_pool.proofs.Rings.{item_put, item_else, room_past_item, room_past_unlink}
-use Rattle.mn_flight_pool.proofs.Entered.{from_filter, unlike, unlike', one_channel, same_nodes_on, same_items}
+use Rattle.mn_flight_pool.proofs.Entered.{from_filter, one_channel, same_nodes_on, same_items}
 
 module _ {T : Type 0} (head : ℕ) (heads free us : List ℕ) (p : ℕ) (vs : List ℕ) (cells : List (Node T))
     (linked : IsLinked head heads free (us ++ p ∷ vs) cells) (x : Item T) (first : ℕ) (holds : item_at cells p ≡ Some x)
@@ -25,13 +26,10 @@ module _ {T : Type 0} (head : ℕ) (heads free us : List ℕ) (p : ℕ) (vs : Li
   order = us ++ p ∷ vs
 
   abbrev one : List (Node T)
-  one = unlink Number p cells
+  one = unlink Channel p cells
 
   abbrev two : List (Node T)
-  two = unlink Channel p one
-
-  abbrev three : List (Node T)
-  three = left p cells
+  two = left p cells
 
   -- 1. The node is none of the others
   cut : ((head ∷ heads) ++ us) ++ p ∷ (vs ++ free) ≡ (head ∷ heads) ++ (order ++ free)
@@ -56,32 +54,22 @@ module _ {T : Type 0} (head : ℕ) (heads free us : List ℕ) (p : ℕ) (vs : Li
   here (z ∷ zs) = inr (here zs)
 
   pub p_there : IsSome (value_at p cells)
-  p_there = all_at us linked.number.there.1
-    where
-      all_at : (xs : List ℕ) → AllByRecursion (λ q. IsSome (value_at q cells)) (xs ++ p ∷ vs) → IsSome (value_at p cells)
-      all_at [] h = h.0
-      all_at (z ∷ zs) h = all_at zs h.1
+  p_there = order_there head heads free order cells linked p (here us)
 
   -- 2. Items
-  pub old_item : (q : ℕ) → IsIn q (us ++ vs) → item_at three q ≡ item_at cells q
-  old_item q i = item_else p q None two (free_at p (us ++ vs) q alone_order i) ∙ item_past_unlink Channel p q one ∙ item_past_unlink Number p q cells
+  pub old_item : (q : ℕ) → IsIn q (us ++ vs) → item_at two q ≡ item_at cells q
+  old_item q i = item_else p q None one (free_at p (us ++ vs) q alone_order i) ∙ item_past_unlink Channel p q cells
 
-  two_there : (q : ℕ) → IsSome (value_at q cells) → IsSome (value_at q two)
-  two_there q h = unlink_stays Channel p q one (unlink_stays Number p q cells h)
+  one_there : (q : ℕ) → IsSome (value_at q cells) → IsSome (value_at q one)
+  one_there q h = unlink_stays Channel p q cells h
 
-  pub three_there : (q : ℕ) → IsSome (value_at q cells) → IsSome (value_at q three)
-  three_there q h = stays p q (λ (node : Node T). record node { item = None }) two (two_there q h)
+  pub two_there : (q : ℕ) → IsSome (value_at q cells) → IsSome (value_at q two)
+  two_there q h = stays p q (λ (node : Node T). record node { item = None }) one (one_there q h)
 
-  pub empty_left : item_at three p ≡ None
-  empty_left = item_put p None two (two_there p p_there)
+  pub empty_left : item_at two p ≡ None
+  empty_left = item_put p None one (one_there p p_there)
 
-  -- 3. The ring of all
-  pub number_left : IsRing Number three head (us ++ vs)
-  number_left =
-      ring_past_item Number p None two head (us ++ vs)
-      (ring_past_unlink Channel Number unlike' p one head (us ++ vs) (ring_unlinked Number head cells us p vs linked.number))
-
-  -- 4. The channels' rings
+  -- 3. The channels' rings
   in_order : (c : ℕ) (q : ℕ) → IsIn q (nodes_on cells c order) → (is_on c (item_at cells q) ≡ true) × IsIn q order
   in_order c q i = from_filter (λ r. is_on c (item_at cells r)) q order i
 
@@ -115,48 +103,45 @@ module _ {T : Type 0} (head : ℕ) (heads free us : List ℕ) (p : ℕ) (vs : Li
       filter-append (λ q. is_on c (item_at cells q)) us (p ∷ vs)
       ∙ ap (λ o. nodes_on cells c us ++ cond (is_on c o) (p ∷ nodes_on cells c vs) (nodes_on cells c vs)) holds
 
-  pub nodes_then : (c : ℕ) → nodes_on three c (us ++ vs) ≡ nodes_on cells c us ++ nodes_on cells c vs
-  nodes_then c = same_nodes_on cells three c (us ++ vs) old_item ∙ filter-append (λ q. is_on c (item_at cells q)) us vs
+  pub nodes_then : (c : ℕ) → nodes_on two c (us ++ vs) ≡ nodes_on cells c us ++ nodes_on cells c vs
+  nodes_then c = same_nodes_on cells two c (us ++ vs) old_item ∙ filter-append (λ q. is_on c (item_at cells q)) us vs
 
-  ring_one : (c : ℕ) (f : ℕ) → slice_get heads c ≡ Some f → IsRing Channel one f (nodes_on cells c order)
-  ring_one c f e = ring_past_unlink Number Channel unlike p cells f (nodes_on cells c order) (linked.channel c f e)
-
-  own_ring : IsRing Channel one first (nodes_on cells x.channel us ++ p ∷ nodes_on cells x.channel vs)
+  own_ring : IsRing Channel cells first (nodes_on cells x.channel us ++ p ∷ nodes_on cells x.channel vs)
   own_ring =
-      subst (λ l. IsRing Channel one first l)
+      subst (λ l. IsRing Channel cells first l)
       (nodes_before x.channel ∙ ap (λ b. nodes_on cells x.channel us ++ cond b (p ∷ nodes_on cells x.channel vs) (nodes_on cells x.channel vs))
-      (eq-eqb x.channel x.channel refl)) (ring_one x.channel first at)
+      (eq-eqb x.channel x.channel refl)) (linked.channel x.channel first at)
 
-  sides : IsIn (prev_of Channel one p) (first ∷ nodes_on cells x.channel order) × IsIn (next_of Channel one p) (first ∷ nodes_on cells x.channel order)
+  sides : IsIn (prev_of Channel cells p) (first ∷ nodes_on cells x.channel order) × IsIn (next_of Channel cells p) (first ∷ nodes_on cells x.channel order)
   sides =
       let back : nodes_on cells x.channel us ++ p ∷ nodes_on cells x.channel vs ≡ nodes_on cells x.channel order =
       sym (nodes_before x.channel ∙ ap (λ b. nodes_on cells x.channel us ++ cond b (p ∷ nodes_on cells x.channel vs) (nodes_on cells x.channel vs))
       (eq-eqb x.channel x.channel refl)) in
-      let both = ring_sides Channel one first (nodes_on cells x.channel us) p (nodes_on cells x.channel vs) own_ring in
-      (subst (λ l. IsIn (prev_of Channel one p) (first ∷ l)) back both.0, subst (λ l. IsIn (next_of Channel one p) (first ∷ l)) back both.1)
+      let both = ring_sides Channel cells first (nodes_on cells x.channel us) p (nodes_on cells x.channel vs) own_ring in
+      (subst (λ l. IsIn (prev_of Channel cells p) (first ∷ l)) back both.0, subst (λ l. IsIn (next_of Channel cells p) (first ∷ l)) back both.1)
 
-  pub channel_left : (c : ℕ) (f : ℕ) → slice_get heads c ≡ Some f → IsRing Channel three f (nodes_on three c (us ++ vs))
+  pub channel_left : (c : ℕ) (f : ℕ) → slice_get heads c ≡ Some f → IsRing Channel two f (nodes_on two c (us ++ vs))
   channel_left c f e =
-      subst (λ l. IsRing Channel three f l) (sym (nodes_then c))
-      (ring_past_item Channel p None two f (nodes_on cells c us ++ nodes_on cells c vs) (by (x.channel == c) refl))
+      subst (λ l. IsRing Channel two f l) (sym (nodes_then c))
+      (ring_past_item Channel p None one f (nodes_on cells c us ++ nodes_on cells c vs) (by (x.channel == c) refl))
     where
-      by : (b : Bool) → (x.channel == c) ≡ b → IsRing Channel two f (nodes_on cells c us ++ nodes_on cells c vs)
+      by : (b : Bool) → (x.channel == c) ≡ b → IsRing Channel one f (nodes_on cells c us ++ nodes_on cells c vs)
       by true t =
-          ring_unlinked Channel f one (nodes_on cells c us) p (nodes_on cells c vs)
-          (subst (λ l. IsRing Channel one f l) (nodes_before c ∙ ap (λ b. nodes_on cells c us ++ cond b (p ∷ nodes_on cells c vs) (nodes_on cells c vs)) t)
-          (ring_one c f e))
+          ring_unlinked Channel f cells (nodes_on cells c us) p (nodes_on cells c vs)
+          (subst (λ l. IsRing Channel cells f l) (nodes_before c ∙ ap (λ b. nodes_on cells c us ++ cond b (p ∷ nodes_on cells c vs) (nodes_on cells c vs)) t)
+          (linked.channel c f e))
       by false t =
           let ne : x.channel ≡ c → ⊥ = λ same. clash (x.channel == c) (eq-eqb x.channel c same) t in
           let ring =
-          ring_aside_unlink Channel p one f (nodes_on cells c order) (strangers x.channel c first f at e ne (prev_of Channel one p) sides.0)
-          (strangers x.channel c first f at e ne (next_of Channel one p) sides.1) (ring_one c f e) in
-          subst (λ l. IsRing Channel two f l) (nodes_before c ∙ ap (λ b. nodes_on cells c us ++ cond b (p ∷ nodes_on cells c vs) (nodes_on cells c vs)) t) ring
+          ring_aside_unlink Channel p cells f (nodes_on cells c order) (strangers x.channel c first f at e ne (prev_of Channel cells p) sides.0)
+          (strangers x.channel c first f at e ne (next_of Channel cells p) sides.1) (linked.channel c f e) in
+          subst (λ l. IsRing Channel one f l) (nodes_before c ∙ ap (λ b. nodes_on cells c us ++ cond b (p ∷ nodes_on cells c vs) (nodes_on cells c vs)) t) ring
         where
           clash : (b : Bool) → b ≡ true → b ≡ false → ⊥
           clash true q r = cc
           clash false q r = cc
 
-  -- 5. All together
+  -- 4. All together
   all_old : (P : ℕ → Type 0) (xs : List ℕ) → ((q : ℕ) → IsIn q xs → P q) → AllByRecursion P xs
   all_old P [] h = tt
   all_old P (q ∷ qs) h = (h q (inl refl), all_old P qs (λ r i. h r (inr i)))
@@ -169,8 +154,8 @@ module _ {T : Type 0} (head : ℕ) (heads free us : List ℕ) (p : ℕ) (vs : Li
   all_push P [] h k = (k, tt)
   all_push P (y ∷ ys) h k = (h.0, all_push P ys h.1 k)
 
-  room_three : (q : ℕ) → room_at three q ≡ room_at cells q
-  room_three q = room_past_item p q None two ∙ room_past_unlink Channel p q one ∙ room_past_unlink Number p q cells
+  room_two : (q : ℕ) → room_at two q ≡ room_at cells q
+  room_two q = room_past_item p q None one ∙ room_past_unlink Channel p q cells
 
   order_with : (xs : List ℕ) (q : ℕ) → IsIn q (xs ++ vs) → IsIn q (xs ++ p ∷ vs)
   order_with [] q i = inr i
@@ -180,9 +165,8 @@ module _ {T : Type 0} (head : ℕ) (heads free us : List ℕ) (p : ℕ) (vs : Li
   room_free [] old q i = elim i [ inl e ↦ subst (λ r. room_at cells r ≡ true) (sym e) (linked.order_room p (here us)) | inr j ↦ absurd j ]
   room_free (r ∷ fs) old q i = elim i [ inl e ↦ old q (inl e) | inr j ↦ room_free fs (λ s k. old s (inr k)) q j ]
 
-  pub linked_left : IsLinked head heads (free ++ p ∷ []) (us ++ vs) three
+  pub linked_left : IsLinked head heads (free ++ p ∷ []) (us ++ vs) two
   linked_left = record {
-    number = number_left;
     channel = channel_left;
     apart =
         let whole : others ++ p ∷ [] ≡ (head ∷ heads) ++ ((us ++ vs) ++ (free ++ p ∷ [])) =
@@ -191,20 +175,20 @@ module _ {T : Type 0} (head : ℕ) (heads free us : List ℕ) (p : ℕ) (vs : Li
         subst (λ l. IsDistinct same_place l) whole
         (distinct_with others p [] (subst (λ l. IsFree p l) (sym (append-nil others)) alone)
         (subst (λ l. IsDistinct same_place l) (sym (append-nil others)) rest_apart));
-    held = all_old (λ q. IsSome (item_at three q)) (us ++ vs)
+    held = all_old (λ q. IsSome (item_at two q)) (us ++ vs)
         (λ q i. rw (old_item q i)
         (all_in (λ r. IsSome (item_at cells r)) (us ++ vs) q (all_without (λ r. IsSome (item_at cells r)) us p vs linked.held) i));
-    there = all_push (λ q. IsSome (value_at q three)) free
-        (all_old (λ q. IsSome (value_at q three)) free (λ q i. three_there q (all_in (λ r. IsSome (value_at r cells)) free q linked.there i)))
-        (three_there p p_there);
-    head_room = room_three head ∙ linked.head_room;
-    order_room = λ q i. room_three q ∙ linked.order_room q (order_with us q i);
-    free_room = λ q i. room_three q ∙ room_free free linked.free_room q i;
+    there = all_push (λ q. IsSome (value_at q two)) free
+        (all_old (λ q. IsSome (value_at q two)) free (λ q i. two_there q (all_in (λ r. IsSome (value_at r cells)) free q linked.there i)))
+        (two_there p p_there);
+    head_room = room_two head ∙ linked.head_room;
+    order_room = λ q i. room_two q ∙ linked.order_room q (order_with us q i);
+    free_room = λ q i. room_two q ∙ room_free free linked.free_room q i;
   }
 
   -- the items before are those after and, between them, the item taken
   pub items_before : items_in cells order ≡ items_in cells us ++ x ∷ items_in cells vs
   items_before = filter_map-append (item_at cells) us (p ∷ vs) ∙ ap (λ o. items_in cells us ++ cons_option o (items_in cells vs)) holds
 
-  pub items_left : items_in three (us ++ vs) ≡ items_in cells us ++ items_in cells vs
-  items_left = same_items cells three (us ++ vs) old_item ∙ filter_map-append (item_at cells) us vs
+  pub items_left : items_in two (us ++ vs) ≡ items_in cells us ++ items_in cells vs
+  items_left = same_items cells two (us ++ vs) old_item ∙ filter_map-append (item_at cells) us vs

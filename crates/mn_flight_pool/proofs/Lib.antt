@@ -5,10 +5,12 @@ pub mod Standing
 pub mod Neighbours
 pub mod Rings
 pub mod Traces
+pub mod Linked
 pub mod Entered
 pub mod Left
 pub mod Sides
 pub mod Held
+pub mod Sorted
 pub mod Ticks
 pub mod Sooner
 pub mod Walks

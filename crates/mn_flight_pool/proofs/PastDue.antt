@@ -1,30 +1,24 @@
 -- What links of the ring by due tick leave as it is.
-use Rattle.std.proofs.Common.{◌≡◌, ℕ, List, [], ◌∷◌, length, IsSome, sym, ap, ◌∙◌, subst}
+use Rattle.std.proofs.Common.{◌≡◌, ℕ, List, [], ◌∷◌, IsSome, sym, ◌∙◌, subst}
 use Rattle.std.specs.List.{AllByRecursion}
-use Rattle.mn_flight.specs.Flying.{IsFlight}
 use Rattle.mn_flight_pool.specs.Cells.{value_at}
-use Rattle.mn_flight_pool.specs.Rings.{IsRing, item_at, room_at, next_of, link_behind, unlink}
-use Rattle.mn_flight_pool.specs.Pool.{items_in, nodes_on, order_of, IsLinked, IsHeld}
-use Rattle.mn_flight_pool.specs.declared.node.Pair.TheVariants.{Number, Channel, Due}
+use Rattle.mn_flight_pool.specs.Rings.{IsRing, item_at, room_at, link_behind, unlink}
+use Rattle.mn_flight_pool.specs.Pool.{items_in, nodes_on, IsLinked}
+use Rattle.mn_flight_pool.specs.declared.node.Pair.TheVariants.{Channel, Due}
 use Rattle.mn_flight_pool.specs.Nodes.{Node}
 use Rattle.mn_flight_pool.proofs.Rings.{ring_past_link, ring_past_unlink, link_stays, unlink_stays, item_past_link, item_past_unlink}
 use Rattle.mn_flight_pool.proofs.Rings.{room_past_link, room_past_unlink}
 use Rattle.mn_flight_pool.proofs.Entered.{same_nodes_on, same_items}
-use Rattle.mn_flight_pool.proofs.Held.{order_is, length-trace}
-
-pub due_number : Due ≡ Number → ⊥
-due_number e = cc
 
 pub due_channel : Due ≡ Channel → ⊥
 due_channel e = cc
 
 module _ {T : Type 0} (old new : List (Node T)) where
-  -- nodes with the same items in the same rings by number and channel
+  -- nodes with the same items in the same rings of channels
   pub record Alike : Type 0 where
     pub stay : (q : ℕ) → IsSome (value_at q old) → IsSome (value_at q new)
     pub items : (q : ℕ) → item_at new q ≡ item_at old q
     pub rooms : (q : ℕ) → room_at new q ≡ room_at old q
-    pub number : (s : ℕ) (ps : List ℕ) → IsRing Number old s ps → IsRing Number new s ps
     pub channel : (s : ℕ) (ps : List ℕ) → IsRing Channel old s ps → IsRing Channel new s ps
 
   module _ (alike : Alike) where
@@ -38,9 +32,8 @@ module _ {T : Type 0} (old new : List (Node T)) where
     all_alike P Q [] f h = tt
     all_alike P Q (p ∷ ps) f h = (f p h.0, all_alike P Q ps f h.1)
 
-    linked_alike : (head : ℕ) (heads free order : List ℕ) → IsLinked head heads free order old → IsLinked head heads free order new
+    pub linked_alike : (head : ℕ) (heads free order : List ℕ) → IsLinked head heads free order old → IsLinked head heads free order new
     linked_alike head heads free order linked = record {
-      number = alike.number head order linked.number;
       channel =
           λ c first e. subst (λ l. IsRing Channel new first l) (sym (nodes_alike c order))
           (alike.channel first (nodes_on old c order) (linked.channel c first e));
@@ -52,27 +45,12 @@ module _ {T : Type 0} (old new : List (Node T)) where
       free_room = λ q i. alike.rooms q ∙ linked.free_room q i;
     }
 
-    module _ (head : ℕ) (heads free : List ℕ) (n : ℕ) (held : IsHeld head heads free n old) where
-      pub order_alike : order_of head n new ≡ order_of head n old
-      order_alike =
-          order_is head n new (order_of head n old) (alike.number head (order_of head n old) held.linked.number) (length-trace (next_of Number old) head n)
-
-      pub held_alike : IsHeld head heads free n new
-      held_alike = record {
-        linked = subst (λ ps. IsLinked head heads free ps new) (sym order_alike) (linked_alike head heads free (order_of head n old) held.linked);
-        flight = subst (λ xs. IsFlight (length heads) xs) (sym (ap (λ ps. items_in new ps) order_alike ∙ items_alike (order_of head n old))) held.flight;
-      }
-
-      pub items_kept : items_in new (order_of head n new) ≡ items_in old (order_of head n old)
-      items_kept = ap (λ ps. items_in new ps) order_alike ∙ items_alike (order_of head n old)
-
 module _ {T : Type 0} where
   pub alike_link : (p a : ℕ) (cells : List (Node T)) → Alike cells (link_behind Due p a cells)
   alike_link p a cells = record {
     stay = λ q h. link_stays Due p a q cells h;
     items = λ q. item_past_link Due p a q cells;
     rooms = λ q. room_past_link Due p a q cells;
-    number = λ s ps r. ring_past_link Due Number due_number p a cells s ps r;
     channel = λ s ps r. ring_past_link Due Channel due_channel p a cells s ps r;
   }
 
@@ -81,6 +59,5 @@ module _ {T : Type 0} where
     stay = λ q h. unlink_stays Due p q cells h;
     items = λ q. item_past_unlink Due p q cells;
     rooms = λ q. room_past_unlink Due p q cells;
-    number = λ s ps r. ring_past_unlink Due Number due_number p cells s ps r;
     channel = λ s ps r. ring_past_unlink Due Channel due_channel p cells s ps r;
   }

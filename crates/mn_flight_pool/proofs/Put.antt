@@ -9,18 +9,20 @@ use Rattle.mn_flight.proofs.Members as members
 use Rattle.mn_flight_pool.specs.Rings.{IsIn, IsRing, item_at, room_at, next_of, link_behind}
 use Rattle.mn_flight_pool.specs.Ticks.{last_by, put_tick}
 use Rattle.mn_flight_pool.specs.ByDue.{IsByDue, IsTick}
-use Rattle.mn_flight_pool.specs.Pool.{is_on, items_in, nodes_on, order_of, free_of, trace, entered, IsLinked, IsHeld}
-use Rattle.mn_flight_pool.specs.Whole.{AreLast, ptrs, dues_of, order_in, free_in, items_of, IsWhole, IsCounted}
+use Rattle.mn_flight_pool.specs.Pool.{is_on, items_in, nodes_on, dues_of, order_of, free_of, trace, entered, IsLinked, IsHeld}
+use Rattle.mn_flight_pool.specs.Whole.{AreLast, ptrs, order_in, free_in, items_of, IsWhole, IsCounted}
 use Rattle.mn_flight_pool.specs.declared.pool.Pool.{Pool}
 use Rattle.mn_flight_pool.specs.declared.free.Free.{Free}
 use Rattle.mn_flight_pool.specs.declared.node.Place.{Place}
 use Rattle.mn_flight_pool.specs.declared.tick.Tick.{Tick}
 use Rattle.mn_flight_pool.specs.Nodes.{Node, firsts}
 use Rattle.mn_flight_pool.specs.declared.node.Pair.TheVariants.{Channel, Due}
-use Rattle.mn_flight_pool.proofs.Entered.{room_three, nodes_then}
+use Rattle.mn_flight_pool.proofs.Entered.{linked_entered, items_entered, room_two, nodes_then}
 use Rattle.mn_flight_pool.proofs.Finger.{finger_kept, get_more}
-use Rattle.mn_flight_pool.proofs.Held.{held_pushed, items_pushed, order_then}
-use Rattle.mn_flight_pool.proofs.PastDue.{alike_link, held_alike, nodes_alike, order_alike, items_kept}
+use Rattle.mn_flight.specs.Flying.{IsFlight}
+use Rattle.mn_flight.proofs.Kept.{flight_push}
+use Rattle.mn_flight_pool.proofs.Sorted.{ascend_of, order_is}
+use Rattle.mn_flight_pool.proofs.PastDue.{alike_link, linked_alike, nodes_alike, items_alike}
 use Rattle.mn_flight_pool.proofs.Counted.{counted_entered, counted_alike}
 use Rattle.mn_flight_pool.proofs.DueEntered.{due_entered, due_three, stand, then}
 use Rattle.mn_flight_pool.proofs.Items.{item_member, fewer_kept}
@@ -95,7 +97,7 @@ module _ {T : Type 0} (pool : Pool T) (whole : IsWhole pool) where
       first_ring = (nodes_on pool.store x.channel (order_in pool), whole.held.linked.channel x.channel first.index at)
 
       abbrev pub three : List (Node T)
-      three = entered pool.head.index first.index node.index x pool.store
+      three = entered first.index node.index x pool.store
 
       abbrev pub last : ℕ
       last = last_by x.due pool.head.index pool.ticks.items
@@ -138,7 +140,7 @@ module _ {T : Type 0} (pool : Pool T) (whole : IsWhole pool) where
           room_one : (q : ℕ) → room_at pool.store q ≡ true → room_at one q ≡ true
           room_one q h =
               ap (λ c. room_at c q) one_is
-              ∙ room_three pool.head.index (firsts pool.channels) rest (order_in pool) node.index pool.store held_cut.linked x first.index at q ∙ h
+              ∙ room_two pool.head.index (firsts pool.channels) rest (order_in pool) node.index pool.store held_cut.linked x first.index at q ∙ h
 
           room_due : (q : ℕ) → IsIn q (pool.head.index ∷ dues) → room_at one q ≡ true
           room_due q i = room_one q (elim i [ inl e ↦ rooms pool whole q (inl e) | inr j ↦ rooms pool whole q (inr (whole.by_due.flies q j)) ])
@@ -161,15 +163,18 @@ module _ {T : Type 0} (pool : Pool T) (whole : IsWhole pool) where
             is : two ≡ four
             is = two_is ∙ ap (λ c. link_behind Due node.index last c) one_is
 
-            held_three : IsHeld pool.head.index (firsts pool.channels) rest (pool.count + 1) three
-            held_three =
-                held_pushed pool.head.index (firsts pool.channels) rest pool.count node.index pool.store held_cut x first.index at above
-                (omega (arith, below, firsts_length pool.channels))
+            linked_four : IsLinked pool.head.index (firsts pool.channels) rest (order_in pool ++ node.index ∷ []) four
+            linked_four =
+                linked_alike three four (alike_link node.index last three) pool.head.index (firsts pool.channels) rest (order_in pool ++ node.index ∷ [])
+                (linked_entered pool.head.index (firsts pool.channels) rest (order_in pool) node.index pool.store held_cut.linked x first.index at)
 
-            order_four : order_of pool.head.index (pool.count + 1) four ≡ order_in pool ++ node.index ∷ []
-            order_four =
-                order_alike three four (alike_link node.index last three) pool.head.index (firsts pool.channels) rest (pool.count + 1) held_three
-                ∙ order_then pool.head.index (firsts pool.channels) rest pool.count node.index pool.store held_cut x first.index at
+            items_then : items_in four (order_in pool ++ node.index ∷ []) ≡ items_of pool ++ x ∷ []
+            items_then =
+                items_alike three four (alike_link node.index last three) (order_in pool ++ node.index ∷ [])
+                ∙ items_entered pool.head.index (firsts pool.channels) rest (order_in pool) node.index pool.store held_cut.linked x first.index at
+
+            flight_then : IsFlight (length (firsts pool.channels)) (items_of pool ++ x ∷ [])
+            flight_then = flight_push (length (firsts pool.channels)) (items_of pool) x whole.held.flight above (omega (arith, below, firsts_length pool.channels))
 
             dues_four : dues_of pool.head.index (pool.count + 1) four ≡ dues_then
             dues_four =
@@ -177,15 +182,28 @@ module _ {T : Type 0} (pool : Pool T) (whole : IsWhole pool) where
                 omega (arith, entered_dues.many, length-append (order_in pool) (node.index ∷ []), order_length pool whole) in
                 ap (λ n. trace (next_of Due four) pool.head.index n) (sym many) ∙ trace_ring Due four pool.head.index dues_then entered_dues.ring
 
+            order_four : order_of pool.head.index (pool.count + 1) four ≡ order_in pool ++ node.index ∷ []
+            order_four =
+                order_is four pool.head.index (pool.count + 1) (order_in pool ++ node.index ∷ []) dues_then (put_tick x.due node.index pool.ticks.items) entered_dues
+                dues_four
+                (ascend_of four (order_in pool ++ node.index ∷ []) linked_four.held
+                (subst (λ xs. IsFlight (length (firsts pool.channels)) xs) (sym items_then) flight_then).ascending)
+
+            items_four : items_in four (order_of pool.head.index (pool.count + 1) four) ≡ items_of pool ++ x ∷ []
+            items_four = ap (λ o. items_in four o) order_four ∙ items_then
+
             held_four : IsHeld pool.head.index (firsts pool.channels) rest (pool.count + 1) four
-            held_four = held_alike three four (alike_link node.index last three) pool.head.index (firsts pool.channels) rest (pool.count + 1) held_three
+            held_four = record {
+              linked = subst (λ o. IsLinked pool.head.index (firsts pool.channels) rest o four) (sym order_four) linked_four;
+              flight = subst (λ xs. IsFlight (length (firsts pool.channels)) xs) (sym items_four) flight_then;
+            }
 
             rest_four : free_of (next_of Due pool.store pool.free.first.index) (pool.free.count - 1) four ≡ rest
             rest_four = free_same pool.store four (next_of Due pool.store pool.free.first.index) (pool.free.count - 1) (λ q i.
                 let in_order : IsIn last (pool.head.index ∷ order_in pool) = elim last_in [ inl e ↦ inl e | inr j ↦ inr (whole.by_due.flies last j) ] in
                 next_linked node.index last three q (first_apart pool.head.index (firsts pool.channels) rest (order_in pool) node.index pool.store linked_cut q i)
                 (free_apart pool.head.index (firsts pool.channels) (node.index ∷ rest) (order_in pool) pool.store linked_cut last q in_order (inr i))
-                ∙ next_entered pool.head.index first.index node.index x pool.store q)
+                ∙ next_entered first.index node.index x pool.store q)
 
             pub put_held : (free : Free) → free.first.index ≡ next_of Due pool.store pool.free.first.index → free.count + 1 ≡ pool.free.count →
                 IsHeld pool.head.index (firsts pool.channels) (free_of free.first.index free.count two) (pool.count + 1) two
@@ -196,10 +214,7 @@ module _ {T : Type 0} (pool : Pool T) (whole : IsWhole pool) where
                 (sym ((λ i. free_of (f i) (less i) four) ∙ rest_four)) held_four)
 
             pub put_items : items_in two (order_of pool.head.index (pool.count + 1) two) ≡ items_of pool ++ x ∷ []
-            put_items =
-                subst (λ c. items_in c (order_of pool.head.index (pool.count + 1) c) ≡ items_of pool ++ x ∷ []) (sym is)
-                (items_kept three four (alike_link node.index last three) pool.head.index (firsts pool.channels) rest (pool.count + 1) held_three
-                ∙ items_pushed pool.head.index (firsts pool.channels) rest pool.count node.index pool.store held_cut x first.index at)
+            put_items = subst (λ c. items_in c (order_of pool.head.index (pool.count + 1) c) ≡ items_of pool ++ x ∷ []) (sym is) items_four
 
             pub put_recent : (late : List Place) → AreLast (ptrs (pool.recent.items ++ node ∷ [])) (ptrs late) →
                 AreLast (order_of pool.head.index (pool.count + 1) two) (ptrs late)

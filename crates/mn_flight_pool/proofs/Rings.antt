@@ -7,7 +7,7 @@ use Rattle.mn_flight_pool.specs.Rings.{AreNeighbours, IsFree, item_in, item_at, 
 use Rattle.mn_flight_pool.specs.Rings.{set_prev, link_behind, unlink, lone, room_in, room_at, IsRing, IsIn}
 use Rattle.mn_flight.specs.declared.Item.{Item}
 use Rattle.mn_flight_pool.specs.declared.node.Pair.{Pair}
-use Rattle.mn_flight_pool.specs.declared.node.Pair.TheVariants.{Number, Channel, Due}
+use Rattle.mn_flight_pool.specs.declared.node.Pair.TheVariants.{Channel, Due}
 use Rattle.mn_flight_pool.specs.declared.node.Link.{Link}
 use Rattle.mn_flight_pool.specs.Nodes.{Node}
 use Rattle.mn_flight_pool.proofs.Changed.{same_place_symm, stays, value_same, value_other, next_stays, prev_stays, keeps}
@@ -22,7 +22,6 @@ Unlike pair other = pair ≡ other → ⊥
 module _ {T : Type 0} where
   -- 1. One pointer
   linked : (pair : Pair) (link : Link) (node : Node T) → link_of pair (with_link pair link node) ≡ link
-  linked Number link node = refl
   linked Channel link node = refl
   linked Due link node = refl
 
@@ -291,13 +290,8 @@ module _ {T : Type 0} where
         each P Q f (x ∷ xs) h = (f x h.0, each P Q f xs h.1)
 
   pub link_unlike : (pair other : Pair) → Unlike pair other → (link : Link) (node : Node T) → link_of other (with_link pair link node) ≡ link_of other node
-  link_unlike Number Number u link node = absurd (u refl)
-  link_unlike Number Channel u link node = refl
-  link_unlike Number Due u link node = refl
-  link_unlike Channel Number u link node = refl
   link_unlike Channel Channel u link node = absurd (u refl)
   link_unlike Channel Due u link node = refl
-  link_unlike Due Number u link node = refl
   link_unlike Due Channel u link node = refl
   link_unlike Due Due u link node = absurd (u refl)
 
@@ -397,14 +391,12 @@ module _ {T : Type 0} where
   pub item_next : (pair : Pair) (item : Option (Item T)) (o : Option (Node T)) →
       next_in pair (option_map (λ (node : Node T). record node { item = item }) o) ≡ next_in pair o
   item_next pair item None = refl
-  item_next Number item (Some node) = refl
   item_next Channel item (Some node) = refl
   item_next Due item (Some node) = refl
 
   item_prev : (pair : Pair) (item : Option (Item T)) (o : Option (Node T)) →
       prev_in pair (option_map (λ (node : Node T). record node { item = item }) o) ≡ prev_in pair o
   item_prev pair item None = refl
-  item_prev Number item (Some node) = refl
   item_prev Channel item (Some node) = refl
   item_prev Due item (Some node) = refl
 

@@ -6,12 +6,11 @@ use Rattle.mn_flight_pool.specs.Cells.{value_at}
 use Rattle.mn_flight_pool.specs.Rings.{IsRing, HaveRoom, item_at, room_at, with_item, next_of, prev_of, link_behind, unlink}
 use Rattle.mn_flight_pool.specs.Pool.{entered}
 use Rattle.mn_flight_pool.specs.declared.node.Pair.{Pair}
-use Rattle.mn_flight_pool.specs.declared.node.Pair.TheVariants.{Number, Channel}
+use Rattle.mn_flight_pool.specs.declared.node.Pair.TheVariants.{Channel}
 use Rattle.mn_flight_pool.specs.Nodes.{Node}
 use Rattle.mn_flight_pool.proofs.Changed.{stays}
-use Rattle.mn_flight_pool.proofs.Rings.{ring_last, ring_sides, ring_past_item, ring_past_link, ring_past_unlink, link_stays, unlink_stays, item_past_unlink}
+use Rattle.mn_flight_pool.proofs.Rings.{ring_last, ring_sides, ring_past_item, link_stays, unlink_stays, item_past_unlink}
 use Rattle.mn_flight_pool.proofs.Rings.{room_past_unlink, room_past_item}
-use Rattle.mn_flight_pool.proofs.Entered.{unlike}
 use Rattle.mn_flight_pool.proofs.Sooner.{all_in, in_middle}
 
 module _ {T : Type 0} where
@@ -76,20 +75,12 @@ module _ {T : Type 0} where
       IsRing pair old s ps → IsRing pair new s ps
   ring_put pair p item old new s ps e ring = subst (λ c. IsRing pair c s ps) (sym e) (ring_past_item pair p (Some item) old s ps ring)
 
-  pub ring_linked : (p a : ℕ) (old new : List (Node T)) (s : ℕ) (ps : List ℕ) → new ≡ link_behind Number p a old → IsRing Channel old s ps →
-      IsRing Channel new s ps
-  ring_linked p a old new s ps e ring = subst (λ c. IsRing Channel c s ps) (sym e) (ring_past_link Number Channel unlike p a old s ps ring)
-
-  pub ring_left : (p : ℕ) (old new : List (Node T)) (s : ℕ) (ps : List ℕ) → new ≡ unlink Number p old → IsRing Channel old s ps →
-      IsRing Channel new s ps
-  ring_left p old new s ps e ring = subst (λ c. IsRing Channel c s ps) (sym e) (ring_past_unlink Number Channel unlike p old s ps ring)
-
   pub put_there : (p : ℕ) (item : Item T) (old new : List (Node T)) → new ≡ with_item p (Some item) old → IsSome (value_at p old) →
       IsSome (value_at p new)
   put_there p item old new e h = subst (λ c. IsSome (value_at p c)) (sym e) (stays p p (λ (node : Node T). record node { item = Some item }) old h)
 
-  pub left_room : (p : ℕ) (old one two : List (Node T)) → one ≡ unlink Number p old → two ≡ unlink Channel p one → room_at two p ≡ room_at old p
-  left_room p old one two e1 e2 = ap (λ c. room_at c p) e2 ∙ room_past_unlink Channel p p one ∙ ap (λ c. room_at c p) e1 ∙ room_past_unlink Number p p old
+  pub left_room : (p : ℕ) (old new : List (Node T)) → new ≡ unlink Channel p old → room_at new p ≡ room_at old p
+  left_room p old new e = ap (λ c. room_at c p) e ∙ room_past_unlink Channel p p old
 
   pub linked_there : (pair : Pair) (p a q : ℕ) (old new : List (Node T)) → new ≡ link_behind pair p a old → IsSome (value_at q old) →
       IsSome (value_at q new)
@@ -98,14 +89,10 @@ module _ {T : Type 0} where
   pub unlinked_there : (pair : Pair) (p q : ℕ) (old new : List (Node T)) → new ≡ unlink pair p old → IsSome (value_at q old) → IsSome (value_at q new)
   unlinked_there pair p q old new e h = subst (λ c. IsSome (value_at q c)) (sym e) (unlink_stays pair p q old h)
 
-  pub entered_is : (head first p a b : ℕ) (item : Item T) (old one two three : List (Node T)) → one ≡ with_item p (Some item) old →
-      a ≡ prev_of Number one head → two ≡ link_behind Number p a one → b ≡ prev_of Channel two first → three ≡ link_behind Channel p b two →
-      three ≡ entered head first p item old
-  entered_is head first p a b item old one two three e1 ea e2 eb e3 =
-      let one' = with_item p (Some item) old in
-      let two_is : two ≡ link_behind Number p (prev_of Number one' head) one' =
-      e2 ∙ ap (λ c. link_behind Number p c one) ea ∙ ap (λ o. link_behind Number p (prev_of Number o head) o) e1 in
-      e3 ∙ ap (λ c. link_behind Channel p c two) eb ∙ ap (λ t. link_behind Channel p (prev_of Channel t first) t) two_is
+  pub entered_is : (first p b : ℕ) (item : Item T) (old one two : List (Node T)) → one ≡ with_item p (Some item) old →
+      b ≡ prev_of Channel one first → two ≡ link_behind Channel p b one → two ≡ entered first p item old
+  entered_is first p b item old one two e1 eb e2 =
+      e2 ∙ ap (λ c. link_behind Channel p c one) eb ∙ ap (λ t. link_behind Channel p (prev_of Channel t first) t) e1
 
-  pub left_item : (p : ℕ) (old one two : List (Node T)) → one ≡ unlink Number p old → two ≡ unlink Channel p one → item_at two p ≡ item_at old p
-  left_item p old one two e1 e2 = ap (λ c. item_at c p) e2 ∙ item_past_unlink Channel p p one ∙ ap (λ c. item_at c p) e1 ∙ item_past_unlink Number p p old
+  pub left_item : (p : ℕ) (old new : List (Node T)) → new ≡ unlink Channel p old → item_at new p ≡ item_at old p
+  left_item p old new e = ap (λ c. item_at c p) e ∙ item_past_unlink Channel p p old

@@ -10,17 +10,20 @@ use Rattle.mn_flight.proofs.Members as members
 use Rattle.mn_flight_pool.specs.Cells.{same_place}
 use Rattle.mn_flight_pool.specs.Rings.{IsIn, IsRing, HaveRoom, item_at, room_at, next_of, prev_of, set_next, unlink}
 use Rattle.mn_flight_pool.specs.ByDue.{IsByDue, ticks_left}
-use Rattle.mn_flight_pool.specs.Pool.{is_on, items_in, nodes_on, order_of, free_of, trace, left, IsHeld, IsLinked}
-use Rattle.mn_flight_pool.specs.Whole.{dues_of, order_in, free_in, items_of, IsWhole, IsCounted}
+use Rattle.mn_flight_pool.specs.Pool.{is_on, items_in, nodes_on, dues_of, order_of, free_of, trace, left, IsHeld, IsLinked}
+use Rattle.mn_flight_pool.specs.Whole.{order_in, free_in, items_of, IsWhole, IsCounted}
 use Rattle.mn_flight_pool.specs.declared.pool.Pool.{Pool}
 use Rattle.mn_flight_pool.specs.declared.free.Free.{Free}
 use Rattle.mn_flight_pool.specs.declared.tick.Tick.{Tick}
 use Rattle.mn_flight_pool.specs.Nodes.{Node, firsts}
-use Rattle.mn_flight_pool.specs.declared.node.Pair.TheVariants.{Number, Channel, Due}
+use Rattle.mn_flight_pool.specs.declared.node.Pair.TheVariants.{Channel, Due}
 use Rattle.mn_flight_pool.proofs.Finger.{kept_before, distinct_nodes}
-use Rattle.mn_flight_pool.proofs.Left.{nodes_before, nodes_then}
-use Rattle.mn_flight_pool.proofs.Held.{held_left, items_without, order_after}
-use Rattle.mn_flight_pool.proofs.PastDue.{alike_unlink, held_alike, nodes_alike, order_alike, items_kept}
+use Rattle.mn_flight_pool.proofs.Left.{linked_left, nodes_before, nodes_then}
+use Rattle.mn_flight.specs.Flying.{IsFlight}
+use Rattle.mn_flight_pool.proofs.Held.{flight_left, items_without}
+use Rattle.mn_flight_pool.proofs.Linked.{order_apart}
+use Rattle.mn_flight_pool.proofs.Sorted.{ascend_of, order_is}
+use Rattle.mn_flight_pool.proofs.PastDue.{alike_unlink, linked_alike, nodes_alike, items_alike}
 use Rattle.mn_flight_pool.proofs.Counted.{counted_left, counted_alike, some_counted}
 use Rattle.mn_flight_pool.proofs.DueLeft as dues
 use Rattle.mn_flight_pool.proofs.Items.{item_member}
@@ -123,8 +126,7 @@ module _ {T : Type 0} (pool : Pool T) (whole : IsWhole pool) (p : ℕ) (i : IsIn
 
   pub room_two : (one : List (Node T)) → one ≡ unlink Due p pool.store → (two : List (Node T)) → two ≡ left p one → room_at two p ≡ true
   room_two one e two f =
-      ap (λ c. room_at c p) f ∙ room_past_item p p None (unlink Channel p (unlink Number p one)) ∙ room_past_unlink Channel p p (unlink Number p one)
-      ∙ room_past_unlink Number p p one ∙ room_one one e
+      ap (λ c. room_at c p) f ∙ room_past_item p p None (unlink Channel p one) ∙ room_past_unlink Channel p p one ∙ room_one one e
 
   module _ (x : Item T) (holds : item_at pool.store p ≡ Some x) where
     pub below : x.channel < pool.channels
@@ -141,20 +143,17 @@ module _ {T : Type 0} (pool : Pool T) (whole : IsWhole pool) (p : ℕ) (i : IsIn
     abbrev mid : List (Node T)
     mid = unlink Due p pool.store
 
-    held_mid : IsHeld head heads free (suc n) mid
-    held_mid =
-        held_alike pool.store mid (alike_unlink p pool.store) head heads free (suc n) (subst (λ m. IsHeld head heads free m pool.store) count_is whole.held)
-
-    order_mid : order_of head (suc n) mid ≡ us ++ p ∷ vs
-    order_mid =
-        order_alike pool.store mid (alike_unlink p pool.store) head heads free (suc n)
-        (subst (λ m. IsHeld head heads free m pool.store) count_is whole.held) ∙ ap (λ m. order_of head m pool.store) (sym count_is) ∙ cut.2
-
     holds_mid : item_at mid p ≡ Some x
     holds_mid = (alike_unlink p pool.store).items p ∙ holds
 
     linked_mid : IsLinked head heads free (us ++ p ∷ vs) mid
-    linked_mid = subst (λ l. IsLinked head heads free l mid) order_mid held_mid.linked
+    linked_mid = linked_alike pool.store mid (alike_unlink p pool.store) head heads free (us ++ p ∷ vs) linked
+
+    items_mid : items_in mid (us ++ p ∷ vs) ≡ items_of pool
+    items_mid = items_alike pool.store mid (alike_unlink p pool.store) (us ++ p ∷ vs) ∙ ap (λ o. items_in pool.store o) (sym cut.2)
+
+    flight_mid : IsFlight (length heads) (items_in mid (us ++ p ∷ vs))
+    flight_mid = subst (λ xs. IsFlight (length heads) xs) (sym items_mid) whole.held.flight
 
     counted_mid : IsCounted pool.counts.items pool.channels (us ++ p ∷ vs) mid
     counted_mid =
@@ -170,18 +169,6 @@ module _ {T : Type 0} (pool : Pool T) (whole : IsWhole pool) (p : ℕ) (i : IsIn
         ∙ ap (λ b. nodes_on mid x.channel us ++ cond b (p ∷ nodes_on mid x.channel vs) (nodes_on mid x.channel vs)) (eq-eqb x.channel x.channel refl)
 
     module _ (one : List (Node T)) (one_is : one ≡ mid) where
-      pub number_ring : (s : ℕ) × (fs : List ℕ) × (bs : List ℕ) × IsRing Number one s (fs ++ p ∷ bs) × HaveRoom one (s ∷ (fs ++ p ∷ bs))
-      number_ring = (
-        head,
-        us,
-        vs,
-        subst (λ c. IsRing Number c head (us ++ p ∷ vs)) (sym one_is) linked_mid.number,
-        subst (λ c. HaveRoom c (head ∷ (us ++ p ∷ vs))) (sym one_is) (λ q j. elim j [
-          | inl e ↦ subst (λ r. room_at mid r ≡ true) (sym e) linked_mid.head_room
-          | inr k ↦ linked_mid.order_room q k
-        ]),
-      )
-
       pub channel_ring : (s : ℕ) × (fs : List ℕ) × (bs : List ℕ) × IsRing Channel one s (fs ++ p ∷ bs)
       channel_ring = (
         first,
@@ -197,63 +184,6 @@ module _ {T : Type 0} (pool : Pool T) (whole : IsWhole pool) (p : ℕ) (i : IsIn
       module _ (two : List (Node T)) (two_is : two ≡ left p one) where
         is : two ≡ left p mid
         is = two_is ∙ ap (λ c. left p c) one_is
-
-        order_two : order_of head n (left p mid) ≡ us ++ vs
-        order_two = order_after head heads free us p vs n mid held_mid order_mid x first holds_mid first_at.1
-
-        held_two : IsHeld head heads (free ++ p ∷ []) n two
-        held_two =
-            subst (λ c. IsHeld head heads (free ++ p ∷ []) n c) (sym is)
-            (held_left head heads free us p vs n mid held_mid order_mid x first holds_mid first_at.1)
-
-        -- no free node was a neighbour of the one that left
-        free_two : free_of pool.free.first.index pool.free.count two ≡ free
-        free_two =
-            ap (λ c. free_of pool.free.first.index pool.free.count c) is
-            ∙ free_same pool.store (left p mid) pool.free.first.index pool.free.count (λ q j.
-            next_left p mid q
-            ∙ next_unlinked p pool.store q (free_apart head heads free (order_in pool) pool.store whole.held.linked (prev_of Due pool.store p) q prev_in j))
-
-        items_two : items_in two (order_of head n two) ≡ without (Some x) (items_of pool)
-        items_two =
-            subst (λ c. items_in c (order_of head n c) ≡ without (Some x) (items_of pool)) (sym is)
-            (items_without head heads free us p vs n mid held_mid order_mid x first holds_mid first_at.1
-            ∙ ap (λ l. without (Some x) l)
-            (items_kept pool.store mid (alike_unlink p pool.store) head heads free (suc n)
-            (subst (λ m. IsHeld head heads free m pool.store) count_is whole.held)
-            ∙ ap (λ m. items_in pool.store (order_of head m pool.store)) (sym count_is)))
-
-        before_two : (c m k q : ℕ) → slice_get (nodes_on pool.store c (order_in pool)) m ≡ Some p →
-            slice_get (nodes_on pool.store c (order_in pool)) k ≡ Some q → k < m → slice_get (nodes_on two c (order_of head n two)) k ≡ Some q
-        before_two c m k q e f h = ap (λ z. slice_get (nodes_on z c (order_of head n z)) k) is ∙ ap (λ l. slice_get l k) nodes_two ∙ by (x.channel == c) nodes_old
-          where
-            nodes_two : nodes_on (left p mid) c (order_of head n (left p mid)) ≡ nodes_on pool.store c us ++ nodes_on pool.store c vs
-            nodes_two =
-                ap (λ o. nodes_on (left p mid) c o) order_two ∙ nodes_then head heads free us p vs mid linked_mid x first holds_mid first_at.1 c
-                ∙ ap (λ l. l ++ nodes_on mid c vs) (nodes_alike pool.store mid (alike_unlink p pool.store) c us)
-                ∙ ap (λ l. nodes_on pool.store c us ++ l) (nodes_alike pool.store mid (alike_unlink p pool.store) c vs)
-
-            nodes_old : nodes_on pool.store c (order_in pool) ≡
-                nodes_on pool.store c us ++ cond (x.channel == c) (p ∷ nodes_on pool.store c vs) (nodes_on pool.store c vs)
-            nodes_old = ap (λ o. nodes_on pool.store c o) cut.2 ∙ nodes_before head heads free us p vs pool.store linked x first holds first_at.1 c
-
-            distinct : IsDistinct same_place (nodes_on pool.store c (order_in pool))
-            distinct = distinct_nodes (λ r. is_on c (item_at pool.store r)) head (order_in pool) whole.held.linked.number.apart
-
-            by : (b : Bool) → nodes_on pool.store c (order_in pool) ≡ nodes_on pool.store c us ++ cond b (p ∷ nodes_on pool.store c vs) (nodes_on pool.store c vs) →
-                slice_get (nodes_on pool.store c us ++ nodes_on pool.store c vs) k ≡ Some q
-            by true old =
-                kept_before (nodes_on pool.store c us) (nodes_on pool.store c vs) p m k q (subst (λ l. IsDistinct same_place l) old distinct)
-                (ap (λ l. slice_get l m) (sym old) ∙ e) (ap (λ l. slice_get l k) (sym old) ∙ f) h
-            by false old = ap (λ l. slice_get l k) (sym old) ∙ f
-
-        counted_two : (counts : List ℕ) → counts ≡ slice_set pool.counts.items x.channel (get_or pool.counts.items x.channel 0 - 1) →
-            IsCounted counts pool.channels (order_of head n two) two
-        counted_two counts e =
-            subst (λ c. IsCounted counts pool.channels (order_of head n c) c) (sym is)
-            (subst (λ o. IsCounted counts pool.channels o (left p mid)) (sym order_two)
-            (subst (λ l. IsCounted l pool.channels (us ++ vs) (left p mid)) (sym e)
-            (counted_left head heads free us p vs mid linked_mid x first holds_mid first_at.1 pool.counts.items pool.channels counted_mid below)))
 
         abbrev dues_then : List ℕ
         dues_then = dues.then head heads free us p vs pool.store linked x holds old_dues pool.ticks.items due
@@ -272,12 +202,77 @@ module _ {T : Type 0} (pool : Pool T) (whole : IsWhole pool) (p : ℕ) (i : IsIn
             omega (arith, left_due.many, order_length pool whole, ap length cut.2, length-append us vs, length-append us (p ∷ vs)) in
             ap (λ m. trace (next_of Due (left p mid)) head m) (sym many) ∙ trace_ring Due (left p mid) head dues_then left_due.ring
 
-        by_due_two : (ticks : List Tick) → ticks ≡ ticks_then → IsByDue head (order_of head n two) (dues_of head n two) ticks two
-        by_due_two ticks e =
-            subst (λ c. IsByDue head (order_of head n c) (dues_of head n c) ticks c) (sym is)
-            (subst (λ o. IsByDue head o (dues_of head n (left p mid)) ticks (left p mid)) (sym order_two)
-            (subst (λ d. IsByDue head (us ++ vs) d ticks (left p mid)) (sym dues_two)
-            (subst (λ l. IsByDue head (us ++ vs) dues_then l (left p mid)) (sym e) left_due)))
+        linked_then : IsLinked head heads (free ++ p ∷ []) (us ++ vs) (left p mid)
+        linked_then = linked_left head heads free us p vs mid linked_mid x first holds_mid first_at.1
+
+        flight_then : IsFlight (length heads) (items_in (left p mid) (us ++ vs))
+        flight_then = flight_left head heads free us p vs mid linked_mid flight_mid x first holds_mid first_at.1
+
+        order_two : order_of head n (left p mid) ≡ us ++ vs
+        order_two =
+            order_is (left p mid) head n (us ++ vs) dues_then ticks_then left_due dues_two
+            (ascend_of (left p mid) (us ++ vs) linked_then.held flight_then.ascending)
+
+        held_two : IsHeld head heads (free ++ p ∷ []) n two
+        held_two =
+            subst (λ c. IsHeld head heads (free ++ p ∷ []) n c) (sym is)
+            (record {
+              linked = subst (λ o. IsLinked head heads (free ++ p ∷ []) o (left p mid)) (sym order_two) linked_then;
+              flight = subst (λ o. IsFlight (length heads) (items_in (left p mid) o)) (sym order_two) flight_then;
+            })
+
+        -- no free node was a neighbour of the one that left
+        free_two : free_of pool.free.first.index pool.free.count two ≡ free
+        free_two =
+            ap (λ c. free_of pool.free.first.index pool.free.count c) is
+            ∙ free_same pool.store (left p mid) pool.free.first.index pool.free.count (λ q j.
+            next_left p mid q
+            ∙ next_unlinked p pool.store q (free_apart head heads free (order_in pool) pool.store whole.held.linked (prev_of Due pool.store p) q prev_in j))
+
+        items_two : items_in two (order_of head n two) ≡ without (Some x) (items_of pool)
+        items_two =
+            subst (λ c. items_in c (order_of head n c) ≡ without (Some x) (items_of pool)) (sym is)
+            (ap (λ o. items_in (left p mid) o) order_two ∙ items_without head heads free us p vs mid linked_mid flight_mid x first holds_mid first_at.1
+            ∙ ap (λ l. without (Some x) l) items_mid)
+
+        before_two : (c m k q : ℕ) → slice_get (nodes_on pool.store c (order_in pool)) m ≡ Some p →
+            slice_get (nodes_on pool.store c (order_in pool)) k ≡ Some q → k < m → slice_get (nodes_on two c (order_of head n two)) k ≡ Some q
+        before_two c m k q e f h = ap (λ z. slice_get (nodes_on z c (order_of head n z)) k) is ∙ ap (λ l. slice_get l k) nodes_two ∙ by (x.channel == c) nodes_old
+          where
+            nodes_two : nodes_on (left p mid) c (order_of head n (left p mid)) ≡ nodes_on pool.store c us ++ nodes_on pool.store c vs
+            nodes_two =
+                ap (λ o. nodes_on (left p mid) c o) order_two ∙ nodes_then head heads free us p vs mid linked_mid x first holds_mid first_at.1 c
+                ∙ ap (λ l. l ++ nodes_on mid c vs) (nodes_alike pool.store mid (alike_unlink p pool.store) c us)
+                ∙ ap (λ l. nodes_on pool.store c us ++ l) (nodes_alike pool.store mid (alike_unlink p pool.store) c vs)
+
+            nodes_old : nodes_on pool.store c (order_in pool) ≡
+                nodes_on pool.store c us ++ cond (x.channel == c) (p ∷ nodes_on pool.store c vs) (nodes_on pool.store c vs)
+            nodes_old = ap (λ o. nodes_on pool.store c o) cut.2 ∙ nodes_before head heads free us p vs pool.store linked x first holds first_at.1 c
+
+            distinct : IsDistinct same_place (nodes_on pool.store c (order_in pool))
+            distinct = distinct_nodes (λ r. is_on c (item_at pool.store r)) head (order_in pool)
+                (order_apart head heads free (order_in pool) pool.store whole.held.linked)
+
+            by : (b : Bool) → nodes_on pool.store c (order_in pool) ≡ nodes_on pool.store c us ++ cond b (p ∷ nodes_on pool.store c vs) (nodes_on pool.store c vs) →
+                slice_get (nodes_on pool.store c us ++ nodes_on pool.store c vs) k ≡ Some q
+            by true old =
+                kept_before (nodes_on pool.store c us) (nodes_on pool.store c vs) p m k q (subst (λ l. IsDistinct same_place l) old distinct)
+                (ap (λ l. slice_get l m) (sym old) ∙ e) (ap (λ l. slice_get l k) (sym old) ∙ f) h
+            by false old = ap (λ l. slice_get l k) (sym old) ∙ f
+
+        counted_two : (counts : List ℕ) → counts ≡ slice_set pool.counts.items x.channel (get_or pool.counts.items x.channel 0 - 1) →
+            IsCounted counts pool.channels (order_of head n two) two
+        counted_two counts e =
+            subst (λ c. IsCounted counts pool.channels (order_of head n c) c) (sym is)
+            (subst (λ o. IsCounted counts pool.channels o (left p mid)) (sym order_two)
+            (subst (λ l. IsCounted l pool.channels (us ++ vs) (left p mid)) (sym e)
+            (counted_left head heads free us p vs mid linked_mid x first holds_mid first_at.1 pool.counts.items pool.channels counted_mid below)))
+
+        due_two : IsByDue head (order_of head n two) (dues_of head n two) ticks_then two
+        due_two =
+            subst (λ c. IsByDue head (order_of head n c) (dues_of head n c) ticks_then c) (sym is)
+            (subst (λ o. IsByDue head o (dues_of head n (left p mid)) ticks_then (left p mid)) (sym order_two)
+            (subst (λ d. IsByDue head (us ++ vs) d ticks_then (left p mid)) (sym dues_two) left_due))
 
         -- the node is the first of the free ones
         module _ (three : List (Node T)) (three_is : three ≡ set_next Due p pool.free.first.index two) where
@@ -286,21 +281,23 @@ module _ {T : Type 0} (pool : Pool T) (whole : IsWhole pool) (p : ℕ) (i : IsIn
           take_held frees f m =
               let more : frees.count ≡ suc pool.free.count = omega (arith, m) in
               subst (λ l. IsHeld head heads l n three) (λ i. free_of (sym f i) (sym more i) three)
-              (held_freed head heads free n p pool.free.first.index two held_two three three_is pool.free.count free_two)
+              (held_freed head heads free n p pool.free.first.index ticks_then two held_two due_two three three_is pool.free.count free_two)
 
           pub take_items : items_in three (order_of head n three) ≡ without (Some x) (items_of pool)
-          take_items = items_freed head heads free n p pool.free.first.index two held_two three three_is ∙ items_two
+          take_items = items_freed head heads free n p pool.free.first.index ticks_then two held_two due_two three three_is ∙ items_two
 
           -- what stands before it on a channel stays at its place
           pub take_before : (c m k q : ℕ) → slice_get (nodes_on pool.store c (order_in pool)) m ≡ Some p →
               slice_get (nodes_on pool.store c (order_in pool)) k ≡ Some q → k < m → slice_get (nodes_on three c (order_of head n three)) k ≡ Some q
           take_before c m k q e f h =
-              ap (λ l. slice_get l k) (nodes_freed head heads free n p pool.free.first.index two held_two three three_is c) ∙ before_two c m k q e f h
+              ap (λ l. slice_get l k) (nodes_freed head heads free n p pool.free.first.index ticks_then two held_two due_two three three_is c) ∙ before_two c m k q e f h
 
           pub take_counted : (counts : List ℕ) → counts ≡ slice_set pool.counts.items x.channel (get_or pool.counts.items x.channel 0 - 1) →
               IsCounted counts pool.channels (order_of head n three) three
           take_counted counts e =
-              counted_freed head heads free n p pool.free.first.index two held_two three three_is counts pool.channels (counted_two counts e)
+              counted_freed head heads free n p pool.free.first.index ticks_then two held_two due_two three three_is counts pool.channels (counted_two counts e)
 
           pub take_by_due : (ticks : List Tick) → ticks ≡ ticks_then → IsByDue head (order_of head n three) (dues_of head n three) ticks three
-          take_by_due ticks e = by_due_freed head heads free n p pool.free.first.index two held_two three three_is ticks (by_due_two ticks e)
+          take_by_due ticks e =
+              subst (λ l. IsByDue head (order_of head n three) (dues_of head n three) l three) (sym e)
+              (by_due_freed head heads free n p pool.free.first.index ticks_then two held_two due_two three three_is)

@@ -9,12 +9,15 @@ use Rattle.mn_flight.specs.Flying.{IsFlight, on_channel}
 use Rattle.mn_flight.specs.Earliest.{earliest}
 use Rattle.mn_flight_pool.specs.Cells.{value_at}
 use Rattle.mn_flight_pool.specs.Rings.{IsIn, IsRing, HaveRoom, item_at, room_at, next_of, prev_of}
-use Rattle.mn_flight_pool.specs.Pool.{nodes_on, steps_of}
-use Rattle.mn_flight_pool.specs.Whole.{AreLast, ptrs, dues_of, order_in, items_of, IsPlaced, IsWhole}
+use Rattle.mn_flight_pool.specs.Pool.{dues_of, nodes_on, steps_of}
+use Rattle.mn_flight_pool.specs.Whole.{AreLast, ptrs, order_in, free_in, items_of, IsPlaced, IsWhole}
 use Rattle.mn_flight_pool.specs.declared.pool.Pool.{Pool}
 use Rattle.mn_flight_pool.specs.declared.node.Place.{Place}
-use Rattle.mn_flight_pool.specs.declared.node.Pair.TheVariants.{Number, Channel, Due}
+use Rattle.mn_flight_pool.specs.declared.node.Pair.TheVariants.{Channel, Due}
+use Rattle.mn_flight_pool.specs.Nodes.{firsts}
+use Rattle.mn_flight_pool.proofs.Linked.{order_there}
 use Rattle.mn_flight_pool.proofs.Neighbours.{in_at}
+use Rattle.mn_flight_pool.proofs.Sorted.{Ascend, ascend_of}
 use Rattle.mn_flight_pool.proofs.Nodes.{below}
 use Rattle.mn_flight_pool.proofs.Entered.{from_filter}
 use Rattle.mn_flight_pool.proofs.Firsts.{firsts_length, first_at}
@@ -40,7 +43,7 @@ none_last order late e = record { front = order; cut = sym (ap (λ l. order ++ p
 
 module _ {T : Type 0} (pool : Pool T) (whole : IsWhole pool) where
   pub order_length : length (order_in pool) ≡ pool.count
-  order_length = length-trace (next_of Number pool.store) pool.head.index pool.count
+  order_length = sym whole.by_due.many ∙ length-trace (next_of Due pool.store) pool.head.index pool.count
 
   pub held_order : AllByRecursion (λ p. IsSome (item_at pool.store p)) (order_in pool)
   held_order = whole.held.linked.held
@@ -48,11 +51,15 @@ module _ {T : Type 0} (pool : Pool T) (whole : IsWhole pool) where
   pub flight : IsFlight pool.channels (items_of pool)
   flight = subst (λ n. IsFlight n (items_of pool)) (firsts_length pool.channels) whole.held.flight
 
+  -- the numbers of the nodes' items ascend
+  pub ascends : Ascend pool.store (order_in pool)
+  ascends = ascend_of pool.store (order_in pool) held_order flight.ascending
+
   pub items_count : length (items_of pool) ≡ pool.count
   items_count = items_length pool.store (order_in pool) held_order ∙ order_length
 
   pub node_there : (p : ℕ) → IsIn p (order_in pool) → IsSome (value_at p pool.store)
-  node_there p i = all_in (λ q. IsSome (value_at q pool.store)) (pool.head.index ∷ order_in pool) p whole.held.linked.number.there (inr i)
+  node_there p i = order_there pool.head.index (firsts pool.channels) (free_in pool) (order_in pool) pool.store whole.held.linked p i
 
   pub node_holds : (p : ℕ) → IsIn p (order_in pool) → IsSome (item_at pool.store p)
   node_holds p i = all_in (λ q. IsSome (item_at pool.store q)) (order_in pool) p held_order i

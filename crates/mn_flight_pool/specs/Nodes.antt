@@ -2,11 +2,9 @@
 use Rattle.std.specs.Prelude.{ℕ, zero, suc, Bool, true, false, List, [], ◌∷◌, Option, None}
 use Rattle.mn_flight.specs.declared.Item.{Item}
 use Rattle.mn_flight_pool.specs.declared.node.Link.{Link}
-use Rattle.mn_flight_pool.specs.declared.node.CommonLinks.{CommonLinks}
 
 -- the neighbours of a node in each ring
 pub record Links : Type 0 where
-  pub number : Link
   pub channel : Link
   pub due : Link
 
@@ -42,24 +40,24 @@ lone_links n = lone_links_at (firsts n)
 module _ {T : Type 0} where
   -- the first node of a channel stands in the ring of that channel alone
   abbrev pub first_node : Link → Node T
-  first_node link = record { links = record { number = nowhere; channel = link; due = nowhere }; room = false; item = None }
+  first_node link = record { links = record { channel = link; due = nowhere }; room = false; item = None }
 
-  -- any other node stands in a channel's ring and in those of all items
-  abbrev pub roomy_node : Link → CommonLinks → Option (Item T) → Node T
-  roomy_node link common item = record { links = record { number = common.number; channel = link; due = common.due }; room = true; item = item }
+  -- any other node stands in a channel's ring and in that of all items by due tick
+  abbrev pub roomy_node : Link → Link → Option (Item T) → Node T
+  roomy_node link due item = record { links = record { channel = link; due = due }; room = true; item = item }
 
   -- nodes with room, with these neighbours and items
-  abbrev pub roomy_nodes : List Link → List CommonLinks → List (Option (Item T)) → List (Node T)
-  roomy_nodes [] common items = []
+  abbrev pub roomy_nodes : List Link → List Link → List (Option (Item T)) → List (Node T)
+  roomy_nodes [] dues items = []
   roomy_nodes (link ∷ links) [] items = first_node link ∷ roomy_nodes links [] items
-  roomy_nodes (link ∷ links) (both ∷ common) [] = first_node link ∷ roomy_nodes links common []
-  roomy_nodes (link ∷ links) (both ∷ common) (item ∷ items) = roomy_node link both item ∷ roomy_nodes links common items
+  roomy_nodes (link ∷ links) (due ∷ dues) [] = first_node link ∷ roomy_nodes links dues []
+  roomy_nodes (link ∷ links) (due ∷ dues) (item ∷ items) = roomy_node link due item ∷ roomy_nodes links dues items
 
   -- the first nodes of so many channels, and behind them the others
-  abbrev pub nodes_of : ℕ → List Link → List CommonLinks → List (Option (Item T)) → List (Node T)
-  nodes_of zero links common items = roomy_nodes links common items
-  nodes_of (suc n) [] common items = []
-  nodes_of (suc n) (link ∷ links) common items = first_node link ∷ nodes_of n links common items
+  abbrev pub nodes_of : ℕ → List Link → List Link → List (Option (Item T)) → List (Node T)
+  nodes_of zero links dues items = roomy_nodes links dues items
+  nodes_of (suc n) [] dues items = []
+  nodes_of (suc n) (link ∷ links) dues items = first_node link ∷ nodes_of n links dues items
 
   -- the first nodes of so many channels, each alone in its ring
   abbrev pub lone_firsts : ℕ → List (Node T)

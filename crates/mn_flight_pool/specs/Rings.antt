@@ -4,7 +4,7 @@ use Rattle.mn_flight.specs.declared.Item.{Item}
 use Rattle.std.specs.List.{AllByRecursion, IsDistinct}
 use Rattle.mn_flight_pool.specs.Cells.{same_place, value_at}
 use Rattle.mn_flight_pool.specs.declared.node.Pair.{Pair}
-use Rattle.mn_flight_pool.specs.declared.node.Pair.TheVariants.{Number, Channel, Due}
+use Rattle.mn_flight_pool.specs.declared.node.Pair.TheVariants.{Channel, Due}
 use Rattle.mn_flight_pool.specs.declared.node.Link.{Link}
 use Rattle.mn_flight_pool.specs.Nodes.{Links, Node, nowhere}
 
@@ -26,12 +26,10 @@ abbrev pub IsFree : ℕ → List ℕ → Type 0
 IsFree p ps = AllByRecursion (λ q. same_place p q ≡ false) ps
 
 abbrev pub link_in : Pair → Links → Link
-link_in Number links = links.number
 link_in Channel links = links.channel
 link_in Due links = links.due
 
 abbrev pub with_link_in : Pair → Link → Links → Links
-with_link_in Number link links = record links { number = link }
 with_link_in Channel link links = record links { channel = link }
 with_link_in Due link links = record links { due = link }
 
@@ -111,10 +109,9 @@ module _ {T : Type 0} where
   abbrev pub HaveRoom : List (Node T) → List ℕ → Type 0
   HaveRoom cells ps = (p : ℕ) → IsIn p ps → room_at cells p ≡ true
 
-  -- the node at p can stand in a ring of the pair: each in one of a channel, and those with room for an item in any
+  -- the node at p can stand in a ring of the pair: each in one of a channel, and those with room for an item in that by due tick
   abbrev pub CanStand : Pair → List (Node T) → ℕ → Type 0
   CanStand Channel cells p = IsSome (value_at p cells)
-  CanStand Number cells p = room_at cells p ≡ true
   CanStand Due cells p = room_at cells p ≡ true
 
   abbrev pub with_item : ℕ → Option (Item T) → List (Node T) → List (Node T)

@@ -2,12 +2,10 @@
 use Rattle.std.specs.Prelude.{◌≡◌, ◌≤◌, ◌<◌, ◌+◌, ◌^◌, ◌++◌, ℕ, List, length, map, slice_get, slice_index, Some, MatchOption, ⊤, min}
 use Rattle.std.specs.Vec.{vec_capacity}
 use Rattle.mn_flight.specs.declared.Item.{Item}
-use Rattle.mn_flight_pool.specs.Rings.{next_of}
-use Rattle.mn_flight_pool.specs.Pool.{trace, order_of, free_of, items_in, nodes_on, IsHeld}
+use Rattle.mn_flight_pool.specs.Pool.{dues_of, order_of, free_of, items_in, nodes_on, IsHeld}
 use Rattle.mn_flight_pool.specs.ByDue.{IsByDue}
 use Rattle.mn_flight_pool.specs.declared.node.Place.{Place}
 use Rattle.mn_flight_pool.specs.Nodes.{Node, firsts}
-use Rattle.mn_flight_pool.specs.declared.node.Pair.TheVariants.{Due}
 use Rattle.mn_flight_pool.specs.declared.pool.Pool.{Pool}
 
 -- these are the last of the order
@@ -23,10 +21,6 @@ module _ {T : Type 0} where
   pub record IsCounted (counts : List ℕ) (channels : ℕ) (order : List ℕ) (cells : List (Node T)) : Type 0 where
     pub many : length counts ≡ channels
     pub each : (c : ℕ) → c < channels → slice_index counts c ≡ length (nodes_on cells c order)
-
-  -- the nodes that hold items, the soonest first
-  abbrev pub dues_of : ℕ → ℕ → List (Node T) → List ℕ
-  dues_of head count cells = trace (next_of Due cells) head count
 
   -- the nodes that hold items, in the order of the items' numbers
   abbrev pub order_in : Pool T → List ℕ

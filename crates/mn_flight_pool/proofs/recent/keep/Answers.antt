@@ -1,7 +1,6 @@
 use Rattle.std.proofs.Common.{[], ◌∷◌, ◌++◌, arith, sym, ap, ◌∙◌}
 use Rattle.std.specs.Vec.{vec_capacity}
 use Rattle.mn_flight_pool.specs.Whole.{ptrs}
-use Rattle.mn_flight_pool.specs.declared.node.Place.{Place}
 use Rattle.mn_flight_pool.proofs.Put.{ptrs_push}
 use Rattle.mn_flight_pool.proofs.recent.keep.Goals as goal
 use Rattle.mn_flight_pool.proofs.recent.keep.Goals.{then-len-ge-MOST_RECENT, else-len-ge-MOST_RECENT}

@@ -1,17 +1,10 @@
-use Rattle.std.proofs.Common.{◌≡◌, None, [], arith, subst, ap, ◌∙◌}
+use Rattle.std.proofs.Common.{◌≡◌, None, [], arith, subst}
 use Rattle.mn_flight_pool.specs.Cells.{value_at}
 use Rattle.mn_flight_pool.specs.Nodes.{lone_firsts}
-use Rattle.mn_flight_pool.specs.Rings.{IsVacantLast, room_at}
-use Rattle.mn_flight_pool.specs.declared.node.Pair.TheVariants.{Number}
+use Rattle.mn_flight_pool.specs.Rings.{IsVacantLast}
 use Rattle.mn_flight_pool.proofs.Whole.{none_last}
 use Rattle.mn_flight_pool.proofs.Grown.{filled, empty_held, empty_counted, empty_by_due}
-use Rattle.mn_flight_pool.proofs.Rings.{room_lone}
 use Rattle.mn_flight_pool.proofs.pool.Pool.new.Goals as goal
-
-pub lone-requires-2 : goal.lone-requires-2
-lone-requires-2 g c =
-    ap (λ s. room_at s c.in_ok-head.head.index) c.lone.ensures
-    ∙ room_lone Number c.in_ok-head.head.index c.in_ok-head.head.index c.add.new.self ∙ (c.in_ok-head.ensures).room
 
 pub returns-clause-whole : goal.returns-clause-whole
 returns-clause-whole g c =
@@ -22,13 +15,13 @@ returns-clause-whole g c =
     let fresh = subst (λ o. value_at head o ≡ None) c.in_ok-store.ensures (c.in_ok-head.ensures).fresh in
     let own = (c.in_ok-head.ensures).room in
     record {
-      held = empty_held n head c.add.new.self c.lone.new.self c.lone-2.new.self added fresh own c.lone.ensures c.lone-2.ensures
+      held = empty_held n head c.add.new.self c.lone.new.self added fresh own c.lone.ensures
           c.none.result.first.index c.none.result.count c.none.ensures;
-      counted = empty_counted n head c.add.new.self c.lone.new.self c.lone-2.new.self added fresh own c.lone.ensures c.lone-2.ensures
+      counted = empty_counted n head c.add.new.self c.lone.new.self added fresh own c.lone.ensures
           c.resize.new.self.items
           (filled n c.new-counts.result.items c.new-counts.result.len c.resize.new.self.items c.new-counts.ensures.items
           (omega (arith, c.new-counts.ensures.len)) (c.in_ok-resize.ensures).items);
-      by_due = empty_by_due n head c.add.new.self c.lone.new.self c.lone-2.new.self added fresh own c.lone.ensures c.lone-2.ensures
+      by_due = empty_by_due n head c.add.new.self c.lone.new.self added fresh own c.lone.ensures
           c.new-2.result.items c.new-2.ensures.items;
       few = omega (arith, c.none.ensures);
       ticks_room = omega (arith, c.none.ensures);

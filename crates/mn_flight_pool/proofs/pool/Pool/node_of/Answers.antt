@@ -1,6 +1,6 @@
-use Rattle.std.proofs.Common.{◌≡◌, ◌<◌, arith, subst}
+use Rattle.std.proofs.Common.{◌≡◌, arith, subst}
 use Rattle.mn_flight_pool.specs.Newest.{IsPassed}
-use Rattle.mn_flight_pool.proofs.Newest.{none_passed, next, at_there, next_there, next_holds, passes, found, missing, all_greater}
+use Rattle.mn_flight_pool.proofs.Newest.{none_passed, next, at_there, next_there, next_holds, passes, found, all_others}
 use Rattle.mn_flight_pool.proofs.pool.Pool.node_of.Goals as goal
 
 pub loop-init : goal.loop-init
@@ -21,18 +21,11 @@ returns-in_err-item g c =
     (next c.args.self.now c.requires c.args.number c.loop.counter c.loop.node.index c.prev-node.result.index c.loop.invariant c.loop-test.true
     c.prev-node.ensures) c.in_err-item.ensures)
 
-pub returns-then-item-number-2 : goal.returns-then-item-number-2
-returns-then-item-number-2 g c =
+pub returns-then-item-number : goal.returns-then-item-number
+returns-then-item-number g c =
     found c.args.self.now c.requires c.args.number c.loop.counter c.prev-node.result.index
     (next c.args.self.now c.requires c.args.number c.loop.counter c.loop.node.index c.prev-node.result.index c.loop.invariant c.loop-test.true
-    c.prev-node.ensures) c.in_ok-item.item.now c.in_ok-item.ensures c.if-item-number-2.true
-
-pub returns-else-item-number-2 : goal.returns-else-item-number-2
-returns-else-item-number-2 g c =
-    let less : c.in_ok-item.item.now.number < c.args.number = omega (arith, c.if-item-number.true, c.if-item-number-2.false) in
-    missing c.args.self.now c.requires c.args.number c.loop.counter c.prev-node.result.index
-    (next c.args.self.now c.requires c.args.number c.loop.counter c.loop.node.index c.prev-node.result.index c.loop.invariant c.loop-test.true
-    c.prev-node.ensures) c.in_ok-item.item.now c.in_ok-item.ensures less
+    c.prev-node.ensures) c.in_ok-item.item.now c.in_ok-item.ensures c.if-item-number.true
 
 pub loop-preserved : goal.loop-preserved
 loop-preserved g c =
@@ -43,5 +36,5 @@ loop-preserved g c =
 pub returns : goal.returns
 returns g c =
     let end : c.loop.counter ≡ c.args.self.now.count = omega (arith, c.loop-test.false, c.loop.auto.counter-end) in
-    all_greater c.args.self.now c.requires c.args.number c.loop.node.index
+    all_others c.args.self.now c.requires c.args.number c.loop.node.index
     (subst (λ n. IsPassed c.args.self.now c.args.number n c.loop.node.index) end c.loop.invariant)

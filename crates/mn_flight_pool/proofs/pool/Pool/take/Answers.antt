@@ -6,7 +6,7 @@ use Rattle.mn_flight_pool.specs.ByDue.{ticks_left}
 use Rattle.mn_flight_pool.specs.declared.node.Place.{Place}
 use Rattle.mn_flight_pool.specs.declared.node.Pair.TheVariants.{Due}
 use Rattle.mn_flight_pool.proofs.Put.{count_read}
-use Rattle.mn_flight_pool.proofs.Take.{some_count, next_there, prev_there, no_item, same_item, below, some_on, number_ring, channel_ring, room_one, room_two, item_one}
+use Rattle.mn_flight_pool.proofs.Take.{some_count, next_there, prev_there, no_item, same_item, below, some_on, channel_ring, room_one, room_two, item_one}
 use Rattle.mn_flight_pool.proofs.Take.{take_held, take_items, take_counted, take_by_due, take_before}
 use Rattle.mn_flight_pool.proofs.Whole.{node_holds, items_count, none_last}
 use Rattle.mn_flight_pool.proofs.pool.Pool.take.Goals as goal
@@ -22,11 +22,6 @@ unlink_due-requires-clause-next g c = next_there c.args.self.now c.requires.whol
 
 pub unlink_due-requires-clause-prev : goal.unlink_due-requires-clause-prev
 unlink_due-requires-clause-prev g c = prev_there c.args.self.now c.requires.whole c.args.node.index c.requires.node
-
-pub leave-requires-clause-number : goal.leave-requires-clause-number
-leave-requires-clause-number g c =
-    number_ring c.args.self.now c.requires.whole c.args.node.index c.requires.node c.in_ok-due.field-0.now
-    (sym c.in_ok-due.ensures.value) c.unlink_due.new.store c.unlink_due.ensures.store
 
 pub leave-requires-clause-room : goal.leave-requires-clause-room
 leave-requires-clause-room g c =

@@ -9,6 +9,6 @@ returns g c =
       c.in-Ok.ensures,
       c.len.ensures,
       c.self.inside.channel.ok.0,
-      many c.self.inside.firsts c.self.inside.channel.items c.self.inside.common.items c.self.inside.items.items,
+      many c.self.inside.firsts c.self.inside.channel.items c.self.inside.due.items c.self.inside.items.items,
       ap (λ l. length l) c.self.view_is,
     )
