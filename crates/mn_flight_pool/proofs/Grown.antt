@@ -1,12 +1,12 @@
 -- A whole pool with one more node, and the one that holds nothing.
-use Rattle.std.proofs.Common.{◌≡◌, ◌+◌, ℕ, zero, suc, true, false, List, [], ◌∷◌, ◌++◌, length, Some, None, IsSome, refl, sym, ap, ◌∙◌, subst, arith}
+use Rattle.std.proofs.Common.{◌≡◌, ◌+◌, ℕ, zero, suc, true, List, [], ◌∷◌, ◌++◌, length, Some, None, IsSome, refl, sym, ap, ◌∙◌, subst, arith}
 use Rattle.std.proofs.Common.{◌-◌, append-nil, take, replicate, get_or}
 use Rattle.std.proofs.lemmas.List.{length-replicate}
 use Rattle.std.specs.Prelude.{MatchOption, ⊤, slice_get}
 use Rattle.std.specs.List.{AllByRecursion, IsDistinct}
 use Rattle.mn_flight.proofs.Kept.{none_flies}
 use Rattle.mn_flight_pool.specs.Cells.{same_place, value_at}
-use Rattle.mn_flight_pool.specs.Rings.{IsIn, IsRing, IsVacantLast, item_in, item_at, room_at, next_in, prev_in, next_of, link_of, with_link, set_next, lone}
+use Rattle.mn_flight_pool.specs.Rings.{IsIn, IsRing, IsVacantLast, item_in, item_at, room_at, next_in, prev_in, next_of, set_next, lone}
 use Rattle.mn_flight_pool.specs.ByDue.{IsByDue}
 use Rattle.mn_flight_pool.specs.Pool.{items_in, nodes_on, dues_of, order_of, free_of, trace, IsLinked, IsHeld}
 use Rattle.mn_flight_pool.specs.Whole.{AreLast, ptrs, order_in, free_in, items_of, IsWhole, IsCounted}
@@ -18,7 +18,7 @@ use Rattle.mn_flight_pool.specs.declared.node.Pair.{Pair}
 use Rattle.mn_flight_pool.specs.declared.node.Pair.TheVariants.{Channel, Due}
 use Rattle.mn_flight_pool.specs.declared.node.Link.{Link}
 use Rattle.mn_flight_pool.specs.Nodes.{Node, firsts, lone_firsts}
-use Rattle.mn_flight_pool.proofs.Changed.{value_other, next_stays, prev_stays}
+use Rattle.mn_flight_pool.proofs.Changed.{next_stays, prev_stays}
 use Rattle.mn_flight_pool.proofs.Rings.{Unlike, room_lone, next_at, prev_at, next_past, set_next_leaves, set_prev_leaves, link_unlike, item_kept, ring_same}
 use Rattle.mn_flight_pool.proofs.Entered.{same_nodes_on}
 use Rattle.mn_flight_pool.proofs.Finger.{finger_kept}
@@ -79,11 +79,6 @@ module _ {T : Type 0} where
   item_lone : (pair : Pair) (p x : ℕ) (cells : List (Node T)) → item_at (lone pair p cells) x ≡ item_at cells x
   item_lone pair p x cells =
       set_prev_leaves pair item_in (item_kept pair) p p x (set_next pair p p cells) ∙ set_next_leaves pair item_in (item_kept pair) p p x cells
-
-  value_lone : (pair : Pair) (p x : ℕ) (cells : List (Node T)) → same_place p x ≡ false → value_at x (lone pair p cells) ≡ value_at x cells
-  value_lone pair p x cells h =
-      value_other p x (λ node. with_link pair (record (link_of pair node) { prev = record { index = p } }) node) (set_next pair p p cells) h
-      ∙ value_other p x (λ node. with_link pair (record (link_of pair node) { next = record { index = p } }) node) cells h
 
   first_there : (p : ℕ) (old new : List (Node T)) → IsVacantLast p old new → IsSome (value_at p new)
   first_there p old new added = subst (λ o. IsSome o) (sym (held.value_added p old new added)) refl

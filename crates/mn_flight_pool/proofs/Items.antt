@@ -105,16 +105,6 @@ module _ {T : Type 0} where
         by (Some x) f (inr j) rest = let on = rest j in (on.0, inr on.1, on.2)
 
   -- 4. Numbers
-  -- in front of an item stand those of lesser numbers
-  pub lesser_before : (xs : List (Item T)) (x : Item T) (ys : List (Item T)) → AllPairs (λ (a : Item T) (b : Item T). a.number < b.number) (xs ++ x ∷ ys) →
-      (y : Item T) → members.IsIn y xs → y.number < x.number
-  lesser_before [] x ys up y i = absurd i
-  lesser_before (z ∷ zs) x ys up y (inl e) = subst (λ (w : Item T). w.number < x.number) (sym e) (members.first_below z (zs ++ x ∷ ys) up x (there zs))
-    where
-      there : (ws : List (Item T)) → members.IsIn x (ws ++ x ∷ ys)
-      there [] = inl refl
-      there (w ∷ ws) = inr (there ws)
-  lesser_before (z ∷ zs) x ys up y (inr j) = lesser_before zs x ys (members.rest_ascends z (zs ++ x ∷ ys) up) y j
 
   pub one_item : (xs : List (Item T)) → AllPairs (λ (a : Item T) (b : Item T). a.number < b.number) xs →
       (a b : Item T) → members.IsIn a xs → members.IsIn b xs → a.number ≡ b.number → a ≡ b

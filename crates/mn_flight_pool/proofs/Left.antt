@@ -16,7 +16,7 @@ use Rattle.mn_flight_pool.proofs.Linked.{order_there}
 use Rattle.mn_flight_pool.proofs.Neighbours.{in_left, in_at, free_left, free_right, free_both, free_from, free_at, others_free, distinct_with}
 use Rattle.mn_flight_pool.proofs.Neighbours.{distinct_without, apart_parts, at_places, all_without}
 use Rattle.mn_flight_pool.proofs.Rings.{ring_unlinked, ring_past_item, ring_aside_unlink, ring_sides, unlink_stays, item_past_unlink}
-use Rattle.mn_flight_pool.proofs.Rings.{item_put, item_else, room_past_item, room_past_unlink}
+use Rattle.mn_flight_pool.proofs.Rings.{item_else, room_past_item, room_past_unlink}
 use Rattle.mn_flight_pool.proofs.Entered.{from_filter, one_channel, same_nodes_on, same_items}
 
 module _ {T : Type 0} (head : ℕ) (heads free us : List ℕ) (p : ℕ) (vs : List ℕ) (cells : List (Node T))
@@ -65,9 +65,6 @@ module _ {T : Type 0} (head : ℕ) (heads free us : List ℕ) (p : ℕ) (vs : Li
 
   pub two_there : (q : ℕ) → IsSome (value_at q cells) → IsSome (value_at q two)
   two_there q h = stays p q (λ (node : Node T). record node { item = None }) one (one_there q h)
-
-  pub empty_left : item_at two p ≡ None
-  empty_left = item_put p None one (one_there p p_there)
 
   -- 3. The channels' rings
   in_order : (c : ℕ) (q : ℕ) → IsIn q (nodes_on cells c order) → (is_on c (item_at cells q) ≡ true) × IsIn q order

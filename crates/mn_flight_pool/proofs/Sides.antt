@@ -1,5 +1,5 @@
 -- What a ring says of the nodes that linking and unlinking reach.
-use Rattle.std.proofs.Common.{ℕ, ◌≡◌, true, List, [], ◌∷◌, ◌++◌, Some, IsSome, inl, inr, refl, sym, ap, ◌∙◌, subst}
+use Rattle.std.proofs.Common.{ℕ, ◌≡◌, true, List, [], ◌∷◌, ◌++◌, Some, IsSome, inr, sym, ap, ◌∙◌, subst}
 use Rattle.std.specs.List.{AllByRecursion}
 use Rattle.mn_flight.specs.declared.Item.{Item}
 use Rattle.mn_flight_pool.specs.Cells.{value_at}
@@ -9,8 +9,8 @@ use Rattle.mn_flight_pool.specs.declared.node.Pair.{Pair}
 use Rattle.mn_flight_pool.specs.declared.node.Pair.TheVariants.{Channel}
 use Rattle.mn_flight_pool.specs.Nodes.{Node}
 use Rattle.mn_flight_pool.proofs.Changed.{stays}
-use Rattle.mn_flight_pool.proofs.Rings.{ring_last, ring_sides, ring_past_item, link_stays, unlink_stays, item_past_unlink}
-use Rattle.mn_flight_pool.proofs.Rings.{room_past_unlink, room_past_item}
+use Rattle.mn_flight_pool.proofs.Rings.{ring_last, ring_sides, ring_past_item, item_past_unlink}
+use Rattle.mn_flight_pool.proofs.Rings.{room_past_unlink}
 use Rattle.mn_flight_pool.proofs.Sooner.{all_in, in_middle}
 
 module _ {T : Type 0} where
@@ -47,13 +47,6 @@ module _ {T : Type 0} where
 
   -- they have room for an item where the ring's nodes have
   module _ (pair : Pair) (cells : List (Node T)) (s : ℕ) where
-    pub last_room : (ps : List ℕ) → IsRing pair cells s ps → HaveRoom cells (s ∷ ps) → room_at cells (prev_of pair cells s) ≡ true
-    last_room ps ring rooms = rooms (prev_of pair cells s) (ring_last pair cells s ps ring).0
-
-    pub after_last_room : (ps : List ℕ) → IsRing pair cells s ps → HaveRoom cells (s ∷ ps) →
-        room_at cells (next_of pair cells (prev_of pair cells s)) ≡ true
-    after_last_room ps ring rooms = subst (λ q. room_at cells q ≡ true) (sym (ring_last pair cells s ps ring).1) (rooms s (inl refl))
-
     module _ (us : List ℕ) (p : ℕ) (vs : List ℕ) (ring : IsRing pair cells s (us ++ p ∷ vs)) (rooms : HaveRoom cells (s ∷ (us ++ p ∷ vs))) where
       pub node_room : room_at cells p ≡ true
       node_room = rooms p (inr (in_middle us p vs))
@@ -63,12 +56,6 @@ module _ {T : Type 0} where
 
       pub next_room : room_at cells (next_of pair cells p) ≡ true
       next_room = rooms (next_of pair cells p) (ring_sides pair cells s us p vs ring).1
-
-  pub rooms_put : (p : ℕ) (item : Item T) (old new : List (Node T)) (ps : List ℕ) → new ≡ with_item p (Some item) old → HaveRoom old ps → HaveRoom new ps
-  rooms_put p item old new ps e rooms q i = ap (λ c. room_at c q) e ∙ room_past_item p q (Some item) old ∙ rooms q i
-
-  pub room_put : (p : ℕ) (item : Item T) (old new : List (Node T)) → new ≡ with_item p (Some item) old → room_at old p ≡ true → room_at new p ≡ true
-  room_put p item old new e h = ap (λ c. room_at c p) e ∙ room_past_item p p (Some item) old ∙ h
 
   -- as `enter` and `leave` come upon them
   pub ring_put : (pair : Pair) (p : ℕ) (item : Item T) (old new : List (Node T)) (s : ℕ) (ps : List ℕ) → new ≡ with_item p (Some item) old →
@@ -81,13 +68,6 @@ module _ {T : Type 0} where
 
   pub left_room : (p : ℕ) (old new : List (Node T)) → new ≡ unlink Channel p old → room_at new p ≡ room_at old p
   left_room p old new e = ap (λ c. room_at c p) e ∙ room_past_unlink Channel p p old
-
-  pub linked_there : (pair : Pair) (p a q : ℕ) (old new : List (Node T)) → new ≡ link_behind pair p a old → IsSome (value_at q old) →
-      IsSome (value_at q new)
-  linked_there pair p a q old new e h = subst (λ c. IsSome (value_at q c)) (sym e) (link_stays pair p a q old h)
-
-  pub unlinked_there : (pair : Pair) (p q : ℕ) (old new : List (Node T)) → new ≡ unlink pair p old → IsSome (value_at q old) → IsSome (value_at q new)
-  unlinked_there pair p q old new e h = subst (λ c. IsSome (value_at q c)) (sym e) (unlink_stays pair p q old h)
 
   pub entered_is : (first p b : ℕ) (item : Item T) (old one two : List (Node T)) → one ≡ with_item p (Some item) old →
       b ≡ prev_of Channel one first → two ≡ link_behind Channel p b one → two ≡ entered first p item old

@@ -39,14 +39,6 @@ module _ {T : Type 0} (cells : List (Node T)) where
         ascend_of ps held.1 (members.rest_ascends x.0 (items_in cells ps) up'),
       )
 
-  pub ascend_push : (ps : List ℕ) (p : ℕ) → Ascend ps → ((q : ℕ) → IsIn q ps → number_at q < number_at p) → Ascend (ps ++ p ∷ [])
-  ascend_push [] p up above = (tt, tt)
-  ascend_push (x ∷ xs) p up above = (push xs up.0, ascend_push xs p up.1 (λ q i. above q (inr i)))
-    where
-      push : (ys : List ℕ) → AllByRecursion (λ q. number_at x < number_at q) ys → AllByRecursion (λ q. number_at x < number_at q) (ys ++ p ∷ [])
-      push [] h = (above x (inl refl), tt)
-      push (y ∷ ys) h = (h.0, push ys h.1)
-
   pub ascend_without : (us : List ℕ) (p : ℕ) (vs : List ℕ) → Ascend (us ++ p ∷ vs) → Ascend (us ++ vs)
   ascend_without [] p vs up = up.1
   ascend_without (u ∷ us) p vs up = (drop us up.0, ascend_without us p vs up.1)

@@ -62,9 +62,6 @@ module _ {T : Type 0} (pool : Pool T) (whole : IsWhole pool) (p : ℕ) (i : IsIn
       many [] j = absurd j
       many (q ∷ qs) j = omega arith
 
-  count_is : pool.count ≡ suc n
-  count_is = omega (arith, some_count)
-
   cut : (us : List ℕ) × (vs : List ℕ) × (order_in pool ≡ us ++ p ∷ vs)
   cut = in_cut p (order_in pool) i
 
