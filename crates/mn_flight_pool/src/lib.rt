@@ -14,8 +14,8 @@
 //!
 //! Beside the ring by due tick stands a list of the due ticks in flight, ascending, each with its last node. So a push looks
 //! for its tick in that list, and takes no walk over what is due later. A node that comes free is kept, names the one that was
-//! free before it, and is used again. A finger
-//! stays on the node before that which was taken last by its place, so that places near it are walked to from there.
+//! free before it, and is used again. A finger stays on the node before that which was taken last by its place, so that
+//! places near it are walked to from there.
 //!
 //! - `node`, `store`: the neighbours of a node; all nodes, by their places, with their items
 //! - `free`: the nodes that hold no item
