@@ -2,8 +2,9 @@
 use Rattle.std.proofs.Common.{◌≡◌, ◌+◌, ℕ, zero, suc, true, List, [], ◌∷◌, ◌++◌, length, Some, None, IsSome, refl, sym, ap, ◌∙◌, subst, arith}
 use Rattle.std.proofs.Common.{◌-◌, append-nil, take, replicate, get_or}
 use Rattle.std.proofs.lemmas.List.{length-replicate}
-use Rattle.std.specs.Prelude.{MatchOption, ⊤, slice_get}
-use Rattle.std.specs.List.{AllByRecursion, IsDistinct}
+use Rattle.std.specs.Prelude.{◌≤◌, MatchOption, ⊤, slice_get}
+use Rattle.std.specs.List.{All, AllByRecursion, IsDistinct}
+use Rattle.mn_flight.specs.declared.Item.{Item}
 use Rattle.mn_flight.proofs.Kept.{none_flies}
 use Rattle.mn_flight_pool.specs.Cells.{same_place, value_at}
 use Rattle.mn_flight_pool.specs.Rings.{IsIn, IsRing, IsVacantLast, item_in, item_at, room_at, next_in, prev_in, next_of, set_next, lone}
@@ -182,6 +183,9 @@ module _ {T : Type 0} where
       grown_items =
           items_freed pool.head.index (firsts pool.channels) (free_in pool) pool.count node.index pool.free.first.index pool.ticks.items new (held_added own) by_due_added then is
           ∙ items_added
+
+      pub grown_latest : All (λ (e : Item T). e.number ≤ pool.latest) (items_in then (order_of pool.head.index pool.count then))
+      grown_latest = subst (λ xs. All (λ (e : Item T). e.number ≤ pool.latest) xs) (sym grown_items) whole.latest
 
       pub grown_recent : AreLast (order_of pool.head.index pool.count then) (ptrs pool.recent.items)
       grown_recent = subst (λ o. AreLast o (ptrs pool.recent.items)) (sym order_grown) recent_added

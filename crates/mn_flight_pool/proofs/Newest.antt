@@ -1,7 +1,7 @@
 -- A walk from the node that is due last back finds the item of a number.
 use Rattle.std.proofs.Common.{◌≡◌, ◌<◌, ◌+◌, ℕ, suc, Bool, true, false, List, [], ◌∷◌, ◌++◌, length, Option, Some, None, IsSome, inl, inr, refl, sym, ap}
 use Rattle.std.proofs.Common.{◌∙◌, subst, arith, append_assoc, append-nil, length-append}
-use Rattle.std.specs.Prelude.{◌==◌, find}
+use Rattle.std.specs.Prelude.{◌≤◌, ◌==◌, find}
 use Rattle.std.proofs.lemmas.Bool.Decides.{nat_tests}
 use Rattle.std.proofs.lemmas.Option.{same_Some}
 use Rattle.mn_flight.specs.declared.Item.{Item}
@@ -26,6 +26,13 @@ module _ {T : Type 0} (pool : Pool T) (whole : IsWhole pool) (number : ℕ) wher
 
   dues_length : length dues ≡ pool.count
   dues_length = length-trace (next_of Due pool.store) pool.head.index pool.count
+
+  -- no item has a greater number than the last
+  pub none_greater : pool.latest < number → find (λ (item : Item T). item.number == number) (items_of pool) ≡ None
+  none_greater h = find_none (λ (item : Item T). item.number == number) (items_of pool) (λ y i.
+      let at = members.contains_of_in (items_of pool) y i in
+      let most : y.number ≤ pool.latest = subst (λ (z : Item T). z.number ≤ pool.latest) at.2 (whole.latest at.0 y at.1) in
+      grind (arith, nat_tests, most, h))
 
   pub none_passed : IsPassed pool number 0 pool.head.index
   none_passed = record { front = dues; passed = []; cut = sym (append-nil dues); count = refl; node = refl; other = λ q y i e. absurd i }

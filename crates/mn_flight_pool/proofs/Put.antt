@@ -4,6 +4,7 @@ use Rattle.std.proofs.Common.{subst, arith, append_assoc, length-append, get_or}
 use Rattle.std.specs.Prelude.{◌==◌, cond, MatchOption, ⊤, slice_get, slice_set}
 use Rattle.std.specs.List.{All}
 use Rattle.std.proofs.lemmas.List.{map-append}
+use Rattle.std.proofs.lemmas.Grind.{common_steps}
 use Rattle.mn_flight.specs.declared.Item.{Item}
 use Rattle.mn_flight.proofs.Members as members
 use Rattle.mn_flight_pool.specs.Rings.{IsIn, IsRing, item_at, room_at, next_of, link_behind}
@@ -215,6 +216,13 @@ module _ {T : Type 0} (pool : Pool T) (whole : IsWhole pool) where
 
             pub put_items : items_in two (order_of pool.head.index (pool.count + 1) two) ≡ items_of pool ++ x ∷ []
             put_items = subst (λ c. items_in c (order_of pool.head.index (pool.count + 1) c) ≡ items_of pool ++ x ∷ []) (sym is) items_four
+
+            -- none has a greater number
+            pub put_latest : All (λ (e : Item T). e.number ≤ x.number) (items_in two (order_of pool.head.index (pool.count + 1) two))
+            put_latest = subst (λ xs. All (λ (e : Item T). e.number ≤ x.number) xs) (sym put_items) (at_most above)
+              where
+                at_most : All (λ (e : Item T). e.number < x.number) (items_of pool) → All (λ (e : Item T). e.number ≤ x.number) (items_of pool ++ x ∷ [])
+                at_most less = grind (arith, common_steps, less)
 
             pub put_recent : (late : List Place) → AreLast (ptrs (pool.recent.items ++ node ∷ [])) (ptrs late) →
                 AreLast (order_of pool.head.index (pool.count + 1) two) (ptrs late)

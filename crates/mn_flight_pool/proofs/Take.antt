@@ -1,9 +1,10 @@
 -- A whole pool gives an item out, and its node is free.
 use Rattle.std.proofs.Common.{◌≡◌, ◌<◌, ◌+◌, ◌-◌, ℕ, zero, suc, true, false, Bool, cond, List, [], ◌∷◌, ◌++◌, length, Option, Some, None, IsSome, inl, inr, refl, sym, ap, ◌∙◌, subst, arith}
 use Rattle.std.proofs.Common.{length-append, get_or, eq-eqb}
-use Rattle.std.specs.Prelude.{◌==◌, slice_get, slice_set}
-use Rattle.std.specs.List.{IsDistinct}
+use Rattle.std.specs.Prelude.{◌≤◌, ◌==◌, not, slice_get, slice_set}
+use Rattle.std.specs.List.{All, IsDistinct}
 use Rattle.std.proofs.lemmas.Option.{same_Some}
+use Rattle.std.proofs.lemmas.List.Elements.{All-filter}
 use Rattle.mn_flight.specs.declared.Item.{Item}
 use Rattle.mn_flight.specs.Flying.{without}
 use Rattle.mn_flight.proofs.Members as members
@@ -282,6 +283,12 @@ module _ {T : Type 0} (pool : Pool T) (whole : IsWhole pool) (p : ℕ) (i : IsIn
 
           pub take_items : items_in three (order_of head n three) ≡ without (Some x) (items_of pool)
           take_items = items_freed head heads free n p pool.free.first.index ticks_then two held_two due_two three three_is ∙ items_two
+
+          -- and of those left none has a greater number than the last put
+          pub take_latest : All (λ (e : Item T). e.number ≤ pool.latest) (items_in three (order_of head n three))
+          take_latest =
+              subst (λ xs. All (λ (e : Item T). e.number ≤ pool.latest) xs) (sym take_items)
+              (All-filter (λ (other : Item T). not (other.number == x.number)) (λ (e : Item T). e.number ≤ pool.latest) (items_of pool) whole.latest)
 
           -- what stands before it on a channel stays at its place
           pub take_before : (c m k q : ℕ) → slice_get (nodes_on pool.store c (order_in pool)) m ≡ Some p →

@@ -1,6 +1,7 @@
 -- What a pool keeps between two calls, and the items that it holds.
 use Rattle.std.specs.Prelude.{◌≡◌, ◌≤◌, ◌<◌, ◌+◌, ◌^◌, ◌++◌, ℕ, List, length, map, slice_get, slice_index, Some, MatchOption, ⊤, min}
 use Rattle.std.specs.Vec.{vec_capacity}
+use Rattle.std.specs.List.{All}
 use Rattle.mn_flight.specs.declared.Item.{Item}
 use Rattle.mn_flight_pool.specs.Pool.{dues_of, order_of, free_of, items_in, nodes_on, IsHeld}
 use Rattle.mn_flight_pool.specs.ByDue.{IsByDue}
@@ -47,3 +48,4 @@ module _ {T : Type 0} where
     pub recent : AreLast (order_in pool) (ptrs pool.recent.items)
     pub recent_room : min (pool.count + pool.free.count) 65536 ≤ vec_capacity pool.recent
     pub finger : MatchOption pool.finger ⊤ (λ finger. IsPlaced pool finger.channel finger.place finger.node.index)
+    pub latest : All (λ item. item.number ≤ pool.latest) (items_of pool)

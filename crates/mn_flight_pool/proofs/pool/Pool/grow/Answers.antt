@@ -1,5 +1,5 @@
 use Rattle.std.proofs.Common.{arith}
-use Rattle.mn_flight_pool.proofs.Grown.{grown_held, grown_items, grown_counted, grown_by_due, grown_recent, grown_finger}
+use Rattle.mn_flight_pool.proofs.Grown.{grown_held, grown_items, grown_counted, grown_by_due, grown_recent, grown_finger, grown_latest}
 use Rattle.mn_flight_pool.proofs.Put.{ticks_count}
 use Rattle.mn_flight_pool.proofs.pool.Pool.grow.Goals as goal
 
@@ -33,6 +33,7 @@ returns-clause-whole g c =
       finger = grown_finger c.args.self.now c.requires node c.add.new.self added fresh own c.push.new.store c.push.ensures.store;
       recent = rw c.make_room-2.ensures.items (grown_recent c.args.self.now c.requires node c.add.new.self added fresh own c.push.new.store c.push.ensures.store);
       recent_room = omega (arith, c.push.ensures.count, c.in_ok-make_room-2.ensures.room, c.make_room-2.ensures.len, c.len-2.ensures);
+      latest = grown_latest c.args.self.now c.requires node c.add.new.self added fresh own c.push.new.store c.push.ensures.store;
     }
 
 pub returns-clause-items : goal.returns-clause-items

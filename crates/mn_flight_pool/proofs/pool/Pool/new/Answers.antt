@@ -28,4 +28,5 @@ returns-clause-whole g c =
       finger = tt;
       recent = none_last [] c.new-3.result.items c.new-3.ensures.items;
       recent_room = omega (arith, c.none.ensures);
+      latest = λ i d h. absurd (omega (arith, h));
     }

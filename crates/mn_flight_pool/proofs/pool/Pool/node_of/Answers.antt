@@ -1,7 +1,10 @@
 use Rattle.std.proofs.Common.{◌≡◌, arith, subst}
 use Rattle.mn_flight_pool.specs.Newest.{IsPassed}
-use Rattle.mn_flight_pool.proofs.Newest.{none_passed, next, at_there, next_there, next_holds, passes, found, all_others}
+use Rattle.mn_flight_pool.proofs.Newest.{none_greater, none_passed, next, at_there, next_there, next_holds, passes, found, all_others}
 use Rattle.mn_flight_pool.proofs.pool.Pool.node_of.Goals as goal
+
+pub returns-then-number-self : goal.returns-then-number-self
+returns-then-number-self g c = none_greater c.args.self.now c.requires c.args.number c.if-number-self.true
 
 pub loop-init : goal.loop-init
 loop-init g c = none_passed c.args.self.now c.requires c.args.number

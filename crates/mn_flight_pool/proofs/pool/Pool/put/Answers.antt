@@ -1,7 +1,7 @@
 use Rattle.std.proofs.Common.{◌<◌, ◌≤◌, ◌+◌, refl, arith, ap, get_or}
 use Rattle.std.specs.Prelude.{slice_set}
 use Rattle.mn_flight_pool.proofs.Put.{ticks_count, count_within, count_read, free_room, first_ring, node_in_one, last_in_one, next_in_one, put_held}
-use Rattle.mn_flight_pool.proofs.Put.{put_items, put_counted, put_by_due, put_recent, put_finger}
+use Rattle.mn_flight_pool.proofs.Put.{put_items, put_counted, put_by_due, put_recent, put_finger, put_latest}
 use Rattle.mn_flight_pool.proofs.Whole.{recent_few}
 use Rattle.mn_flight_pool.proofs.pool.Pool.put.Goals as goal
 
@@ -78,6 +78,8 @@ returns-clause-whole g c =
           below refl c.requires.number c.enter.new.store c.enter.ensures c.link_due.new.store c.link_due.ensures.store
           c.keep.new.recent.items c.keep.ensures.last;
       recent_room = omega (arith, c.requires.whole.recent_room, c.pop-node.ensures.count, c.keep.ensures.capacity);
+      latest = put_latest c.args.self.now c.requires.whole c.pop-node.result c.pop-node.ensures.node c.requires.room c.args.item (record { index = c.args.item.channel })
+          below refl c.requires.number c.enter.new.store c.enter.ensures c.link_due.new.store c.link_due.ensures.store;
     }
 
 pub returns-clause-items : goal.returns-clause-items

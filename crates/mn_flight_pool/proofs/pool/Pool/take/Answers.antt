@@ -7,7 +7,7 @@ use Rattle.mn_flight_pool.specs.declared.node.Place.{Place}
 use Rattle.mn_flight_pool.specs.declared.node.Pair.TheVariants.{Due}
 use Rattle.mn_flight_pool.proofs.Put.{count_read}
 use Rattle.mn_flight_pool.proofs.Take.{some_count, next_there, prev_there, no_item, same_item, below, some_on, channel_ring, room_one, room_two, item_one}
-use Rattle.mn_flight_pool.proofs.Take.{take_held, take_items, take_counted, take_by_due, take_before}
+use Rattle.mn_flight_pool.proofs.Take.{take_held, take_items, take_counted, take_by_due, take_before, take_latest}
 use Rattle.mn_flight_pool.proofs.Whole.{node_holds, items_count, none_last}
 use Rattle.mn_flight_pool.proofs.pool.Pool.take.Goals as goal
 
@@ -122,6 +122,9 @@ returns-clause-whole g c =
             some_count c.args.self.now c.requires.whole
                 c.args.node.index c.requires.node,
           );
+      latest =
+          take_latest c.args.self.now c.requires.whole c.args.node.index c.requires.node c.in_ok-item.item same.0 c.unlink_due.new.store
+          c.unlink_due.ensures.store c.leave.new.store c.leave.ensures.left c.push.new.store c.push.ensures.store;
     }
 
 pub returns-clause-value : goal.returns-clause-value

@@ -21,6 +21,7 @@ returns-then-place-gt0-clause-whole g c =
       ticks_room = w.ticks_room;
       recent = w.recent;
       recent_room = w.recent_room;
+      latest = w.latest;
       finger =
           c.take-item.ensures.before c.args.channel c.args.place (c.from.result - 1) c.prev-before.result.index at
           (subst (λ k. IsPlaced c.args.self.now c.args.channel k c.prev-before.result.index) (sym same) before) (omega (arith, c.from.ensures, c.if-place-gt0.true));
