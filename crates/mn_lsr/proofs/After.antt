@@ -366,34 +366,9 @@ module _ (p : Parts) (st : Stands p) (e : Event) (counts : List ℕ) (es : List 
   pub stands-then : (tick : ℕ) (v : Learned) (mended : Mended) (sessions : Listed) (known : Known) (table : LabelTable) (uses : List (ℕ × Use))
       → IsThen tick v sessions known table → length counts ≡ length p.view.counts → IsMendedFor w (map is_odd counts) p.me.0 mended →
       HaveLabels p.me.0 (length p.loopbacks.items) b table → ((label : ℕ) → IsUseOf (lib.usable b) (meaning_of table.labels label) (use_of uses label))
-      → Stands (record {
-        me = p.me;
-        loopbacks = p.loopbacks;
-        view = v;
-        mended = mended;
-        sessions = sessions;
-        lib = known;
-        labels = table;
-        lfib =
-            uses;
-        attached = p.attached;
-        links = p.links;
-      })
+      → Stands (record p { view = v; mended = mended; sessions = sessions; lib = known; labels = table; lfib = uses })
   stands-then tick v mended sessions known table uses is as_many mended_is have stands =
-      let of : Learned → Known → Parts =
-      λ x y. record {
-        me = p.me;
-        loopbacks = p.loopbacks;
-        view = x;
-        mended = mended;
-        sessions = sessions;
-        lib = y;
-        labels = table;
-        lfib =
-            uses;
-        attached = p.attached;
-        links = p.links;
-      } in
+      let of : Learned → Known → Parts = λ x y. record p { view = x; mended = mended; sessions = sessions; lib = y; labels = table; lfib = uses } in
       subst (λ x. Stands (of x known)) (sym is.view_is)
       (subst (λ y. Stands (of (record { nodes = p.view.nodes; ends = p.view.ends; counts = counts }) y)) (sym is.known_is) (record {
         view = record { network = st.view.network; one_each = as_many ∙ st.view.one_each };
@@ -416,47 +391,11 @@ module _ (p : Parts) (st : Stands p) (e : Event) (counts : List ℕ) (es : List 
 
   pub kept-of : (tick : ℕ) (v : Learned) (mended : Mended) (sessions : Listed) (known : Known) (table : LabelTable) (uses : List (ℕ × Use))
       → IsThen tick v sessions known table
-      → kept_of (record {
-        me = p.me;
-        loopbacks = p.loopbacks;
-        view = v;
-        mended = mended;
-        sessions = sessions;
-        lib = known;
-        labels = table;
-        lfib =
-            uses;
-        attached = p.attached;
-        links = p.links;
-      }) ≡ kept_then w tick (kept_of p) e
+      → kept_of (record p { view = v; mended = mended; sessions = sessions; lib = known; labels = table; lfib = uses }) ≡ kept_then w tick (kept_of p) e
   kept-of tick v mended sessions known table uses is =
       let of : Node → Labels → Resting → Kept = λ x y z. record { node = x; labels = y; resting = z } in
-      let node : node_in (record {
-        me = p.me;
-        loopbacks = p.loopbacks;
-        view = v;
-        mended = mended;
-        sessions = sessions;
-        lib = known;
-        labels = table;
-        lfib =
-            uses;
-        attached = p.attached;
-        links = p.links;
-      }) ≡ after w n e =
-      ap (λ x. node_in (record {
-        me = p.me;
-        loopbacks = p.loopbacks;
-        view = x;
-        mended = mended;
-        sessions = sessions;
-        lib = known;
-        labels = table;
-        lfib =
-            uses;
-        attached = p.attached;
-        links = p.links;
-      })) is.view_is
+      let node : node_in (record p { view = v; mended = mended; sessions = sessions; lib = known; labels = table; lfib = uses }) ≡ after w n e =
+      ap (λ x. node_in (record p { view = x; mended = mended; sessions = sessions; lib = known; labels = table; lfib = uses })) is.view_is
       ∙ ap (λ (y : Known). with_ends w p.me.0 y.bindings counts sessions.items) is.known_is ∙ ap (with_ends w p.me.0 b counts) is.ends_are ∙ node-then in
       ap (λ x. of x table.labels known.resting) node ∙ ap (λ y. of (after w n e) y known.resting) (is.labels_are ∙ labels-then tick)
       ∙ ap (of (after w n e) (labels_then w tick (kept_of p) e)) (ap (λ (y : Known). y.resting) is.known_is ∙ resting-then tick)
@@ -465,33 +404,9 @@ module _ (p : Parts) (st : Stands p) (e : Event) (counts : List ℕ) (es : List 
   pub may-follow : (v : Learned) (mended : Mended) (sessions : Listed) (withdrawn : ℕ)
       → v ≡ record { nodes = p.view.nodes; ends = p.view.ends; counts = counts } → length sessions.items ≡ length p.view.ends →
       ((labels : Labels) → MayTell (length p.loopbacks.items) p.me.0 labels withdrawn (releases es))
-      → MayFollow (record {
-        me = p.me;
-        loopbacks = p.loopbacks;
-        view = v;
-        mended = mended;
-        sessions = sessions;
-        lib = p.lib;
-        labels = p.labels;
-        lfib =
-            p.lfib;
-        attached = p.attached;
-        links = p.links;
-      }) withdrawn es
+      → MayFollow (record p { view = v; mended = mended; sessions = sessions }) withdrawn es
   may-follow v mended sessions withdrawn view_is as_many may =
-      subst (λ x. MayFollow (record {
-        me = p.me;
-        loopbacks = p.loopbacks;
-        view = x;
-        mended = mended;
-        sessions = sessions;
-        lib = p.lib;
-        labels = p.labels;
-        lfib =
-            p.lfib;
-        attached = p.attached;
-        links = p.links;
-      }) withdrawn es) (sym view_is) (record {
+      subst (λ x. MayFollow (record p { view = x; mended = mended; sessions = sessions }) withdrawn es) (sym view_is) (record {
         few = st.wired.spelled.few;
         me = st.me;
         joins = st.wired.joins;

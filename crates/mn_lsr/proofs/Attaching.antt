@@ -119,19 +119,7 @@ module _ (p : Parts) (st : Stands p) where
       → meaning_of p.labels.labels label ≡ None
       → use_of uses label ≡ Some (use_kind.Site site) → ((other : ℕ) → other ≢ label → use_of uses other ≡ use_of p.lfib other)
       → ((other : ℕ) → slice_index_or counts.items other 0 ≡ attachments other table.labels.given)
-      → Stands (record {
-        me = p.me;
-        loopbacks = p.loopbacks;
-        view = p.view;
-        mended = p.mended;
-        sessions = p.sessions;
-        lib = p.lib;
-        labels = table;
-        lfib =
-            uses;
-        attached = counts;
-        links = p.links;
-      })
+      → Stands (record p { labels = table; lfib = uses; attached = counts })
   attached_then site label number table uses counts label_is labels_is me_is told fresh used uses_others so_many = record {
     view = st.view;
     nodes = st.nodes;
@@ -206,19 +194,7 @@ module _ (p : Parts) (st : Stands p) where
   -- an attachment has ended
   pub detached : (label : ℕ) (uses : List (ℕ × Use)) → IsAttachment (meaning_of p.labels.labels label) → use_of uses label ≡ Some use_kind.Ended →
       ((other : ℕ) → other ≢ label → use_of uses other ≡ use_of p.lfib other)
-      → Stands (record {
-        me = p.me;
-        loopbacks = p.loopbacks;
-        view = p.view;
-        mended = p.mended;
-        sessions = p.sessions;
-        lib = p.lib;
-        labels = p.labels;
-        lfib =
-            uses;
-        attached = p.attached;
-        links = p.links;
-      })
+      → Stands (record p { lfib = uses })
   detached label uses is ended others = record {
     view = st.view;
     nodes = st.nodes;

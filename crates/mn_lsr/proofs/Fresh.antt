@@ -260,34 +260,8 @@ module _ (me : NodeNo) (loopbacks : List ℕ) (ends : List LinkEnds) (life : ℕ
 
   made-is : p ≡ as_made
   made-is =
-      ap (λ (m : NodeNo). let o : Parts =
-      record {
-        me = m;
-        loopbacks = p.loopbacks;
-        view = p.view;
-        mended = p.mended;
-        sessions = p.sessions;
-        lib = p.lib;
-        labels = p.labels;
-        lfib =
-            p.lfib;
-        attached = p.attached;
-        links = p.links;
-      } in o) h.me
-      ∙ ap (λ (v : Learned). let o : Parts =
-      record {
-        me = me;
-        loopbacks = p.loopbacks;
-        view = v;
-        mended = p.mended;
-        sessions = p.sessions;
-        lib = p.lib;
-        labels = p.labels;
-        lfib =
-            p.lfib;
-        attached = p.attached;
-        links = p.links;
-      } in o) view-is
+      ap (λ (m : NodeNo). let o : Parts = record p { me = m } in o) h.me
+      ∙ ap (λ (v : Learned). let o : Parts = record p { me = me; view = v } in o) view-is
       ∙ ap (λ (b : Known). let o : Parts = record as_made { lib = b; lfib = p.lfib } in o) lib-is
       ∙ ap (λ (us : List (ℕ × Use)). let o : Parts = record as_made { lfib = us } in o) h.uses
 
