@@ -1,7 +1,7 @@
 -- The parts of a node to which something has happened: what it keeps and what it says are its machine's, and its parts hang
 -- together again.
 use Rattle.std.proofs.Common.{ℕ, zero, suc, ◌≡◌, ◌≢◌, ◌+◌, ◌<◌, ◌^◌, ◌≤◌, ◌⊎◌, inl, inr, Bool, true, false, cond, List, [], ◌∷◌, ◌++◌, length, map, filter, refl, arith, sym}
-use Rattle.std.proofs.Common.{◌∙◌, ap, subst, Option, Some, None, Vec, Global}
+use Rattle.std.proofs.Common.{◌∙◌, ap, subst, Option, Some, None}
 use Rattle.std.specs.Prelude.{◌==◌, ◌&&◌, if◌then◌else◌, not, is_some, nat_le, slice_index_or, option_map}
 use Rattle.std.specs.List.{flat_map, range_with_len}
 use Rattle.std.proofs.Math.ListN.{length-set}
@@ -16,9 +16,9 @@ use Rattle.mn_linkdb.specs.Changes.{is_odd}
 use Rattle.mn_spf_inc.specs.Mended.{Mended}
 use Rattle.mn_labels.specs.declared.meaning.Bind.{Bind}
 use Rattle.mn_labels.specs.declared.meaning.Bind.TheVariants as bind
-use Rattle.mn_labels.specs.Labels.{Labels, LabelTable, label_now, meaning_of, offered as offered_labels}
+use Rattle.mn_labels.specs.Labels.{Labels, LabelTable, meaning_of, offered as offered_labels}
 use Rattle.mn_labels.proofs.Offering.{offered_alike, offered_many}
-use Rattle.mn_rest.specs.Rests.{Resting, row_of, count_in, is_over}
+use Rattle.mn_rest.specs.Rests.{Resting, count_in, is_over}
 use Rattle.mn_lfib.specs.declared.answer.Use.{Use}
 use Rattle.mn_lfib.specs.Uses.{use_of, fec_use, IsNextHop}
 use Rattle.mn_lib.specs.News.{begun, ended}
@@ -46,7 +46,7 @@ use Rattle.mn_lsr.specs.OwnEnds.{Listed}
 use Rattle.mn_lsr.specs.declared.parts.Parts.{Parts}
 use Rattle.mn_lsr.specs.Standing.{IsMendedFor, IsUseOf, is_of, session_in, session_label, way_to, state_in}
 use Rattle.mn_lsr.specs.Message.{HasOne}
-use Rattle.mn_lsr.specs.Turns.{Kept, is_free_at, new_offers, ended_offers, labels_then, rested_by_event, owed_for_said, resting_then, kept_then}
+use Rattle.mn_lsr.specs.Turns.{Kept, is_free_at, new_offers, labels_then, rested_by_event, owed_for_said, resting_then, kept_then}
 use Rattle.mn_lsr.specs.Ties.{AreTied}
 use Rattle.mn_lsr.specs.Telling.{said_by_tell, message_of, as_number, MayTell}
 use Rattle.mn_base.specs.declared.numbers.LinkNo.{LinkNo}

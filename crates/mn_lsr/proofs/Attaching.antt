@@ -1,11 +1,10 @@
 -- A site is attached once more, or an attachment ends.
-use Rattle.std.proofs.Common.{ℕ, suc, ◌≡◌, ◌≢◌, ◌+◌, ◌<◌, ◌≤◌, ◌^◌, ◌⊎◌, inl, inr, Bool, true, false, List, [], ◌∷◌, ◌++◌, length, filter, refl, arith, sym}
+use Rattle.std.proofs.Common.{ℕ, suc, ◌≡◌, ◌≢◌, ◌+◌, ◌<◌, ◌≤◌, ◌^◌, inl, inr, Bool, true, false, List, [], ◌∷◌, ◌++◌, length, filter, refl, arith, sym}
 use Rattle.std.proofs.Common.{◌∙◌, ap, subst, Option, Some, None, Vec, Global}
 use Rattle.std.specs.Prelude.{◌==◌, max, is_some, slice_index_or, slice_set, if◌then◌else◌}
 use Rattle.std.proofs.lemmas.Bool.Decides.{eqb_tells}
 use Rattle.std.proofs.lemmas.List.{get_or-set_same, get_or-set_other, length-append}
 use Rattle.std.proofs.lemmas.List.Elements.{filter-append}
-use Rattle.mn_base.specs.declared.numbers.NodeNo.{NodeNo}
 use Rattle.mn_base.specs.declared.numbers.SiteNo.{SiteNo}
 use Rattle.mn_labels.specs.declared.meaning.Bind.{Bind}
 use Rattle.mn_labels.specs.declared.meaning.Bind.TheVariants as bind

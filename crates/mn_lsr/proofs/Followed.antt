@@ -1,25 +1,23 @@
 -- What holds once events are followed: the labels that FECs have then, what may be told by them, and what they are used for.
-use Rattle.std.proofs.Common.{ℕ, zero, suc, ◌≡◌, ◌≢◌, ◌+◌, ◌*◌, ◌≤◌, ◌<◌, ◌^◌, ◌⊎◌, inl, inr, Bool, true, false, cond, List, [], ◌∷◌, ◌++◌, length, map, refl, arith, sym, ◌∙◌, ap, subst}
+use Rattle.std.proofs.Common.{ℕ, zero, suc, ◌≡◌, ◌≢◌, ◌+◌, ◌*◌, ◌≤◌, ◌<◌, inl, inr, Bool, true, false, cond, List, [], ◌∷◌, ◌++◌, length, map, refl, arith, sym, ◌∙◌, ap, subst}
 use Rattle.std.proofs.Common.{Option, Some, None, length-append}
-use Rattle.std.specs.Prelude.{◌&&◌, ◌||◌, ◌==◌, not, is_some, slice_index_or}
+use Rattle.std.specs.Prelude.{◌&&◌, not, slice_index_or}
 use Rattle.std.specs.List.{All, flat_map, range_with_len}
-use Rattle.std.proofs.lemmas.List.{length-map}
 use Rattle.std.proofs.Math.Nat.{suc-mul}
 use Rattle.std.proofs.lemmas.Nat.{mul-le}
 use Rattle.mn_base.specs.declared.numbers.NodeNo.{NodeNo}
 use Rattle.mn_base.proofs.Members.{In}
-use Rattle.mn_labels.specs.Labels.{Labels, LabelTable, label_now, offered, numbers, is_one_of, meaning_of, IsTold}
+use Rattle.mn_labels.specs.Labels.{LabelTable, label_now, offered, numbers, is_one_of, meaning_of, IsTold}
 use Rattle.mn_labels.proofs.Offering.{offered_alike}
 use Rattle.mn_rest.specs.Rests.{is_over}
 use Rattle.mn_lib.specs.declared.event.LibEvent.{LibEvent}
 use Rattle.mn_lib.specs.declared.event.LibEvent.TheVariants as event
-use Rattle.mn_lib.specs.declared.event.Tell.{Tell}
 use Rattle.mn_lib.specs.declared.event.TellKind.TheVariants as kind
 use Rattle.mn_lib.specs.Bindings.{Bindings, nodes, usable, offers, is_open, after_event, after_events}
 use Rattle.mn_lib.specs.News.{InOrder, Apart, fecs_in, begun}
 use Rattle.mn_lib.specs.Tells.{tell, told, tells_of, changes, releases, closes, opens, mention, tells}
 use Rattle.mn_lib.specs.Tells as lib_tells
-use Rattle.mn_lib.specs.Known.{Known, is_free, AreFew}
+use Rattle.mn_lib.specs.Known.{is_free}
 use Rattle.mn_lib.proofs.Events.{nodes-after_events}
 use Rattle.mn_lib.proofs.Staying.{usable_stays}
 use Rattle.mn_lfib.specs.declared.answer.Use.{Use}

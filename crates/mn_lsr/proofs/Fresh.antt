@@ -1,5 +1,5 @@
 -- A fresh node and bindings of which nothing was heard are tied.
-use Rattle.std.proofs.Common.{ℕ, zero, suc, ◌≡◌, ◌+◌, ◌<◌, ◌≤◌, inl, inr, true, false, List, [], ◌∷◌, length, map, refl, arith, sym, ◌∙◌, ap, subst, Option}
+use Rattle.std.proofs.Common.{ℕ, zero, suc, ◌≡◌, ◌+◌, ◌<◌, inl, inr, true, false, List, [], ◌∷◌, length, map, refl, sym, ◌∙◌, ap, subst, Option}
 use Rattle.std.proofs.Common.{Some, None, Vec, Global}
 use Rattle.std.specs.Prelude.{◌==◌, ◌&&◌, ◌||◌, ◌%◌, nat_le, is_some, slice_index_or, replicate}
 use Rattle.std.specs.List.{range_with_len}
@@ -29,7 +29,6 @@ use Rattle.mn_lib.specs.Bindings as lib
 use Rattle.mn_lib.specs.Bindings.{Bindings, usable}
 use Rattle.mn_node.specs.Node.{Session, Node}
 use Rattle.mn_ldp_session.specs.declared.session.Session.{Session as Machine}
-use Rattle.mn_lsr.specs.declared.parts.Open.{Open}
 use Rattle.mn_lsr.specs.OwnEnds.{Listed}
 use Rattle.mn_lsr.specs.declared.parts.Parts.{Parts}
 use Rattle.mn_lsr.specs.Standing.{IsWired, IsMendedFor, IsUseOf, attachments, sessions_from}

@@ -1,5 +1,5 @@
 -- The labels that FECs have.
-use Rattle.std.proofs.Common.{ℕ, ◌≡◌, ◌≢◌, ◌<◌, ◌⊎◌, inl, inr, List, refl, sym, ◌∙◌, ap, subst, Option, Some, None}
+use Rattle.std.proofs.Common.{ℕ, ◌≡◌, ◌≢◌, ◌⊎◌, inl, inr, List, sym, ◌∙◌, ap, subst, Option, Some, None}
 use Rattle.std.proofs.lemmas.Bool.Decides.{eqb_tells}
 use Rattle.mn_base.specs.declared.numbers.NodeNo.{NodeNo}
 use Rattle.mn_labels.specs.declared.meaning.Bind.{Bind}

@@ -1,5 +1,5 @@
 -- Where loopbacks differ, an address stands where it is found.
-use Rattle.std.proofs.Common.{ℕ, ◌≡◌, ◌≢◌, ◌<◌, true, false, List, [], length, get_or, arith, sym, ◌∙◌, ap, Some, None, inl, inr, cond, lt-ltb}
+use Rattle.std.proofs.Common.{ℕ, ◌≡◌, ◌≢◌, ◌<◌, false, List, [], length, get_or, arith, sym, ◌∙◌, ap, Some, None, inl, inr, cond, lt-ltb}
 use Rattle.std.specs.Prelude.{◌==◌, position, nat_lt}
 use Rattle.std.specs.List.{position_or_len}
 use Rattle.std.proofs.lemmas.Bool.Decides.{eqb_tells}

@@ -1,8 +1,8 @@
 -- Which labels a node's FECs have once some are offered newly, and what they are used for.
-use Rattle.std.proofs.Common.{ℕ, zero, suc, ◌≡◌, ◌≢◌, ◌+◌, ◌≤◌, ◌<◌, ◌⊎◌, inl, inr, Bool, true, false, cond, List, [], ◌∷◌, ◌++◌, filter, map, length, refl, arith, sym, ◌∙◌, ap, subst}
+use Rattle.std.proofs.Common.{ℕ, zero, suc, ◌≡◌, ◌≢◌, ◌+◌, ◌≤◌, ◌<◌, ◌⊎◌, inl, inr, Bool, true, false, cond, List, [], ◌∷◌, ◌++◌, filter, length, refl, arith, sym, ◌∙◌, ap, subst}
 use Rattle.std.proofs.Common.{Option, Some, None}
-use Rattle.std.specs.Prelude.{◌==◌, ◌&&◌, ◌||◌, not, is_some, if◌then◌else◌, slice_index_or}
-use Rattle.std.specs.List.{flat_map, range_with_len, list_any, All}
+use Rattle.std.specs.Prelude.{◌==◌, ◌&&◌, ◌||◌, not, is_some}
+use Rattle.std.specs.List.{flat_map, range_with_len, list_any}
 use Rattle.std.proofs.lemmas.Bool.Decides.{eqb_tells}
 use Rattle.mn_base.specs.declared.numbers.NodeNo.{NodeNo}
 use Rattle.mn_base.specs.declared.numbers.SiteNo.{SiteNo}
@@ -11,13 +11,12 @@ use Rattle.mn_base.proofs.Members.{In, in_filter, filter_in, in_range, range_in,
 use Rattle.mn_labels.specs.declared.meaning.Bind.{Bind}
 use Rattle.mn_labels.specs.declared.meaning.Bind.TheVariants as bind
 use Rattle.mn_labels.specs.declared.meaning.Given.{Given}
-use Rattle.mn_labels.specs.Labels.{Labels, LabelTable, label_now, fec_of, is_attachment, offered, meaning_of, numbers, is_one_of, Means, IsTold}
+use Rattle.mn_labels.specs.Labels.{Labels, LabelTable, label_now, fec_of, offered, meaning_of, numbers, is_one_of, IsTold}
 use Rattle.mn_labels.proofs.Offering.{offered_long, offered_keeps, offered_gives, offered_was, offered_sites}
-use Rattle.mn_rest.specs.Rests.{is_over}
 use Rattle.mn_lib.specs.Bindings.{Bindings, nodes, usable, offers}
-use Rattle.mn_lib.specs.News.{begun_of, begun, ended_of, ended}
+use Rattle.mn_lib.specs.News.{begun, ended}
 use Rattle.mn_lib.specs.Known.{Known, is_free}
-use Rattle.mn_wiring.specs.Wiring.{Wiring, nodes_of}
+use Rattle.mn_wiring.specs.Wiring.{Wiring}
 use Rattle.mn_node.specs.Ldp.{Knowledge}
 use Rattle.mn_node.specs.Ldp as node
 use Rattle.mn_lfib.specs.declared.answer.Use.{Use}
@@ -26,7 +25,7 @@ use Rattle.mn_lsr.specs.Message.{HasOne}
 use Rattle.mn_lsr.specs.Standing.{IsUseOf, IsSiteUse, IsAttachment}
 use Rattle.mn_lsr.specs.Turns.{begins_offer, new_offers, ends_offer, ended_offers}
 use Rattle.mn_lsr.specs.Parts.{HaveLabels, free_of}
-use Rattle.mn_lsr.proofs.Labels.{has_it, fec_is_no_site}
+use Rattle.mn_lsr.proofs.Labels.{fec_is_no_site}
 
 -- 1. Which FECs are offered newly, and which not any more
 

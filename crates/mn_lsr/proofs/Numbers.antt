@@ -1,6 +1,6 @@
 -- How far the numbers of what is said go: no end has said more than it had, and all that was said since.
 use Rattle.std.proofs.Common.{ℕ, true, zero, suc, ◌≡◌, ◌+◌, ◌≤◌, ◌^◌, List, [], ◌∷◌, ◌++◌, map, length, length-append, refl, arith}
-use Rattle.std.proofs.Common.{sym, ◌∙◌, ap, subst, Option, Some, None}
+use Rattle.std.proofs.Common.{sym, ap, subst, Option, Some, None}
 use Rattle.std.specs.Prelude.{slice_index_or, slice_set, option_map}
 use Rattle.mn_base.proofs.Bools.{at_most_tells}
 use Rattle.std.proofs.lemmas.List.{length-map}

@@ -1,17 +1,17 @@
 -- What neighbours owe as something happens, and as it is said what they then owe.
-use Rattle.std.proofs.Common.{ℕ, zero, suc, ◌≡◌, ◌≢◌, ◌+◌, ◌≤◌, ◌<◌, ◌^◌, ◌⊎◌, inl, inr, Bool, true, false, List, [], ◌∷◌, ◌++◌, length, refl, arith, sym, ◌∙◌, ap, subst}
-use Rattle.std.proofs.Common.{Option, Some, None, length-set}
-use Rattle.std.specs.Prelude.{◌-◌, is_some, slice_index_or, slice_set, option_map, replicate}
+use Rattle.std.proofs.Common.{ℕ, zero, suc, ◌≡◌, ◌≢◌, ◌+◌, ◌≤◌, ◌^◌, ◌⊎◌, inl, inr, List, [], ◌∷◌, ◌++◌, refl, arith, sym, ◌∙◌, ap, subst}
+use Rattle.std.proofs.Common.{Option, Some, None}
+use Rattle.std.specs.Prelude.{◌-◌, is_some, slice_index_or, slice_set, option_map}
 use Rattle.std.specs.List.{flat_map}
-use Rattle.std.proofs.lemmas.Bool.Decides.{eqb_tells, leb_tells}
-use Rattle.std.proofs.lemmas.List.{get_or-set_same, get_or-set_other, get_or_past, set-get_or}
+use Rattle.std.proofs.lemmas.Bool.Decides.{eqb_tells}
+use Rattle.std.proofs.lemmas.List.{get_or-set_other, set-get_or}
 use Rattle.mn_wiring.specs.Wiring.{Wiring, across, joining}
-use Rattle.mn_rest.specs.Rests.{Resting, row_of, count_in, with_count, opened, closed, withdrawn, released, stopped}
+use Rattle.mn_rest.specs.Rests.{Resting, row_of, count_in, with_count, withdrawn, released, stopped}
 use Rattle.mn_lib.specs.declared.event.Tell.{Tell}
 use Rattle.mn_lib.specs.declared.event.TellKind.{TellKind}
 use Rattle.mn_lib.specs.declared.event.TellKind.TheVariants as tells
 use Rattle.mn_lib.specs.Known.{owed_by, owed_for, all_stopped, AreFew}
-use Rattle.mn_node.specs.Ldp.{Message, Said, said_on}
+use Rattle.mn_node.specs.Ldp.{Said, said_on}
 use Rattle.mn_lsr.specs.declared.parts.Open.{Open}
 use Rattle.mn_lsr.specs.Telling.{message_of, said_by_tell}
 use Rattle.mn_lsr.specs.Turns.{owed_for_message, owed_for_said}

@@ -1,5 +1,5 @@
 -- Where the tree hasn't moved, no next hop is another one.
-use Rattle.std.proofs.Common.{ℕ, zero, suc, ◌≡◌, ◌+◌, ◌++◌, ◌<◌, Bool, true, false, List, [], ◌∷◌, length, get_or, refl, arith, sym, ◌∙◌, ap, subst, Option, Some, None}
+use Rattle.std.proofs.Common.{ℕ, zero, suc, ◌≡◌, ◌+◌, ◌++◌, ◌<◌, Bool, true, false, List, [], ◌∷◌, length, get_or, refl, arith, sym, ◌∙◌, ap, Option, Some, None}
 use Rattle.std.specs.Prelude.{◌==◌, ◌||◌, if◌then◌else◌}
 use Rattle.std.specs.List.{flat_map, range_with_len}
 use Rattle.std.proofs.lemmas.List.FromFn.{get_or-map-range_with_len}
@@ -17,7 +17,7 @@ use Rattle.mn_lib.specs.declared.event.LibEvent.TheVariants as event
 use Rattle.mn_lib.specs.Bindings.{Bindings}
 use Rattle.mn_node.specs.Node.{Node, view_in}
 use Rattle.mn_lsr.specs.Ties.{AreTied}
-use Rattle.mn_lsr.specs.Parts.{same_hop, stays, hop_event, hop_events}
+use Rattle.mn_lsr.specs.Parts.{same_hop, stays, hop_event}
 
 same_self : (o : Option NodeNo) → same_hop o o ≡ true
 same_self None = refl

@@ -1,7 +1,6 @@
 use Rattle.std.proofs.Common.{ℕ, zero, suc, ◌≡◌, ◌+◌, ◌++◌, ◌∷◌, List, [], false, refl, sym, ◌∙◌, ap}
 use Rattle.std.specs.Prelude.{◌&&◌, is_some, if◌then◌else◌}
 use Rattle.std.specs.List.{flat_map, range_with_len}
-use Rattle.mn_base.specs.declared.numbers.NodeNo.{NodeNo}
 use Rattle.mn_base.proofs.Bools.{and_false}
 use Rattle.mn_labels.specs.Labels.{Labels, label_now, numbers}
 use Rattle.mn_lib.specs.Known.{Known, is_free}

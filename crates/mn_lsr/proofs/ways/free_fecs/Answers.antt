@@ -1,4 +1,4 @@
-use Rattle.std.proofs.Common.{ℕ, Bool, true, false, ◌≡◌, ◌++◌, ◌∷◌, List, [], map, sym, ◌∙◌, ap, append-nil}
+use Rattle.std.proofs.Common.{ℕ, Bool, true, false, ◌≡◌, ◌++◌, ◌∷◌, List, [], sym, ◌∙◌, ap, append-nil}
 use Rattle.std.specs.Prelude.{◌&&◌, is_some, if◌then◌else◌}
 use Rattle.std.proofs.lemmas.List.{map-append}
 use Rattle.mn_base.specs.declared.numbers.NodeNo.{NodeNo}

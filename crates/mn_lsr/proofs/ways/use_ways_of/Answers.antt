@@ -7,7 +7,7 @@ use Rattle.mn_lib.specs.declared.event.LibEvent.{LibEvent}
 use Rattle.mn_lib.specs.declared.event.LibEvent.TheVariants as event
 use Rattle.mn_lib.specs.Bindings.{Bindings, nodes, usable}
 use Rattle.mn_lib.specs.News.{Apart, fecs_in}
-use Rattle.mn_lib.proofs.Staying.{below_more, below_it, fecs_more, fecs_none}
+use Rattle.mn_lib.proofs.Staying.{below_more, fecs_more, fecs_none}
 use Rattle.mn_lfib.specs.Uses.{use_of, fec_use, IsNotSite}
 use Rattle.mn_lsr.proofs.Labels.{free_set, way_set}
 use Rattle.mn_lsr.proofs.ways.use_ways_of.Goals as goal

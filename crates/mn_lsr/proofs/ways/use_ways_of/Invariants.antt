@@ -1,4 +1,4 @@
-use Rattle.std.proofs.Common.{ℕ, ◌≡◌, ◌≢◌, ◌<◌, drop, Some}
+use Rattle.std.proofs.Common.{ℕ, ◌≡◌, ◌≢◌, drop, Some}
 use Rattle.mn_labels.specs.Labels.{label_now}
 use Rattle.mn_lib.specs.Bindings.{nodes, usable}
 use Rattle.mn_lib.specs.News.{AreBelow, Apart, fecs_in}

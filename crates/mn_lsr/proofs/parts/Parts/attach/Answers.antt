@@ -1,8 +1,6 @@
-use Rattle.std.proofs.Common.{ℕ, ◌≡◌, ◌≢◌, ◌+◌, ◌<◌, ◌≤◌, ◌^◌, ◌++◌, ◌∷◌, [], List, length, arith, sym, ◌∙◌, ap, subst, Some, None}
-use Rattle.mn_labels.specs.declared.meaning.Bind.{Bind}
+use Rattle.std.proofs.Common.{ℕ, ◌≡◌, ◌+◌, ◌<◌, ◌≤◌, ◌^◌, ◌++◌, ◌∷◌, [], arith, sym, ◌∙◌, ap}
 use Rattle.mn_labels.specs.declared.meaning.Bind.TheVariants as bind
-use Rattle.mn_labels.specs.declared.meaning.Given.{Given}
-use Rattle.mn_labels.specs.Labels.{Labels, greatest, attached, attachments_in, meaning_of, IsTold}
+use Rattle.mn_labels.specs.Labels.{Labels, attached}
 use Rattle.mn_lsr.proofs.Attaching.{few_attachments, counted_once_more, attached_then}
 use Rattle.mn_lsr.proofs.parts.Parts.attach.Goals as goal
 

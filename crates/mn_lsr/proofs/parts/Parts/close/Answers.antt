@@ -1,4 +1,4 @@
-use Rattle.std.proofs.Common.{[], map, length, ◌+◌, ◌^◌, sym, ap, subst, append-nil, arith, None}
+use Rattle.std.proofs.Common.{map, length, ◌+◌, ◌^◌, sym, ap, subst, append-nil, arith, None}
 use Rattle.mn_lsr.specs.declared.parts.Parts.{Parts}
 use Rattle.mn_lib.specs.Known.{AreFew}
 use Rattle.std.specs.Option.{option_to_list}

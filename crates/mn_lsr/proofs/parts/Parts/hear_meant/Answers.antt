@@ -1,4 +1,4 @@
-use Rattle.std.proofs.Common.{ℕ, List, map, length, ◌++◌, ◌+◌, ◌^◌, ◌∙◌, subst, ap, sym, refl, Option, Some, slice_index_or}
+use Rattle.std.proofs.Common.{List, map, length, ◌++◌, ◌+◌, ◌^◌, ◌∙◌, subst, ap, sym, refl, Option, Some, slice_index_or}
 use Rattle.mn_lsr.proofs.Numbers.{set-fits, as-much, said-fits, few-owed, few-still, said-more}
 use Rattle.mn_labels.specs.Labels.{Labels, own_labels}
 use Rattle.mn_lib.specs.Known.{AreFew}

@@ -1,4 +1,4 @@
-use Rattle.std.proofs.Common.{Ok, true, arith, ◌≡◌, ◌+◌, ◌++◌, ◌^◌, refl, List, [], map, length, ◌∙◌, sym, ap, subst, slice_index}
+use Rattle.std.proofs.Common.{Ok, true, arith, ◌≡◌, ◌+◌, ◌++◌, List, [], map, length, ◌∙◌, sym, ap, subst, slice_index}
 use Rattle.std.specs.List.{flat_map}
 use Rattle.std.proofs.Math.ListN.{length-set}
 use Rattle.mn_linkdb.specs.Learned.{Learned, links_up, after_learn}
@@ -11,7 +11,6 @@ use Rattle.mn_lsr.specs.declared.said.Said.{Said}
 use Rattle.mn_lsr.specs.Said.{pdu_of}
 use Rattle.mn_lsr.specs.Telling.{said_by_tell}
 use Rattle.mn_labels.specs.Labels.{own_labels}
-use Rattle.mn_lib.specs.Known.{AreFew}
 use Rattle.mn_lsr.specs.Parts.{Stands, wiring_in, node_in, stays, kept_of, pdus_by, ends_after, hop_events}
 use Rattle.mn_lsr.proofs.Learning.{learning, events-of, releases-of}
 use Rattle.mn_lsr.proofs.Mended.{link_there, turns, tree-of, mended-then, tree-then}
