@@ -82,6 +82,14 @@ node-below w prefix fec e = by (prefix.length == 32) e
     by true f = (position-Some (λ loopback. loopback == prefix.address) w.loopbacks fec 0 f).0
     by false f = cc
 
+-- a message about a prefix is about the node with that loopback
+meant-of : (w : Wiring) (body : LdpBody) (prefix : AddressBlock) (make : ℕ → Message) (given : ℕ) (message : Message) (label : ℕ) →
+    ((fec : ℕ) → fec < length w.loopbacks → IsMeant w body (make fec) given) → (o : Option ℕ) → node_of w prefix ≡ o
+    → option_map (λ (fec : ℕ). let x : Message × ℕ = (make fec, given) in x) o ≡ Some (message, label) → IsMeant w body message label
+meant-of w body prefix make given message label meant None f g = cc
+meant-of w body prefix make given message label meant (Some fec) f g =
+    subst (λ (x : Message × ℕ). IsMeant w body x.0 x.1) (some_same g) (meant fec (node-below w prefix fec f))
+
 pub meant-is : (w : Wiring) (body : LdpBody) (message : Message) (label : ℕ) → IsLawful body → message_in w body ≡ Some (message, label) →
     IsMeant w body message label
 meant-is w (says.Notification status about k) message label lawful e = absurd (none e)
@@ -99,42 +107,15 @@ meant-is w says.KeepAlive message label lawful e =
     subst (λ (x : Message × ℕ). IsMeant w says.KeepAlive x.0 x.1) (some_same e) (record { kind_is = refl; node = tt; label_fits = tt })
 meant-is w (says.Address addresses) message label lawful e =
     subst (λ (x : Message × ℕ). IsMeant w (says.Address addresses) x.0 x.1) (some_same e) (record { kind_is = refl; node = tt; label_fits = tt })
-meant-is w (says.Mapping prefix given) message label lawful e = by (node_of w prefix) refl e
-  where
-    by : (o : Option ℕ) → node_of w prefix ≡ o → option_map (λ (fec : ℕ). let x : Message × ℕ = (Mapping fec, given) in x) o ≡ Some (message, label) →
-        IsMeant w (says.Mapping prefix given) message label
-    by None f g = cc
-    by (Some fec) f g =
-        subst (λ (x : Message × ℕ). IsMeant w (says.Mapping prefix given) x.0 x.1) (some_same g) (record {
-          kind_is = refl;
-          node =
-              node-below w prefix fec f;
-          label_fits = lawful.is_label;
-        })
-meant-is w (says.Withdraw prefix given) message label lawful e = by (node_of w prefix) refl e
-  where
-    by : (o : Option ℕ) → node_of w prefix ≡ o → option_map (λ (fec : ℕ). let x : Message × ℕ = (Withdraw fec, given) in x) o ≡ Some (message, label) →
-        IsMeant w (says.Withdraw prefix given) message label
-    by None f g = cc
-    by (Some fec) f g =
-        subst (λ (x : Message × ℕ). IsMeant w (says.Withdraw prefix given) x.0 x.1) (some_same g) (record {
-          kind_is = refl;
-          node =
-              node-below w prefix fec f;
-          label_fits = lawful.is_label;
-        })
-meant-is w (says.Release prefix given) message label lawful e = by (node_of w prefix) refl e
-  where
-    by : (o : Option ℕ) → node_of w prefix ≡ o → option_map (λ (fec : ℕ). let x : Message × ℕ = (Release fec, 0) in x) o ≡ Some (message, label) →
-        IsMeant w (says.Release prefix given) message label
-    by None f g = cc
-    by (Some fec) f g =
-        subst (λ (x : Message × ℕ). IsMeant w (says.Release prefix given) x.0 x.1) (some_same g) (record {
-          kind_is = refl;
-          node =
-              node-below w prefix fec f;
-          label_fits = tt;
-        })
+meant-is w (says.Mapping prefix given) message label lawful e =
+    meant-of w (says.Mapping prefix given) prefix Mapping given message label
+    (λ fec below. record { kind_is = refl; node = below; label_fits = lawful.is_label }) (node_of w prefix) refl e
+meant-is w (says.Withdraw prefix given) message label lawful e =
+    meant-of w (says.Withdraw prefix given) prefix Withdraw given message label
+    (λ fec below. record { kind_is = refl; node = below; label_fits = lawful.is_label }) (node_of w prefix) refl e
+meant-is w (says.Release prefix given) message label lawful e =
+    meant-of w (says.Release prefix given) prefix Release 0 message label
+    (λ fec below. record { kind_is = refl; node = below; label_fits = tt }) (node_of w prefix) refl e
 
 -- 2. Labels
 
