@@ -22,7 +22,7 @@ use Rattle.mn_spf_inc.specs.Nets.{all_up}
 use Rattle.mn_spf_inc.specs.Mending.{State, numbered, IsFormed, IsHeld, IsKnown, unknown, weight, IsGrowing, IsCutting, IsPending, IsRelaxed, NoRest, AllAt}
 use Rattle.mn_spf_inc.specs.Mending.{WasBest, OneLink, FromPlace, IntoCut, IntoCutOr, IntoCutOrFrom, Offers, OffersBeyond, work}
 use Rattle.mn_spf_inc.proofs.Entries.{some_is, none_some, known_way, no_way}
-use Rattle.mn_spf_inc.proofs.Nets.{goes_if_up, goes_when_up}
+use Rattle.mn_spf_inc.proofs.Nets.{all_there, goes_if_up, goes_when_up}
 use Rattle.mn_spf_inc.proofs.Growing.{contains_cases, eased, offered, IsOffered}
 
 -- 1. Back over a link
@@ -81,6 +81,9 @@ no_place at links i node l p o = past_the_end o.1 i (length links) o.2 o.3 p
 module _ (v : Learned) (at : ℕ) (links : List LinkNo) (are : AreLinksAt (all_up v.nodes v.ends) at links) where
   pub first_place : (l : ℕ) → goes v at l ≡ true → FromPlace at links 0 at l
   first_place l g = let k = are.all l (goes_if_up v at l g) in (refl, k.0, omega arith, k.1, ap (λ (n : LinkNo). n.0) k.2)
+
+  pub place_there : (i : ℕ) → i < length links → (get_or links i (record { 0 = 0 })).0 < length v.ends
+  place_there i p = all_there v at (get_or links i (record { 0 = 0 })).0 (are.each i (record { 0 = 0 }) p)
 
   pub place_goes : (i l : ℕ) (d : LinkNo) → i < length links → (get_or links i d).0 ≡ l → is_up (links_up v) l ≡ true → goes v at l ≡ true
   place_goes i l d p e u =

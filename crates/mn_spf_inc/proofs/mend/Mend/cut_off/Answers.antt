@@ -9,8 +9,7 @@ use Rattle.mn_spf_inc.specs.declared.way.Way.{Way}
 use Rattle.mn_spf_inc.specs.declared.mend.Mend.{Mend}
 use Rattle.mn_spf_inc.specs.Ways.{way_over}
 use Rattle.mn_spf_inc.specs.Mending.{state_of, reached, Doubts, IsCutting, OneLate, HeldBy}
-use Rattle.mn_spf_inc.proofs.Nets.{all_there}
-use Rattle.mn_spf_inc.proofs.Places.{place_goes, sum_fits_cut}
+use Rattle.mn_spf_inc.proofs.Places.{place_goes, place_there, sum_fits_cut}
 use Rattle.mn_spf_inc.proofs.Cutting.{forgotten, one_less}
 use Rattle.mn_spf_inc.proofs.Lost.{held_first, held_past, held_down, held_next}
 use Rattle.mn_spf_inc.proofs.Ends.{doubt_size}
@@ -39,14 +38,12 @@ loop-number-init g c =
 pub up-requires : goal.up-requires
 up-requires g c =
     let at = c.links_at-number-items in
-    let i = c.loop-number.number-index in
-    all_there c.args.net.now c.args.way.to (get_or at.result.now i (record { 0 = 0 })).0 (at.ensures.links.each i (record { 0 = 0 }) c.loop-number-test.true)
+    place_there c.args.net.now c.args.way.to at.result.now at.ensures.links c.loop-number.number-index c.loop-number-test.true
 
 pub link-requires : goal.link-requires
 link-requires g c =
     let at = c.links_at-number-items in
-    let i = c.loop-number.number-index in
-    all_there c.args.net.now c.args.way.to (get_or at.result.now i (record { 0 = 0 })).0 (at.ensures.links.each i (record { 0 = 0 }) c.loop-number-test.true)
+    place_there c.args.net.now c.args.way.to at.result.now at.ensures.links c.loop-number.number-index c.loop-number-test.true
 
 pub over-requires : goal.over-requires
 over-requires g c =
@@ -54,7 +51,7 @@ over-requires g c =
     let i = c.loop-number.number-index in
     let l = (get_or at.result.now i (record { 0 = 0 })).0 in
     let there : l < length c.args.net.now.ends =
-    all_there c.args.net.now c.args.way.to l (at.ensures.links.each i (record { 0 = 0 }) c.loop-number-test.true) in
+    place_there c.args.net.now c.args.way.to at.result.now at.ensures.links i c.loop-number-test.true in
     omega (
       arith,
       sum_fits_cut c.args.net.now c.args.root.0 at.ensures.form.network c.requires.root (OneLate c.args.way.to)

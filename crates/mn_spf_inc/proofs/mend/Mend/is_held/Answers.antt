@@ -5,8 +5,7 @@ use Rattle.mn_spf.specs.Ways.{goes, beyond, other_end}
 use Rattle.mn_spf.proofs.Walks.{beyond_below}
 use Rattle.mn_spf_inc.specs.Ways.{way_over, way_at}
 use Rattle.mn_spf_inc.specs.Mending.{state_of, OneLate}
-use Rattle.mn_spf_inc.proofs.Nets.{all_there}
-use Rattle.mn_spf_inc.proofs.Places.{place_goes, sum_fits_cut}
+use Rattle.mn_spf_inc.proofs.Places.{place_goes, place_there, sum_fits_cut}
 use Rattle.mn_spf_inc.proofs.Lost.{held_from}
 use Rattle.mn_spf_inc.proofs.Spared.{over_none}
 use Rattle.mn_spf_inc.proofs.mend.Mend.is_held.Given.{Over}
@@ -16,14 +15,12 @@ use Rattle.mn_spf_inc.proofs.mend.Mend.is_held.Goals.{After-other_end}
 pub up-requires : goal.up-requires
 up-requires g c =
     let at = c.links_at-number-items in
-    let i = c.loop-number.number-index in
-    all_there c.args.net.now c.args.way.to (get_or at.result.now i (record { 0 = 0 })).0 (at.ensures.links.each i (record { 0 = 0 }) c.loop-number-test.true)
+    place_there c.args.net.now c.args.way.to at.result.now at.ensures.links c.loop-number.number-index c.loop-number-test.true
 
 pub link-link-requires : goal.link-link-requires
 link-link-requires g c =
     let at = c.links_at-number-items in
-    let i = c.loop-number.number-index in
-    all_there c.args.net.now c.args.way.to (get_or at.result.now i (record { 0 = 0 })).0 (at.ensures.links.each i (record { 0 = 0 }) c.loop-number-test.true)
+    place_there c.args.net.now c.args.way.to at.result.now at.ensures.links c.loop-number.number-index c.loop-number-test.true
 
 -- the number of the link in this place
 abbrev number : (g : Over) → After-other_end g → ℕ
@@ -46,7 +43,7 @@ comes_from-requires g c =
     let here = (goal.at.comes_from-requires g c).After-other_end in
     let l = number g here in
     let on = onward g here in
-    let there : l < length v.ends = all_there v c.args.way.to l (at.ensures.links.each c.loop-number.number-index (record { 0 = 0 }) c.loop-number-test.true) in
+    let there : l < length v.ends = place_there v c.args.way.to at.result.now at.ensures.links c.loop-number.number-index c.loop-number-test.true in
     let below = beyond_below v at.ensures.form.network c.args.way.to l on.0 in
     record {
       there = omega (arith, on.1, below, c.requires.cutting.one_each.dists);

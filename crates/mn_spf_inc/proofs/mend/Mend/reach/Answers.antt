@@ -6,8 +6,7 @@ use Rattle.mn_spf.specs.Ways.{wiring_of, goes, beyond, other_end}
 use Rattle.mn_spf.proofs.Walks.{beyond_below}
 use Rattle.mn_spf_inc.specs.declared.mend.Mend.{Mend}
 use Rattle.mn_spf_inc.specs.Mending.{state_of, OffersBeyond, IsGrowing, IntoCut, IntoCutOrFrom}
-use Rattle.mn_spf_inc.proofs.Nets.{all_there}
-use Rattle.mn_spf_inc.proofs.Places.{back, place_goes, cut_to_places, cut_places_passed, cut_place_down, reached_over, sum_fits}
+use Rattle.mn_spf_inc.proofs.Places.{back, place_goes, place_there, cut_to_places, cut_places_passed, cut_place_down, reached_over, sum_fits}
 use Rattle.mn_spf_inc.proofs.mend.Mend.reach.Given.{Over}
 use Rattle.mn_spf_inc.proofs.mend.Mend.reach.Goals as goal
 use Rattle.mn_spf_inc.proofs.mend.Mend.reach.Goals.{After-other_end, then-up+in_ok-offer_beyond, else-up}
@@ -26,14 +25,12 @@ loop-number-init g c =
 pub up-requires : goal.up-requires
 up-requires g c =
     let at = c.links_at-number-items in
-    let i = c.loop-number.number-index in
-    all_there c.args.net.now c.args.node.0 (get_or at.result.now i (record { 0 = 0 })).0 (at.ensures.links.each i (record { 0 = 0 }) c.loop-number-test.true)
+    place_there c.args.net.now c.args.node.0 at.result.now at.ensures.links c.loop-number.number-index c.loop-number-test.true
 
 pub link-link-requires : goal.link-link-requires
 link-link-requires g c =
     let at = c.links_at-number-items in
-    let i = c.loop-number.number-index in
-    all_there c.args.net.now c.args.node.0 (get_or at.result.now i (record { 0 = 0 })).0 (at.ensures.links.each i (record { 0 = 0 }) c.loop-number-test.true)
+    place_there c.args.net.now c.args.node.0 at.result.now at.ensures.links c.loop-number.number-index c.loop-number-test.true
 
 -- the number of the link in this place
 abbrev number : (g : Over) → After-other_end g → ℕ
@@ -59,7 +56,7 @@ offer_beyond-requires g c =
     let far : other_end c.link-link.result c.other_end.result.0 ≡ c.args.node.0 =
     ap (other_end c.link-link.result) on.1 ∙ ap (λ (e : LinkEnds). other_end e (beyond v c.args.node.0 l)) c.link-link.ensures.value
     ∙ back v c.args.node.0 l on.0 in
-    let there : l < length v.ends = all_there v c.args.node.0 l (at.ensures.links.each c.loop-number.number-index (record { 0 = 0 }) c.loop-number-test.true) in
+    let there : l < length v.ends = place_there v c.args.node.0 at.result.now at.ensures.links c.loop-number.number-index c.loop-number-test.true in
     let below = beyond_below v at.ensures.form.network c.args.node.0 l on.0 in
     record {
       there = omega (arith, on.1, below, c.loop-number.invariant.growing.one_each.dists);
