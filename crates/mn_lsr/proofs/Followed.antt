@@ -99,6 +99,16 @@ all_in q [] h k d l = absurd (omega (arith, l))
 all_in q (x ∷ xs) h zero d l = h x.0 (inl refl)
 all_in q (x ∷ xs) h (suc k) d l = all_in q xs (λ p i. h p (inr i)) k d (omega (arith, l))
 
+-- the table once what begins is offered, as if all labels that may be another's had been asked for
+pub record IsOffered (p : Parts) (es : List LibEvent) (tick : ℕ) (table : LabelTable) : Type 0 where
+  pub free : List NodeNo
+  pub newly : List NodeNo
+  pub free_are : numbers free ≡ flat_map (free_of p.lib p.labels.labels tick) (range_with_len 0 (length p.loopbacks.items))
+  pub newly_are : map (λ (x : NodeNo). x.0) newly ≡ begun p.lib.bindings (after_events p.lib.bindings es)
+  pub offered_is : table.labels ≡ offered (is_one_of free) p.labels.labels (numbers newly)
+  pub me_is : table.me ≡ p.labels.me
+  pub told_is : IsTold table.labels
+
 module _ (p : Parts) (withdrawn : ℕ) (es : List LibEvent) (may : MayFollow p withdrawn es) where
   abbrev pub a : Bindings
   a = after_events p.lib.bindings es
@@ -116,33 +126,30 @@ module _ (p : Parts) (withdrawn : ℕ) (es : List LibEvent) (may : MayFollow p w
       clash : true ≡ false → ⊥
       clash g = cc
 
-  module _ (tick : ℕ) (table : LabelTable) (free newly : List NodeNo)
-      (free_are : numbers free ≡ flat_map (free_of p.lib p.labels.labels tick) (range_with_len 0 (length p.loopbacks.items)))
-      (newly_are : map (λ (x : NodeNo). x.0) newly ≡ begun p.lib.bindings (after_events p.lib.bindings es))
-      (offered_is : table.labels ≡ offered (is_one_of free) p.labels.labels (numbers newly)) (me_is : table.me ≡ p.labels.me) (told_is : IsTold table.labels) where
+  module _ (tick : ℕ) (table : LabelTable) (is : IsOffered p es tick table) where
     pub labels_are : table.labels ≡ offered (is_free p.lib tick) p.labels.labels (begun p.lib.bindings (after_events p.lib.bindings es))
     labels_are =
-        offered_is ∙ ap (offered (is_one_of free) p.labels.labels) newly_are
-        ∙ offered_alike (is_one_of free) (is_free p.lib tick) p.labels.labels (begun p.lib.bindings (after_events p.lib.bindings es))
-        (λ k h. found_free p.lib p.labels.labels tick (length p.loopbacks.items) free free_are k (omega (arith, h, may.labels.long)))
+        is.offered_is ∙ ap (offered (is_one_of is.free) p.labels.labels) is.newly_are
+        ∙ offered_alike (is_one_of is.free) (is_free p.lib tick) p.labels.labels (begun p.lib.bindings (after_events p.lib.bindings es))
+        (λ k h. found_free p.lib p.labels.labels tick (length p.loopbacks.items) is.free is.free_are k (omega (arith, h, may.labels.long)))
 
     not_free : (k : ℕ) → offers p.lib.bindings k ≡ true → is_free p.lib tick k ≡ false
     not_free k e = ap (λ x. not x && is_over p.lib.resting tick k) e
 
     pub have : HaveLabels p.me.0 (length p.loopbacks.items) (after_events p.lib.bindings es) table
     have = have_then p.me.0 (length p.loopbacks.items) p.lib.bindings (after_events p.lib.bindings es) (is_free p.lib tick) p.labels table may.labels may.lib_nodes
-        not_free labels_are told_is me_is
+        not_free labels_are is.told_is is.me_is
 
     pub may_tell : MayTell (length p.loopbacks.items) p.me.0 table.labels withdrawn (tells p.lib.bindings es)
     may_tell =
         may-tells (length p.loopbacks.items) p.me.0 withdrawn table.labels p.lib.bindings es may.lib_nodes (may.may table.labels)
         (has_one p.me.0 (length p.loopbacks.items) p.lib.bindings (after_events p.lib.bindings es) (is_free p.lib tick) p.labels table may.labels may.lib_nodes
-        not_free labels_are told_is me_is)
+        not_free labels_are is.told_is is.me_is)
 
     pub none_of_sites : (fec label : ℕ) → label_now table.labels fec ≡ Some label → IsNotSite (use_of p.lfib label)
     none_of_sites =
         no_site p.me.0 (length p.loopbacks.items) p.lib.bindings (after_events p.lib.bindings es) (is_free p.lib tick) p.labels table may.labels may.lib_nodes
-        not_free labels_are told_is me_is p.lfib may.table
+        not_free labels_are is.told_is is.me_is p.lfib may.table
 
     inside : (xs : List (Option ℕ)) (k label : ℕ) → slice_index_or xs k None ≡ Some label → k < length xs
     inside [] k label e = cc
@@ -159,7 +166,7 @@ module _ (p : Parts) (withdrawn : ℕ) (es : List LibEvent) (may : MayFollow p w
           use_of p.lfib label ≡ fec_use (usable bindings fec)
       same fec label e stays =
           stood p.me.0 (length p.loopbacks.items) p.lib.bindings (after_events p.lib.bindings es) (is_free p.lib tick) p.labels table may.labels may.lib_nodes
-          not_free labels_are told_is me_is p.lfib may.table fec label stays (me-after p.lib.bindings es) e
+          not_free labels_are is.told_is is.me_is p.lfib may.table fec label stays (me-after p.lib.bindings es) e
           ∙ ap (λ x. fec_use (usable x fec)) (sym bindings_are)
 
       ways : (fec label : ℕ) → label_now table.labels fec ≡ Some label → use_of uses label ≡ fec_use (usable (after_events p.lib.bindings es) fec)
@@ -172,10 +179,10 @@ module _ (p : Parts) (withdrawn : ℕ) (es : List LibEvent) (may : MayFollow p w
       pub table_is : (label : ℕ) → IsUseOf (usable (after_events p.lib.bindings es)) (meaning_of table.labels label) (use_of uses label)
       table_is =
           table_then p.me.0 (length p.loopbacks.items) p.lib.bindings (after_events p.lib.bindings es) (is_free p.lib tick) p.labels table may.labels may.lib_nodes
-          not_free labels_are told_is me_is p.lfib may.table uses ways others
+          not_free labels_are is.told_is is.me_is p.lfib may.table uses ways others
 
       pub sites_are : (label : ℕ) → IsAttachment (meaning_of p.labels.labels label) →
           (meaning_of table.labels label ≡ meaning_of p.labels.labels label) × (use_of uses label ≡ use_of p.lfib label)
       sites_are =
           sites_stay p.me.0 (length p.loopbacks.items) p.lib.bindings (after_events p.lib.bindings es) (is_free p.lib tick) p.labels table may.labels may.lib_nodes
-          not_free labels_are told_is me_is p.lfib may.table uses ways others
+          not_free labels_are is.told_is is.me_is p.lfib may.table uses ways others

@@ -13,7 +13,7 @@ use Rattle.mn_lib.proofs.Staying.{below}
 use Rattle.mn_lsr.specs.declared.parts.Parts.{Parts}
 use Rattle.mn_lsr.specs.Telling.{MayTell}
 use Rattle.mn_lsr.specs.Parts.{free_of}
-use Rattle.mn_lsr.proofs.Followed.{tells-few, others_begin, labels_are, have, may_tell, none_of_sites, table_is, sites_are}
+use Rattle.mn_lsr.proofs.Followed.{IsOffered, tells-few, others_begin, labels_are, have, may_tell, none_of_sites, table_is, sites_are}
 use Rattle.mn_lsr.proofs.parts.Parts.follow.Goals as goal
 use Rattle.mn_lsr.proofs.parts.Parts.follow.Goals.{After-given-given}
 
@@ -87,52 +87,60 @@ use_new_ways-requires-clause-there c =
     subst (λ n. AreBelow n (fecs_in c.args.events.now)) (c.requires.follow.lib_nodes ∙ sym (c.nodes-nodes.ensures.value ∙ c.requires.follow.view_nodes))
     (below c.args.self.now.lib.bindings c.args.events.now c.requires.follow.fit)
 
--- the labels are offered as if all that may be another's had been asked for
-offered_is : (c : After-given-given) →
-    c.offer.new.self.labels ≡ offered (is_one_of (all_free c.args.self.now c.args.tick)) c.args.self.now.labels.labels (numbers c.in_ok-changed.changed.begun.items)
-offered_is c =
-    shown c.args.self.now c.args.events.now c.args.tick c.nodes-nodes.result c.offer.new.self.labels c.in_ok-free.free.items c.in_ok-changed.changed.begun.items
-    (c.nodes-nodes.ensures.value ∙ c.requires.follow.view_nodes) c.in_ok-free.ensures c.in_ok-changed.ensures.begun
-    (renamed c.args.self.now c.offer.new.self.labels c.deref.result.now c.deref-2.result.now c.in_ok-changed.changed.begun.items c.in_ok-free.free.items
-    c.in_ok-offer.ensures.after c.deref.ensures.value c.deref-2.ensures.value)
+offered_is : (c : After-given-given) → IsOffered c.args.self.now c.args.events.now c.args.tick c.offer.new.self
+offered_is c = record {
+  free = all_free c.args.self.now c.args.tick;
+  newly = c.in_ok-changed.changed.begun.items;
+  free_are = all_numbered c.args.self.now c.args.tick;
+  newly_are = c.in_ok-changed.ensures.begun;
+  offered_is =
+      shown c.args.self.now c.args.events.now c.args.tick c.nodes-nodes.result c.offer.new.self.labels c.in_ok-free.free.items c.in_ok-changed.changed.begun.items
+      (c.nodes-nodes.ensures.value ∙ c.requires.follow.view_nodes) c.in_ok-free.ensures c.in_ok-changed.ensures.begun
+      (renamed c.args.self.now c.offer.new.self.labels c.deref.result.now c.deref-2.result.now c.in_ok-changed.changed.begun.items c.in_ok-free.free.items
+      c.in_ok-offer.ensures.after c.deref.ensures.value c.deref-2.ensures.value);
+  me_is = c.offer.ensures.me;
+  told_is = c.given-given.ensures.told;
+}
 
 pub say_all-requires-clause-may : goal.say_all-requires-clause-may
 say_all-requires-clause-may c =
     subst (MayTell (length c.deref-3.result.now) c.args.self.now.me.0 c.offer.new.self.labels c.args.withdrawn) (sym (c.deref-5.ensures.value ∙ c.in_ok-changed.ensures.tells))
     (subst (λ (xs : List ℕ). MayTell (length xs) c.args.self.now.me.0 c.offer.new.self.labels c.args.withdrawn (tells c.args.self.now.lib.bindings c.args.events.now))
     (sym c.deref-3.ensures.value)
-    (may_tell c.args.self.now c.args.withdrawn c.args.events.now c.requires.follow c.args.tick c.offer.new.self (all_free c.args.self.now c.args.tick) c.in_ok-changed.changed.begun.items
-    (all_numbered c.args.self.now c.args.tick) c.in_ok-changed.ensures.begun
-    (offered_is (goal.at.say_all-requires-clause-may c).After-given-given) c.offer.ensures.me c.given-given.ensures.told))
+    (may_tell c.args.self.now c.args.withdrawn c.args.events.now c.requires.follow c.args.tick c.offer.new.self
+    (offered_is (goal.at.say_all-requires-clause-may c).After-given-given)))
 
 pub use_new_ways-requires-clause-free : goal.use_new_ways-requires-clause-free
 use_new_ways-requires-clause-free c =
-    none_of_sites c.args.self.now c.args.withdrawn c.args.events.now c.requires.follow c.args.tick c.offer.new.self (all_free c.args.self.now c.args.tick) c.in_ok-changed.changed.begun.items
-    (all_numbered c.args.self.now c.args.tick) c.in_ok-changed.ensures.begun
-    (offered_is (goal.at.use_new_ways-requires-clause-free c).After-given-given) c.offer.ensures.me c.given-given.ensures.told
+    none_of_sites c.args.self.now c.args.withdrawn c.args.events.now c.requires.follow c.args.tick c.offer.new.self
+    (offered_is (goal.at.use_new_ways-requires-clause-free c).After-given-given)
 
 pub returns-clause-labels : goal.returns-clause-labels
-returns-clause-labels c = IfOk-weaker c.use_new_ways.result _ _ (λ x q. labels_are c.args.self.now c.args.withdrawn c.args.events.now c.requires.follow c.args.tick c.offer.new.self (all_free c.args.self.now c.args.tick) c.in_ok-changed.changed.begun.items
-    (all_numbered c.args.self.now c.args.tick) c.in_ok-changed.ensures.begun
-    (offered_is (goal.at.returns-clause-labels c).After-given-given) c.offer.ensures.me c.given-given.ensures.told) c.use_new_ways.ensures.others
+returns-clause-labels c =
+    IfOk-weaker c.use_new_ways.result _ _
+    (λ x q. labels_are c.args.self.now c.args.withdrawn c.args.events.now c.requires.follow c.args.tick c.offer.new.self
+    (offered_is (goal.at.returns-clause-labels c).After-given-given)) c.use_new_ways.ensures.others
 
 pub returns-clause-have : goal.returns-clause-have
-returns-clause-have c = IfOk-weaker c.use_new_ways.result _ _ (λ x q. have c.args.self.now c.args.withdrawn c.args.events.now c.requires.follow c.args.tick c.offer.new.self (all_free c.args.self.now c.args.tick) c.in_ok-changed.changed.begun.items
-    (all_numbered c.args.self.now c.args.tick) c.in_ok-changed.ensures.begun
-    (offered_is (goal.at.returns-clause-have c).After-given-given) c.offer.ensures.me c.given-given.ensures.told) c.use_new_ways.ensures.others
+returns-clause-have c =
+    IfOk-weaker c.use_new_ways.result _ _
+    (λ x q. have c.args.self.now c.args.withdrawn c.args.events.now c.requires.follow c.args.tick c.offer.new.self
+    (offered_is (goal.at.returns-clause-have c).After-given-given)) c.use_new_ways.ensures.others
 
 pub returns-clause-table : goal.returns-clause-table
 returns-clause-table c =
-    both_ok c.use_new_ways.result _ _ _ (table_is c.args.self.now c.args.withdrawn c.args.events.now c.requires.follow c.args.tick c.offer.new.self (all_free c.args.self.now c.args.tick) c.in_ok-changed.changed.begun.items
-    (all_numbered c.args.self.now c.args.tick) c.in_ok-changed.ensures.begun
-    (offered_is (goal.at.returns-clause-table c).After-given-given) c.offer.ensures.me c.given-given.ensures.told
-    c.nodes-nodes.result (c.nodes-nodes.ensures.value ∙ c.requires.follow.view_nodes) c.apply.new.self.bindings (ap (λ (k : Known). k.bindings) c.in_ok-changed.ensures.after) c.use_new_ways.new.lfib)
+    both_ok c.use_new_ways.result _ _ _
+    (table_is c.args.self.now c.args.withdrawn c.args.events.now c.requires.follow c.args.tick c.offer.new.self
+    (offered_is (goal.at.returns-clause-table c).After-given-given)
+    c.nodes-nodes.result (c.nodes-nodes.ensures.value ∙ c.requires.follow.view_nodes) c.apply.new.self.bindings
+    (ap (λ (k : Known). k.bindings) c.in_ok-changed.ensures.after) c.use_new_ways.new.lfib)
     c.use_new_ways.ensures.ways c.use_new_ways.ensures.others
 
 pub returns-clause-sites : goal.returns-clause-sites
 returns-clause-sites c =
-    both_ok c.use_new_ways.result _ _ _ (sites_are c.args.self.now c.args.withdrawn c.args.events.now c.requires.follow c.args.tick c.offer.new.self (all_free c.args.self.now c.args.tick) c.in_ok-changed.changed.begun.items
-    (all_numbered c.args.self.now c.args.tick) c.in_ok-changed.ensures.begun
-    (offered_is (goal.at.returns-clause-sites c).After-given-given) c.offer.ensures.me c.given-given.ensures.told
-    c.nodes-nodes.result (c.nodes-nodes.ensures.value ∙ c.requires.follow.view_nodes) c.apply.new.self.bindings (ap (λ (k : Known). k.bindings) c.in_ok-changed.ensures.after) c.use_new_ways.new.lfib)
+    both_ok c.use_new_ways.result _ _ _
+    (sites_are c.args.self.now c.args.withdrawn c.args.events.now c.requires.follow c.args.tick c.offer.new.self
+    (offered_is (goal.at.returns-clause-sites c).After-given-given)
+    c.nodes-nodes.result (c.nodes-nodes.ensures.value ∙ c.requires.follow.view_nodes) c.apply.new.self.bindings
+    (ap (λ (k : Known). k.bindings) c.in_ok-changed.ensures.after) c.use_new_ways.new.lfib)
     c.use_new_ways.ensures.ways c.use_new_ways.ensures.others
