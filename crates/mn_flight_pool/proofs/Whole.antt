@@ -189,14 +189,6 @@ module _ {T : Type 0} (pool : Pool T) (whole : IsWhole pool) where
   pub recent_at : (k : ℕ) (p : Place) → k < length pool.recent.items → p ≡ slice_index_or pool.recent.items k p → IsIn p.index (order_in pool)
   recent_at k p h e = last_of_order k p.index (head_at pool.recent.items k p h e)
 
-  pub recent_get : (k : ℕ) (p : Place) → Some p ≡ slice_get pool.recent.items k → IsIn p.index (order_in pool)
-  recent_get k p e = last_of_order k p.index (by pool.recent.items k e)
-    where
-      by : (ps : List Place) (n : ℕ) → Some p ≡ slice_get ps n → slice_get (ptrs ps) n ≡ Some p.index
-      by [] n h = cc
-      by (q ∷ ps) zero h = ap (λ (r : Place). Some r.index) (sym (same_Some p q h))
-      by (q ∷ ps) (suc n) h = by ps n h
-
   -- they are no more than all
   pub recent_few : length pool.recent.items ≤ pool.count
   recent_few =
