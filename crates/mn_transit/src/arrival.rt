@@ -1,5 +1,5 @@
 //! A frame comes to a node, which forwards it by its table.
-ghost use Rattle.std.specs.Prelude.{◌≡◌, ◌≢◌, ◌<◌, ◌≤◌, ◌+◌, ◌*◌, ◌^◌, ℕ, List, true, length, slice_get};
+ghost use Rattle.std.specs.Prelude.{◌≡◌, ◌≢◌, ◌<◌, ◌≤◌, ◌+◌, ◌*◌, ◌^◌, ℕ, List, true, length, slice_get, is_some, IfSome};
 ghost use Rattle.std.specs.List.{All};
 ghost use Rattle.mn_wiring.specs.Wiring.{receiver};
 ghost use Rattle.mn_wiring.specs.declared.links.Dir.{Dir};
@@ -27,7 +27,41 @@ use mn_lfib::{Forwarded, Lfib};
 use mn_topo::Topology;
 use mn_wiring::{Dir, channel_of};
 
+/// The direction in which a link leads from one node to another, if it does.
+fn direction_along(topology: &Topology, link: LinkNo, from: NodeNo, to: NodeNo) -> Option<Dir>
+    ensures { IfSome result (λ dir. Leads topology.now from.0 to.0 link.0 dir) }
+{
+    let ends = topology.links().get(usize::from(link.0))?;
+    if ends.a == from && ends.b == to {
+        Some(Dir::Forth)
+    } else if ends.b == from && ends.a == to {
+        Some(Dir::Back)
+    } else {
+        None
+    }
+}
+
 impl Transit {
+    /// The link that joins two nodes, and the direction from the first: the one over which a packet went on from there last, where it is
+    /// that one, so that few packets ask the topology.
+    fn way(&mut self, topology: &Topology, node: NodeNo, next: NodeNo) -> Option<(LinkNo, Dir)>
+        ensures leads { IfSome result (λ found. Leads topology.now node.0 next.0 found.0.0 found.1) }
+        ensures found { is_some result ≡ are_joined topology.now.links node.0 next.0 }
+        ensures same { self.new ≡ self.old }
+    {
+        let at = usize::from(node.0);
+        if let Some(last) = self.ways.get(at) {
+            if let Some(dir) = direction_along(topology, *last, node, next) {
+                return Some((*last, dir));
+            }
+        }
+        let found = topology.link_of(node, next)?;
+        if let Some(last) = self.ways.get_mut(at) {
+            *last = found.0;
+        }
+        Some(found)
+    }
+
     /// A packet of which no frame flies goes on to a neighbour. True where there is a link to it.
     pub(crate) fn hop(
         &mut self,
@@ -52,7 +86,7 @@ impl Transit {
         ensures made { Makes topology.now clock.tick clock.number self.old.flying self.new.flying result }
         ensures counts { CountsOn self.old self.new 0 0 (length flown.frame.packet) }
     {
-        let Some((link, dir)) = topology.link_of(node, next) else {
+        let Some((link, dir)) = self.way(topology, node, next) else {
             return false;
         };
         self.send(topology, link, dir, flown, clock);

@@ -47,6 +47,8 @@ pub struct Transit {
     pub(crate) delivered: Option<Flown>,
     // The bytes of the packets that fly.
     pub(crate) bytes: u64,
+    // By node the link over which a packet went on from it last: the first one to be looked at for the next packet.
+    pub(crate) ways: Vec<LinkNo>,
 }
 
 impl Model for Transit {
@@ -93,6 +95,7 @@ impl Transit {
         topology.laws();
         let links = topology.links().len() as u32;
         let frames = Frames::new(alloc, 2 * links)?;
+        let ways = vec![in alloc; LinkNo(0); topology.nodes().len()]?;
         Ok(Transit {
             frames,
             verdicts: Vec::new(alloc),
@@ -100,6 +103,7 @@ impl Transit {
             copies: 0,
             delivered: None,
             bytes: 0,
+            ways,
         })
     }
 
