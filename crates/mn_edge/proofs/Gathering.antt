@@ -1,8 +1,8 @@
 -- Files that grow: a piece more is held, what is held is appended, and an append is refused.
-use Rattle.std.proofs.Common.{◌≡◌, ◌⊎◌, inl, inr, ℕ, zero, suc, ◌+◌, ◌<◌, ◌≤◌, ◌==◌, Bool, true, false, cond, List, [], ◌∷◌, ◌++◌, length, take, drop}
-use Rattle.std.proofs.Common.{replicate, Option, Some, None, refl, sym, ◌∙◌, ap, subst, arith, append_assoc, length-append}
+use Rattle.std.proofs.Common.{◌≡◌, ◌⊎◌, inl, inr, ℕ, zero, suc, ◌+◌, ◌<◌, ◌≤◌, ◌==◌, Bool, true, false, cond, List, [], ◌∷◌, ◌++◌, length, map, take, drop, get_or}
+use Rattle.std.proofs.Common.{replicate, slice_set, Option, Some, None, refl, sym, ◌∙◌, ap, subst, arith, append_assoc, length-append}
 use Rattle.std.proofs.lemmas.Bool.{cases_eq, cases_lt, ne_eqb, eq-eqb}
-use Rattle.std.proofs.lemmas.List.{append-nil, get_or-set_same, get_or-set_other, take-append-drop, take_all, length-map, length-set, nil_from_length}
+use Rattle.std.proofs.lemmas.List.{append-nil, get_or-set_same, get_or-set_other, take-append-drop, take_all, length-map, length-set, map-set, get_or-map, nil_from_length}
 use Rattle.std.proofs.lemmas.List.Sums.{sum_by-set, get_or-le-sum_by}
 use Rattle.std.specs.Prelude.{nat_le}
 use Rattle.mn_edge.specs.Files.{Files, file, with_file, Grows, MayGrow}
@@ -11,7 +11,14 @@ use Rattle.mn_edge.specs.Written.{same_name, is_known}
 use Rattle.mn_edge.specs.Memory.{all_differ}
 use Rattle.mn_edge.specs.Kept.{name_of, held_for, AllThere, held_bytes, most_held, with_piece, none_held, IsHeld, HasBegun, Framed, HoldsOn, BeginsOn, grown}
 use Rattle.mn_edge.specs.KeptLaws.{same_some, there_grown, begins_on, begins_on_more, unknown-apart, places_apart, held_for-replicate}
-use Rattle.mn_edge.proofs.Waits.{none_held_is}
+
+pub none_held_is : (held : List (List ℕ)) → none_held held ≡ replicate (length held) []
+none_held_is [] = refl
+none_held_is (x ∷ held) = ap (λ l. [] ∷ l) (none_held_is held)
+
+pub no_bytes : (files : ℕ) → held_bytes (replicate files []) ≡ 0
+no_bytes zero = refl
+no_bytes (suc files) = no_bytes files
 
 -- what is held, but nothing for the first few files
 abbrev pub emptied : ℕ → List (List ℕ) → List (List ℕ)
@@ -37,6 +44,20 @@ emptied-other k held j ne = by (cases_lt j k)
     by : (j < k) ⊎ (k ≤ j) → held_for (emptied (k + 1) held) j ≡ held_for (emptied k held) j
     by (inl below) = emptied-before (k + 1) held j (omega arith) ∙ sym (emptied-before k held j below)
     by (inr from) = emptied-from (k + 1) held j (omega arith) ∙ sym (emptied-from k held j from)
+
+-- one file more is emptied
+pub emptied-next : (k : ℕ) (held : List (List ℕ)) → k < length held → slice_set (emptied k held) k [] ≡ emptied (suc k) held
+emptied-next zero [] within = absurd (omega arith)
+emptied-next zero (x ∷ held) within = refl
+emptied-next (suc k) [] within = absurd (omega arith)
+emptied-next (suc k) (x ∷ held) within = ap (λ l. [] ∷ l) (emptied-next k held (omega (arith, within)))
+
+-- all are
+pub emptied-all : (k : ℕ) (held : List (List ℕ)) → length held ≤ k → emptied k held ≡ none_held held
+emptied-all zero [] over = refl
+emptied-all zero (x ∷ held) over = absurd (omega (arith, over))
+emptied-all (suc k) [] over = refl
+emptied-all (suc k) (x ∷ held) over = ap (λ l. [] ∷ l) (emptied-all k held (omega (arith, over)))
 
 none_held-at : (held : List (List ℕ)) (j : ℕ) → held_for (none_held held) j ≡ []
 none_held-at held j = ap (λ h. held_for h j) (none_held_is held) ∙ held_for-replicate (length held) j
@@ -202,6 +223,20 @@ more_held names contents held k piece files here h = record {
         ap (λ l. shelved ++ l) (get_or-set_other held k j (held_for held k ++ piece) [] ne) ∙ whole ∙ sym (append-nil (contents j))
         ∙ ap (λ b. contents j ++ cond b piece []) (sym (ne_eqb k j (λ e. ne (sym e))))
 
+-- the buffer of a file has grown by a piece
+pub pushed : {V : Type 0} (f : V → List ℕ) (files : List V) (file : ℕ) (old new : V) (piece : List ℕ) (held : List (List ℕ)) → map f files ≡ held →
+    file < length held → old ≡ get_or files file old → f new ≡ f old ++ piece → map f (slice_set files file new) ≡ with_piece held file piece
+pushed f files file old new piece held is within there grew =
+    let w : file < length files = let l = length-map files f in let e = ap length is in omega (arith, within, l, e) in
+    let at : f old ≡ held_for held file = ap f there ∙ sym (get_or-map f files file old [] w) ∙ ap (λ h. held_for h file) is in
+    map-set f files file new ∙ (λ i. slice_set (is i) file ((grew ∙ ap (λ l. l ++ piece) at) i))
+
+-- a piece of no bytes is nothing
+pub with_none : (held : List (List ℕ)) (file : ℕ) → file < length held → with_piece held file [] ≡ held
+with_none [] file within = absurd (omega (arith, within))
+with_none (x ∷ held) zero within = ap (λ l. l ∷ held) (append-nil x)
+with_none (x ∷ held) (suc file) within = ap (λ l. x ∷ l) (with_none held file (omega (arith, within)))
+
 -- there is room for something
 pub room_some : (files : ℕ) → 0 < most_held files
 room_some files = by (nat_le files 64)
@@ -250,3 +285,8 @@ pub grown_part : (contents : ℕ → List ℕ) (k : ℕ) (a b : List ℕ) (files
 grown_part contents k a b files names begins =
     begins_on_more names (grown contents k a) (grown contents k (a ++ b)) files
     (λ j. (cond (k == j) b [], ap (λ f. f j) (grown_twice contents k a b))) begins
+
+-- what has begun of contents has begun of them with a piece behind
+pub begins_grown : (names : List (List ℕ)) (contents : ℕ → List ℕ) (k : ℕ) (piece : List ℕ) (files : Option Files) → BeginsOn names contents files →
+    BeginsOn names (grown contents k piece) files
+begins_grown names contents k piece files = begins_on_more names contents (grown contents k piece) files (λ j. (cond (k == j) piece [], refl))

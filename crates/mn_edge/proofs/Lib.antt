@@ -1,5 +1,4 @@
 pub mod Laying
 pub mod Fetching
 pub mod Entries
-pub mod Waits
 pub mod Gathering

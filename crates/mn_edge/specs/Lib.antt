@@ -9,4 +9,3 @@ pub mod Place
 pub mod Kept
 pub mod KeptLaws
 pub mod Laid
-pub mod Waiting

@@ -5,8 +5,9 @@ ghost use Rattle.mn_edge.specs.Kept.{BeginsOn, Framed, HoldsOn, Lacking, grown, 
 ghost use Rattle.mn_edge.specs.Memory.{all_differ};
 ghost use Rattle.mn_edge.specs.Written.{texts};
 
-use crate::held::{Held, room_for};
-use crate::{DeviceBad, Shelf};
+use crate::held::Held;
+use crate::line::Piece;
+use crate::{DeviceBad, Line, Shelf};
 use std::alloc::{AllocError, Global};
 use std::marker::Model;
 
@@ -17,19 +18,14 @@ use std::marker::Model;
 #[derive(Drop)]
 pub struct Gather {
     held: Held,
-    /// What is held for one file, at its end, when it is appended.
-    joined: Vec<u8>,
 }
 
 impl Model for Gather {
-    ghost use Rattle.std.specs.Prelude.{◌≡◌, List, ℕ, length, vec_len};
-    ghost use Rattle.mn_edge.specs.Kept.{most_held};
+    ghost use Rattle.std.specs.Prelude.{List, ℕ};
 
     ghost Value = { List (List ℕ) };
 
     ghost view = { λ g. g.held };
-
-    ghost invariant = { λ g. vec_len g.joined ≡ most_held (length g.held) };
 }
 
 impl Gather {
@@ -39,7 +35,6 @@ impl Gather {
     {
         Ok(Gather {
             held: Held::new(alloc, files as usize)?,
-            joined: vec![in alloc; 0; room_for(files as usize)]?,
         })
     }
 
@@ -85,6 +80,43 @@ impl Gather {
         self.hold(file as usize, rest)
     }
 
+    /// The same by a line, which is written right behind what is held.
+    #[inline(always)]
+    pub fn put_line<S: Shelf, L: Line>(
+        &mut self,
+        shelf: &mut S,
+        names: &[String],
+        file: u32,
+        line: &L,
+    ) -> Result<(), DeviceBad>
+        requires file { file < length self.old }
+        requires names { length names.now ≡ length self.old }
+        requires differ { IsTrue (all_differ (texts names.now)) }
+        ensures grown { OnOk result ((contents : ℕ → List ℕ) →
+            HoldsOn (texts names.now) contents self.old (S.files shelf.old) →
+            HoldsOn (texts names.now) (grown contents file (L.text line.now)) self.new (S.files shelf.new)) }
+        ensures part { OnErr result ((contents : ℕ → List ℕ) →
+            HoldsOn (texts names.now) contents self.old (S.files shelf.old) →
+            BeginsOn (texts names.now) (grown contents file (L.text line.now)) (S.files shelf.new)) }
+        ensures framed { Framed (texts names.now) (S.files shelf.old) (S.files shelf.new) }
+
+        // Where there is room for the piece, the shelf isn't called, and the piece is held.
+        ensures untouched { held_bytes self.old + length (L.text line.now) ≤ most_held (length self.old) → shelf.new ≡ shelf.old }
+        ensures held { OnOk result (held_bytes self.old + length (L.text line.now) ≤ most_held (length self.old) →
+            self.new ≡ with_piece self.old file (L.text line.now)) }
+        ensures room { held_bytes self.new ≤ most_held (length self.old) }
+        ensures files { length self.new ≡ length self.old }
+        ensures dropped { OnErr result (self.new ≡ none_held self.old) }
+        ensures writes { CountedUnless (Lacking (texts names.now) (S.files shelf.old))
+            (S.write_faults shelf.old) (S.write_faults shelf.new) result }
+        ensures reads { S.read_faults shelf.new ≡ S.read_faults shelf.old }
+    {
+        match self.held.push(file as usize, line)? {
+            None => Ok(()),
+            Some(text) => self.put(shelf, names, file, &text),
+        }
+    }
+
     /// Appends all that is held, by one append for each file that has any, in the order of the files. Nothing is
     /// held any more, also after a refusal, when each file is a first part of what it would hold.
     pub fn end<S: Shelf>(&mut self, shelf: &mut S, names: &[String]) -> Result<(), DeviceBad>
@@ -104,7 +136,7 @@ impl Gather {
         ensures reads { S.read_faults shelf.new ≡ S.read_faults shelf.old }
         ensures ends { IfErr result (λ e. S.refusal shelf.new ≡ Some e) }
     {
-        let done = append_held(&self.held, &mut self.joined, shelf, names);
+        let done = append_held(&self.held, shelf, names);
         self.held.clear();
         done
     }
@@ -120,22 +152,13 @@ impl Gather {
         if piece.is_empty() {
             return Ok(());
         }
-        if self.held.push(file, piece).is_err() {
-            self.held.clear();
-            return Err(DeviceBad::NoMemory);
-        }
+        self.held.push(file, &Piece { bytes: piece })?;
         Ok(())
     }
 }
 
 /// Appends what is held for each file. What is held stays.
-fn append_held<S: Shelf>(
-    held: &Held,
-    joined: &mut [u8],
-    shelf: &mut S,
-    names: &[String],
-) -> Result<(), DeviceBad>
-    requires joined { length joined.old ≡ most_held (length held.now) }
+fn append_held<S: Shelf>(held: &Held, shelf: &mut S, names: &[String]) -> Result<(), DeviceBad>
     requires names { length names.now ≡ length held.now }
     requires differ { IsTrue (all_differ (texts names.now)) }
     ensures kept { OnOk result ((contents : ℕ → List ℕ) →
@@ -152,9 +175,9 @@ fn append_held<S: Shelf>(
     ensures ends { IfErr result (λ e. S.refusal shelf.new ≡ Some e) }
 {
     for (file, name) in names.iter().enumerate() {
-        let from = held.copy_to_end(file, joined);
-        if from < joined.len() {
-            shelf.append(name.as_str(), &joined[from..])?;
+        let bytes = held.bytes(file);
+        if !bytes.is_empty() {
+            shelf.append(name.as_str(), bytes)?;
         }
     }
     Ok(())

@@ -1,11 +1,8 @@
-// Bytes that wait for files, in the order in which they came.
-//
-// A buffer for each of some thousand files would keep as many capacities, each as large as the largest that was
-// needed. So all pieces lie in one arena, one behind the other, and each leads back to the piece of its file
-// that came before it.
-ghost use Rattle.std.specs.Prelude.{◌≡◌, ◌+◌, ◌<◌, ◌≤◌, ◌++◌, [], IfOk, OnOk, OnErr, length, take, drop, replicate};
+// Bytes that wait for files, a buffer for each.
+ghost use Rattle.std.specs.Prelude.{◌≡◌, ◌+◌, ◌<◌, ◌≤◌, ◌++◌, None, [], IfOk, IfSome, OnErr, OnOk, length, take, drop, map, replicate};
 ghost use Rattle.mn_edge.specs.Kept.{held_bytes, held_for, most_held, none_held, with_piece};
 
+use crate::Line;
 use std::alloc::{AllocError, Global};
 use std::marker::Model;
 
@@ -17,38 +14,24 @@ pub(crate) fn room_for(files: usize) -> usize
     if files <= 64 { 65_536 } else { 1_048_576 }
 }
 
-/// A piece: where its bytes lie in the arena, and the number of the piece before it, from 1, or 0 for none.
-#[derive(Clone, Copy)]
-struct Segment {
-    from: usize,
-    end: usize,
-    before: usize,
-}
-
 /// What is held for each of some files.
 #[derive(Drop)]
 pub(crate) struct Held {
-    /// The arena. All its memory is there from the beginning.
-    bytes: Vec<u8>,
-    /// How many of its bytes are held.
+    files: Vec<Vec<u8>>,
+    /// How many bytes these are in all.
     count: usize,
-    segments: Vec<Segment>,
-    /// For each file the number of its last piece, from 1, or 0 for none.
-    last: Vec<usize>,
 }
 
 impl Model for Held {
-    ghost use Rattle.std.specs.Prelude.{◌≡◌, ◌≤◌, List, ℕ, length, take};
+    ghost use Rattle.std.specs.Prelude.{◌≡◌, ◌≤◌, List, ℕ, length, map};
 
     ghost Value = { List (List ℕ) };
 
-    ghost use Rattle.mn_edge.specs.Kept.{most_held};
-    ghost use Rattle.mn_edge.specs.Waiting.{IsArena, all_waiting};
+    ghost use Rattle.mn_edge.specs.Kept.{held_bytes, most_held};
 
-    ghost view = { λ h. all_waiting (take h.count h.bytes.items) h.segments.items h.last.items };
+    ghost view = { λ h. map (λ v. v.items) h.files.items };
 
-    ghost invariant = { λ h. (h.count ≤ length h.bytes.items) × (length h.bytes.items ≡ most_held (length h.last.items))
-        × IsArena (take h.count h.bytes.items) h.segments.items h.last.items };
+    ghost invariant = { λ h. (h.count ≡ held_bytes (map (λ v. v.items) h.files.items)) × (h.count ≤ most_held (length h.files.items)) };
 }
 
 impl Held {
@@ -56,11 +39,13 @@ impl Held {
     pub(crate) fn new(alloc: Global, files: usize) -> Result<Held, AllocError>
         ensures { IfOk result (λ held. held ≡ replicate files []) }
     {
+        let mut buffers = Vec::with_capacity(alloc, files)?;
+        for _ in 0..files {
+            buffers.push(Vec::new(alloc))?;
+        }
         Ok(Held {
-            bytes: vec![in alloc; 0; room_for(files)]?,
+            files: buffers,
             count: 0,
-            segments: Vec::new(alloc),
-            last: vec![in alloc; 0; files]?,
         })
     }
 
@@ -68,70 +53,104 @@ impl Held {
     pub(crate) fn room(&self) -> usize
         ensures { result + held_bytes self.now ≡ most_held (length self.now) }
     {
-        self.bytes.len() - self.count
+        room_for(self.files.len()) - self.count
     }
 
-    /// Holds a piece for a file, behind what is held for it. It is one with the last piece that came, where that is of the same
-    /// file.
-    pub(crate) fn push(&mut self, file: usize, piece: &[u8]) -> Result<(), AllocError>
-        requires file { file < length self.old }
-        requires room { held_bytes self.old + length piece.now ≤ most_held (length self.old) }
-        ensures ok { OnOk result (self.new ≡ with_piece self.old file piece.now) }
-        ensures err { OnErr result (self.new ≡ self.old) }
+    /// Holds a line for a file, behind what is held for it. A line for which there is no room is handed back, and all stays. After
+    /// want of memory nothing is held.
+    #[inline(always)]
+    pub(crate) fn push<L: Line>(
+        &mut self,
+        file: usize,
+        line: &L,
+    ) -> Result<Option<Vec<u8>>, AllocError>
+        requires { file < length self.old }
+        ensures held { IfOk result (λ back. back ≡ None →
+            (held_bytes self.old + length (L.text line.now) ≤ most_held (length self.old)) × (self.new ≡ with_piece self.old file (L.text line.now))) }
+        ensures back { IfOk result (λ back. IfSome back (λ text.
+            (most_held (length self.old) < held_bytes self.old + length (L.text line.now)) × (text.items ≡ L.text line.now) × (self.new ≡ self.old))) }
+        ensures err { OnErr result (self.new ≡ none_held self.old) }
     {
-        let from = self.count;
-        let end = from + piece.len();
-        lay(&mut self.bytes, from, piece);
-        let number = self.last[file];
-        if number > 0 && number == self.segments.len() {
-            self.segments[number - 1].end = end;
-            self.count = end;
-            return Ok(());
+        let room = self.room();
+        let bytes = &mut self.files[file];
+        let from = bytes.len();
+        let done = write(bytes, room, line);
+        let end = bytes.len();
+        if done.is_err() {
+            empty(&mut self.files);
+            self.count = 0;
+            return done;
         }
-        self.segments.push(Segment {
-            from,
-            end,
-            before: number,
-        })?;
-        self.last[file] = self.segments.len();
-        self.count = end;
-        Ok(())
+        self.count += end - from;
+        done
     }
 
-    /// Puts what is held for a file at the end of the buffer, and answers where it begins there.
-    pub(crate) fn copy_to_end(&self, file: usize, buf: &mut [u8]) -> usize
-        requires file { file < length self.now }
-        requires buf { length buf.old ≡ most_held (length self.now) }
-        ensures within { result ≤ length buf.new }
-        ensures copied { drop result buf.new ≡ held_for self.now file }
+    /// What is held for a file.
+    pub(crate) fn bytes(&self, file: usize) -> &[u8]
+        requires { file < length self.now }
+        ensures { result.now ≡ held_for self.now file }
     {
-        let mut at = buf.len();
-        let mut number = self.last[file];
-        while number > 0 {
-            let segment = self.segments[number - 1];
-            let piece = &self.bytes[segment.from..segment.end];
-            at -= piece.len();
-            buf[at..at + piece.len()].copy_from_slice(piece);
-            number = segment.before;
-        }
-        at
+        &self.files[file]
     }
 
     /// Holds nothing any more.
     pub(crate) fn clear(&mut self)
         ensures { self.new ≡ none_held self.old }
     {
+        empty(&mut self.files);
         self.count = 0;
-        self.segments.clear();
-        self.last.fill(0);
     }
 }
 
-/// Lays a piece into the arena, from a place on.
-fn lay(bytes: &mut [u8], from: usize, piece: &[u8])
-    requires { from + length piece.now ≤ length bytes.old }
-    ensures before { take from bytes.new ≡ take from bytes.old }
-    ensures laid { take (from + length piece.now) bytes.new ≡ take from bytes.old ++ piece.now }
+/// Holds nothing for any file. Of many files each keeps no more memory than its share of the most that is held: else each would
+/// come to keep as much as it ever needed.
+fn empty(files: &mut Vec<Vec<u8>>)
+    ensures { map (λ v. v.items) files.new.items ≡ none_held (map (λ v. v.items) files.old.items) }
 {
-    bytes[from..from + piece.len()].copy_from_slice(piece);
+    let share = if files.len() <= 64 {
+        usize::MAX
+    } else {
+        room_for(files.len()) / files.len()
+    };
+    for file in 0..files.len() {
+        shed(&mut files[file], share);
+    }
+}
+
+/// Takes all bytes away, and their memory too where it is more than so much.
+fn shed(bytes: &mut Vec<u8>, most: usize)
+    ensures { bytes.new.items ≡ [] }
+{
+    bytes.clear();
+    if bytes.capacity() > most {
+        *bytes = Vec::new(*bytes.allocator());
+    }
+}
+
+/// Writes a line behind bytes, or hands it back where it is longer than the room.
+#[inline(always)]
+fn write<L: Line>(bytes: &mut Vec<u8>, room: usize, line: &L) -> Result<Option<Vec<u8>>, AllocError>
+    ensures held { IfOk result (λ back. back ≡ None →
+        (length (L.text line.now) ≤ room) × (bytes.new.items ≡ bytes.old.items ++ L.text line.now)) }
+    ensures back { IfOk result (λ back. IfSome back (λ text.
+        (room < length (L.text line.now)) × (text.items ≡ L.text line.now) × (bytes.new.items ≡ bytes.old.items))) }
+{
+    let from = bytes.len();
+    line.put(bytes)?;
+    if bytes.len() - from > room {
+        return Ok(Some(take_back(bytes, from)?));
+    }
+    Ok(None)
+}
+
+/// Takes back the bytes from a place on.
+fn take_back(bytes: &mut Vec<u8>, from: usize) -> Result<Vec<u8>, AllocError>
+    requires { from ≤ length bytes.old.items }
+    ensures back { IfOk result (λ back. back.items ≡ drop from bytes.old.items) }
+    ensures rest { OnOk result (bytes.new.items ≡ take from bytes.old.items) }
+{
+    let mut back = Vec::new(*bytes.allocator());
+    back.extend_from_slice(&bytes[from..])?;
+    bytes.truncate(from);
+    Ok(back)
 }

@@ -17,7 +17,8 @@
 
 mod device; // the two traits
 mod gather; // files that grow by small pieces
-mod held; // the arena of a gather
+mod held; // what waits in a gather
+mod line; // what a file grows by
 mod memory; // both devices in memory
 mod named; // files by name, for the shelf in memory
 mod read;
@@ -25,6 +26,7 @@ mod write;
 
 pub use device::{DeviceBad, Shelf, Sink};
 pub use gather::Gather;
+pub use line::Line;
 pub use memory::{MemShelf, MemSink};
 pub use read::{Content, read_all};
 pub use write::{append_all, begin_all, write_all};

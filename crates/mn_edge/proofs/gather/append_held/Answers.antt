@@ -1,5 +1,6 @@
-use Rattle.std.proofs.Common.{◌≡◌, ◌<◌, [], length, Result, OnErr, Ok, Err, ap, sym, ◌∙◌, arith}
-use Rattle.std.proofs.lemmas.List.{get_or_read, take_rest, drop_all, length-drop, length-map}
+use Rattle.std.proofs.Common.{◌≡◌, ◌<◌, [], length, Result, OnErr, Ok, Err, ap, sym, ◌∙◌}
+use Rattle.std.proofs.lemmas.Bool.{eqb-true, eqb-false}
+use Rattle.std.proofs.lemmas.List.{get_or_read, length-map, nil_from_length}
 use Rattle.mn_edge.specs.Kept.{name_of, held_for}
 use Rattle.mn_edge.specs.FaultLaws.{counted_out}
 use Rattle.mn_edge.specs.KeptLaws.{framed_both, lacking_at}
@@ -7,7 +8,7 @@ use Rattle.mn_edge.specs.Written.{texts}
 use Rattle.mn_edge.proofs.Laying.{name_at}
 use Rattle.mn_edge.proofs.Gathering.{appended, refused, passed_over, all_appended, framed_append, may_grow, none_for}
 use Rattle.mn_edge.proofs.gather.append_held.Goals as goal
-use Rattle.mn_edge.proofs.gather.append_held.Goals.{then-from-joined+in_ok-append, else-from-joined}
+use Rattle.mn_edge.proofs.gather.append_held.Goals.{then-not-is_empty+in_ok-append, else-not-is_empty}
 
 on_err : {T E : Type 0} (r : Result T E) (P : Type 0) → P → OnErr r P
 on_err (Ok x) P p = tt
@@ -22,7 +23,7 @@ returns-in_err-append-clause-part g c = on_err c.from_residual.result _ (λ cont
     (name_at c.args.names.now c.loop-file.file c.index-names-file.result c.as_str.result.now c.loop-file-test.true c.index-names-file.is
     c.as_str.ensures.value) [] in
     refused names contents c.args.held.now c.loop-file.file c.as_str.result.now _ _ _ c.requires.differ here named
-    (take_rest c.copy_to_end-from.new.buf c.copy_to_end-from.result ∙ c.copy_to_end-from.ensures.copied) (c.in_err-append.ensures.refused)
+    c.bytes-bytes.ensures (c.in_err-append.ensures.refused)
     (c.loop-file.invariant.kept contents holds))
 
 pub returns-in_err-append-clause-framed : goal.returns-in_err-append-clause-framed
@@ -54,8 +55,8 @@ loop-file-preserved g c =
     let held = c.args.held.now in
     let i = c.loop-file.invariant in
     let here : c.loop-file.file < length names = rw length-map c.loop-file-test.true in
-    elim c.if-from-joined.branch [
-      | then-from-joined+in_ok-append w ↦
+    elim c.if-not-is_empty.branch [
+      | then-not-is_empty+in_ok-append w ↦
           let named : w.as_str.result.now ≡ name_of names c.loop-file.file =
           get_or_read names c.loop-file.file w.as_str.result.now here
           (name_at c.args.names.now c.loop-file.file c.index-names-file.result w.as_str.result.now c.loop-file-test.true c.index-names-file.is
@@ -63,7 +64,7 @@ loop-file-preserved g c =
           record {
             kept = λ contents holds. rw w.shelf-is
                 (appended names contents held c.loop-file.file w.as_str.result.now _ _ _ c.requires.differ here named
-                (take_rest c.copy_to_end-from.new.buf c.copy_to_end-from.result ∙ c.copy_to_end-from.ensures.copied) w.in_ok-append.ensures.grown
+                c.bytes-bytes.ensures w.in_ok-append.ensures.grown
                 (i.kept contents holds));
             framed = rw w.shelf-is
                 (framed_both names _ _ _ i.framed
@@ -71,16 +72,16 @@ loop-file-preserved g c =
                 (λ m is. may_grow m w.as_str.result.now _ _ (w.in_ok-append.ensures.grown m is))));
             untouched = λ none.
                 let h : c.loop-file.file < length held = rw (← c.requires.names) c.loop-file-test.true in
-                let no = ap length (c.copy_to_end-from.ensures.copied ∙ none_for held c.loop-file.file h none) in
-                let l = length-drop c.copy_to_end-from.result c.copy_to_end-from.new.buf in
-                let t = w.if-from-joined.true in
-                absurd (omega (arith, no, l, t));
+                let no = ap length (c.bytes-bytes.ensures ∙ none_for held c.loop-file.file h none) in
+                absurd (eqb-false (length c.bytes-bytes.result.now) 0 (sym c.is_empty.ensures ∙ w.if-not-is_empty.true) no);
             reads = rw w.shelf-is (w.in_ok-append.ensures.reads ∙ i.reads);
             writes = rw w.shelf-is (w.in_ok-append.ensures.writes ∙ i.writes);
           }
-      | else-from-joined w ↦
+      | else-not-is_empty w ↦
           let none : held_for held c.loop-file.file ≡ [] =
-          sym c.copy_to_end-from.ensures.copied ∙ drop_all c.copy_to_end-from.result c.copy_to_end-from.new.buf w.if-from-joined.false in
+          sym c.bytes-bytes.ensures
+          ∙ nil_from_length c.bytes-bytes.result.now
+          (eqb-true (length c.bytes-bytes.result.now) 0 (sym c.is_empty.ensures ∙ w.if-not-is_empty.false)) in
           record {
             kept = λ contents holds. rw w.shelf-is (passed_over names contents held _ c.loop-file.file none (i.kept contents holds));
             framed = rw w.shelf-is i.framed;
