@@ -1,3 +1,4 @@
 pub mod Putting
 mod Waiting
 pub mod Pieces
+mod Digits

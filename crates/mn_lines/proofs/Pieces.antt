@@ -1,8 +1,7 @@
 -- Pieces of text, appended one after another.
-use Rattle.std.proofs.Common.{◌≡◌, ◌+◌, ◌<◌, ◌≤◌, ℕ, cond, List, [], ◌∷◌, ◌++◌, length, drop, get_or, Bor, Result, Ok, Err, OnOk, is_ok, refl, ap, sym, ◌∙◌, append_assoc, append-nil, arith, take, replicate, ◌-◌, length-append}
+use Rattle.std.proofs.Common.{◌≡◌, ◌+◌, ◌<◌, ◌≤◌, ℕ, List, [], ◌∷◌, ◌++◌, length, drop, get_or, Bor, refl, ap, sym, ◌∙◌, append_assoc, append-nil, arith, take, replicate, ◌-◌, length-append}
 use Rattle.std.proofs.lemmas.List.{at_drop_more, at_drop_all, take_all, take_at, drop_all, length-drop, length-replicate}
 use borrow.Rule.Slice.PartMut.{put_mid}
-use Rattle.mn_edge.specs.Written.{IsPrefix}
 use Rattle.mn_lines.specs.Lines.{text, pieces_of}
 
 pub text-cons : (piece : List ℕ) (pieces : List (List ℕ)) → text (piece ∷ pieces) ≡ piece ++ text pieces
@@ -70,29 +69,3 @@ pub four_put : (old l1 l2 l3 new a space b word c feed : List ℕ) → l1 ≡ ol
 four_put old l1 l2 l3 new a space b word c feed h1 h2 h3 h4 =
     text_then old l1 new (a ++ space) ((b ++ word) ++ (c ++ feed)) h1 (text_then l1 l2 new (b ++ word) (c ++ feed) h2 (text_then l2 l3 new c feed h3 h4))
     ∙ ap (λ l. old ++ l) (append_assoc a space ((b ++ word) ++ (c ++ feed)) ∙ ap (λ l. a ++ (space ++ l)) (append_assoc b word (c ++ feed)))
-
--- what stood before stands at the beginning
-pub begins_with_itself : (old : List ℕ) → IsPrefix old old
-begins_with_itself old = ([], append-nil old)
-
-pub begins_more : (old mid new piece : List ℕ) → IsPrefix old mid → new ≡ mid ++ piece → IsPrefix old new
-begins_more old mid new piece p is = (p.0 ++ piece, sym (append_assoc old p.0 piece) ∙ ap (λ l. l ++ piece) p.1 ∙ sym is)
-
-pub begins_still : (old mid new : List ℕ) → IsPrefix old mid → new ≡ mid → IsPrefix old new
-begins_still old mid new p is = (p.0, p.1 ∙ sym is)
-
-pub begins_then : (old mid new : List ℕ) → IsPrefix old mid → IsPrefix mid new → IsPrefix old new
-begins_then old mid new p q = (p.0 ++ q.0, sym (append_assoc old p.0 q.0) ∙ ap (λ l. l ++ q.0) p.1 ∙ q.1)
-
--- a space and a word, or a first part of them
-pub word_put : {E : Type 0} (put : Result (Unit {0}) E) (old mid new word : List ℕ) → mid ≡ old ++ 32 ∷ [] →
-    new ≡ cond (is_ok put) (mid ++ word) mid → OnOk put (new ≡ old ++ (32 ∷ word))
-word_put (Ok done) old mid new word first then = then ∙ ap (λ l. l ++ word) first ∙ append_assoc old (32 ∷ []) word
-word_put (Err e) old mid new word first then = tt
-
-pub word_begins : {E : Type 0} (put : Result (Unit {0}) E) (old mid new word : List ℕ) → mid ≡ old ++ 32 ∷ [] →
-    new ≡ cond (is_ok put) (mid ++ word) mid → IsPrefix old new
-word_begins (Ok done) old mid new word first then =
-    begins_more old mid new word (begins_more old old mid (32 ∷ []) (begins_with_itself old) first) then
-word_begins (Err e) old mid new word first then =
-    begins_still old mid new (begins_more old old mid (32 ∷ []) (begins_with_itself old) first) then

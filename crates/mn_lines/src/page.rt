@@ -1,9 +1,16 @@
 // Text that goes to a sink by few puts.
-ghost use Rattle.std.specs.Prelude.{◌≡◌, ◌+◌, ◌<◌, ◌≤◌, ◌++◌, [], Some, length, IfErr, IfOk, OnOk, OnErr};
+ghost use Rattle.std.specs.Prelude.{◌≡◌, ◌+◌, ◌*◌, ◌<◌, ◌≤◌, ◌++◌, [], Some, length, nat_le, false, IsTrue, IfErr, IfOk, OnOk, OnErr};
 ghost use Rattle.mn_edge.specs.Faults.{Counted};
+ghost use Rattle.mn_lines.specs.Names.{names_of};
+ghost use Rattle.mn_lines.specs.Lines.{packet_line};
 ghost use Rattle.mn_lines.specs.Putting.{Puts, PutsPart};
 
+use crate::lines::Sent;
+use crate::packet::lay_packet;
+use mn_base::NodeNo;
 use mn_edge::{DeviceBad, Sink};
+use mn_ledger::Verdict;
+use mn_topo::Topology;
 use std::alloc::{AllocError, Global};
 use std::marker::Model;
 
@@ -68,6 +75,36 @@ impl Page {
         }
         self.hold(piece);
         Ok(())
+    }
+
+    /// Composes the line of the packet of this number, from 1, where it will wait, and answers whether there is surely
+    /// room: 64 bytes for each node of its path and four times 64 for the rest. Where there isn't, nothing changes.
+    pub fn hold_packet(
+        &mut self,
+        topology: &Topology,
+        number: u32,
+        sent: Sent,
+        verdict: Verdict,
+        path: &[NodeNo],
+    ) -> bool
+        ensures room { result ≡ nat_le (length self.old + 64 * (length path.now + 4)) 65536 }
+        ensures held { IsTrue result → self.new ≡ self.old ++ packet_line (names_of topology.now) number sent verdict path.now }
+        ensures kept { result ≡ false → self.new ≡ self.old }
+    {
+        let rows = (ROOM - self.held) / 64;
+        if rows < 4 || path.len() > rows - 4 {
+            return false;
+        }
+        self.held = lay_packet(
+            &mut self.bytes,
+            self.held,
+            topology,
+            number,
+            sent,
+            verdict,
+            path,
+        );
+        true
     }
 
     /// Puts all that waits, by one put, and nothing if nothing waits. Nothing waits any more, also after a refusal.

@@ -1,28 +1,18 @@
 // The lines, appended to bytes.
-ghost use Rattle.std.specs.Prelude.{◌≡◌, ◌+◌, ◌≤◌, ◌++◌, ◌∷◌, [], IfSome, OnOk, OnErr, codes, length, take};
+ghost use Rattle.std.specs.Prelude.{◌≡◌, ◌+◌, ◌*◌, ◌++◌, IfSome, OnOk, OnErr, length, take};
 ghost use Rattle.mn_edge.specs.Written.{IsPrefix};
 ghost use Rattle.mn_lines.specs.Names.{names_of};
-ghost use Rattle.mn_lines.specs.Lines.{cause_text, packet_line, path_text, pieces_of, refused_line, sent_text, text, total_line, verdict_text, verdicts_text};
+ghost use Rattle.mn_lines.specs.Lines.{cause_text, packet_line, pieces_of, refused_line, text, total_line, verdicts_text};
 
-use crate::lines::{Sent, Totals, cause_name, rule_name};
-use crate::names::{direction, node_name, site_name};
+use crate::laying::lay;
+use crate::lines::{Sent, Totals, cause_name};
+use crate::names::site_name;
+use crate::packet::lay_packet;
 use itoa::Buffer;
 use mn_base::{NodeNo, SiteNo};
 use mn_ledger::{Refused, Verdict};
 use mn_topo::Topology;
 use std::alloc::AllocError;
-
-/// Copies a piece over bytes from a place on, and answers where it ends.
-#[inline(always)]
-fn lay(bytes: &mut [u8], at: usize, piece: &[u8]) -> usize
-    requires { at + length piece.now ≤ length bytes.old }
-    ensures end { result ≡ at + length piece.now }
-    ensures laid { take result bytes.new ≡ take at bytes.old ++ piece.now }
-{
-    let end = at + piece.len();
-    bytes[at..end].copy_from_slice(piece);
-    end
-}
 
 /// Copies pieces, one behind another, over as many bytes as they have.
 #[inline(always)]
@@ -63,15 +53,6 @@ pub fn put_pieces(line: &mut Vec<u8>, pieces: &[&[u8]]) -> Result<(), AllocError
     Ok(())
 }
 
-/// Appends a space and a word, by an `Err` a first part of them.
-fn put_word(line: &mut Vec<u8>, word: &[u8]) -> Result<(), AllocError>
-    ensures ok { OnOk result (line.new.items ≡ line.old.items ++ (32 ∷ word.now)) }
-    ensures begins { IsPrefix line.old.items line.new.items }
-{
-    line.push(b' ')?;
-    line.extend_from_slice(word)
-}
-
 /// Takes back what a failed call appended to a line that had so many bytes.
 fn or_nothing(
     line: &mut Vec<u8>,
@@ -88,131 +69,12 @@ fn or_nothing(
     put
 }
 
-/// Which packet it is: its number, from 1, and what sent it. A space is put behind it, as a piece of the same call.
-#[tactic(auto, unfolding(crate::specs::Lines::sent_text))]
-fn put_sent(
-    line: &mut Vec<u8>,
-    topology: &Topology,
-    number: u32,
-    sent: Sent,
-) -> Result<(), AllocError>
-    ensures ok { OnOk result (line.new.items ≡ line.old.items ++ text (sent_text (names_of topology.now) number sent ∷ codes " " ∷ [])) }
-    ensures begins { IsPrefix line.old.items line.new.items }
+/// Where bytes end that begin at a place and have room for the line of a packet with a path of so many nodes; none
+/// where no number tells it.
+fn end_of_packet(from: usize, nodes: usize) -> Option<usize>
+    ensures { IfSome result (λ end. end ≡ from + 64 * (nodes + 4)) }
 {
-    let (mut packet, mut script, mut record) = (Buffer::new(), Buffer::new(), Buffer::new());
-    put_pieces(
-        line,
-        &[
-            b"packet ",
-            packet.format(number).as_bytes(),
-            b" line ",
-            script.format(sent.line).as_bytes(),
-            b" site ",
-            site_name(topology, sent.site),
-            b" record ",
-            record.format(sent.record).as_bytes(),
-            b" ",
-        ],
-    )
-}
-
-/// A packet that reached a site, and the word before its path.
-#[tactic(auto, unfolding(crate::specs::Lines::verdict_text))]
-fn put_delivered(
-    line: &mut Vec<u8>,
-    topology: &Topology,
-    site: SiteNo,
-    ttl: u8,
-    copy: u32,
-) -> Result<(), AllocError>
-    ensures ok { OnOk result (line.new.items ≡
-        line.old.items ++ text (verdict_text (names_of topology.now) (Verdict.Delivered ttl site copy) ∷ codes " path" ∷ [])) }
-    ensures begins { IsPrefix line.old.items line.new.items }
-{
-    let (mut left, mut nth) = (Buffer::new(), Buffer::new());
-    put_pieces(
-        line,
-        &[
-            b"delivered ",
-            site_name(topology, site),
-            b" ttl ",
-            left.format(ttl).as_bytes(),
-            b" copy ",
-            nth.format(copy).as_bytes(),
-            b" path",
-        ],
-    )
-}
-
-/// A packet that fell to a rule at a node, and the word before its path.
-fn put_dropped(line: &mut Vec<u8>, rule: &str, node: &[u8]) -> Result<(), AllocError>
-    ensures ok { OnOk result (line.new.items ≡
-        line.old.items ++ text (text (codes "dropped " ∷ rule.now ∷ codes " at " ∷ node.now ∷ []) ∷ codes " path" ∷ [])) }
-    ensures begins { IsPrefix line.old.items line.new.items }
-{
-    put_pieces(
-        line,
-        &[b"dropped ", rule.as_bytes(), b" at ", node, b" path"],
-    )
-}
-
-/// A packet that is on a link between two nodes, and the word before its path.
-fn put_flying(line: &mut Vec<u8>, sender: &[u8], hearer: &[u8]) -> Result<(), AllocError>
-    ensures ok { OnOk result (line.new.items ≡
-        line.old.items ++ text (text (codes "flying " ∷ sender.now ∷ codes " " ∷ hearer.now ∷ []) ∷ codes " path" ∷ [])) }
-    ensures begins { IsPrefix line.old.items line.new.items }
-{
-    put_pieces(line, &[b"flying ", sender, b" ", hearer, b" path"])
-}
-
-/// What became of a packet, and the word before its path.
-#[tactic(auto, unfolding(crate::specs::Lines::verdict_text))]
-fn put_verdict(line: &mut Vec<u8>, topology: &Topology, verdict: Verdict) -> Result<(), AllocError>
-    ensures ok { OnOk result (line.new.items ≡ line.old.items ++ text (verdict_text (names_of topology.now) verdict ∷ codes " path" ∷ [])) }
-    ensures begins { IsPrefix line.old.items line.new.items }
-{
-    match verdict {
-        Verdict::Delivered { site, ttl, copy } => put_delivered(line, topology, site, ttl, copy),
-        Verdict::Dropped { rule, node } => {
-            put_dropped(line, rule_name(rule), node_name(topology, node))
-        }
-        Verdict::Flying { link, dir } => {
-            let (sender, hearer) = direction(topology, link.0, dir);
-            put_flying(line, sender, hearer)
-        }
-    }
-}
-
-/// The names of some nodes, each after a space.
-#[tactic(auto, unfolding(crate::specs::Lines::path_text))]
-fn put_path(line: &mut Vec<u8>, topology: &Topology, path: &[NodeNo]) -> Result<(), AllocError>
-    ensures ok { OnOk result (line.new.items ≡ line.old.items ++ path_text (names_of topology.now) path.now) }
-    ensures begins { IsPrefix line.old.items line.new.items }
-{
-    for node in path {
-        put_word(line, node_name(topology, *node))?;
-    }
-    Ok(())
-}
-
-#[tactic(auto, unfolding(crate::specs::Lines::packet_line))]
-fn put_packet(
-    line: &mut Vec<u8>,
-    topology: &Topology,
-    number: u32,
-    sent: Sent,
-    verdict: Verdict,
-    path: &[NodeNo],
-) -> Result<(), AllocError>
-    ensures ok { OnOk result (line.new.items ≡
-        line.old.items ++ packet_line (names_of topology.now) number sent verdict path.now) }
-    ensures begins { IsPrefix line.old.items line.new.items }
-{
-    put_sent(line, topology, number, sent)?;
-    put_verdict(line, topology, verdict)?;
-    put_path(line, topology, path)?;
-    line.push(b'\n')?;
-    Ok(())
+    nodes.checked_add(4)?.checked_mul(64)?.checked_add(from)
 }
 
 /// Appends the line of the packet of this number, from 1: what became of it, and at which nodes it was. An `Err`
@@ -230,8 +92,14 @@ pub fn write_packet(
     ensures err { OnErr result (line.new.items ≡ line.old.items) }
 {
     let before = line.len();
-    let put = put_packet(line, topology, number, sent, verdict, path);
-    or_nothing(line, before, put)
+    let Some(room) = end_of_packet(before, path.len()) else {
+        return Err(AllocError);
+    };
+    line.resize(room, 0)?;
+    let bytes = &mut line[..];
+    let end = lay_packet(bytes, before, topology, number, sent, verdict, path);
+    line.truncate(end);
+    Ok(())
 }
 
 /// Appends the line of a script's line that was refused for this cause. An `Err` appends nothing.
