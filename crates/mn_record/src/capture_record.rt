@@ -1,10 +1,10 @@
 //! A record of a capture, and its header.
-ghost use Rattle.std.specs.Prelude.{◌≡◌, ◌<◌, ◌^◌, ◌++◌, OnOk};
+ghost use Rattle.std.specs.Prelude.{◌≡◌, ◌++◌};
 ghost use Rattle.byteorder.specs.Endian.{little_bytes};
 ghost use Rattle.mn_pcap.specs.Format.{record_header, record_of};
 
 use byteorder::{ByteOrder, LittleEndian};
-use mn_lines::put_pieces;
+use mn_edge::Line;
 use std::alloc::AllocError;
 
 const RECORD_HEADER: usize = 16;
@@ -31,15 +31,22 @@ pub fn record_header(tick: u64, length: usize) -> [u8; RECORD_HEADER]
     fields
 }
 
-/// Appends the record of a packet of two parts that was seen at this tick.
-pub(crate) fn put_record(
-    out: &mut Vec<u8>,
-    tick: u64,
-    front: &[u8],
-    packet: &[u8],
-) -> Result<(), AllocError>
-    ensures written { OnOk result (out.new.items ≡ out.old.items ++ record_of tick (front.now ++ packet.now)) }
-{
-    let header = record_header(tick, front.len() + packet.len());
-    put_pieces(out, &[&header[..], front, packet])
+/// The record of a packet of two parts that was seen at a tick, in milliseconds from the start.
+#[derive(Drop)]
+pub(crate) struct CaptureRecord<'p> {
+    pub(crate) tick: u64,
+    pub(crate) front: &'p [u8],
+    pub(crate) packet: &'p [u8],
+}
+
+impl Line for CaptureRecord<'_> {
+    ghost text = { λ it. record_of it.tick (it.front.now ++ it.packet.now) };
+
+    #[inline(always)]
+    fn put(&self, out: &mut Vec<u8>) -> Result<(), AllocError> {
+        let length = self.front.len() + self.packet.len();
+        out.extend_from_slice(&record_header(self.tick, length))?;
+        out.extend_from_slice(self.front)?;
+        out.extend_from_slice(self.packet)
+    }
 }

@@ -11,6 +11,7 @@
 //! Nothing is kept of a step once it is written but bytes that wait for their files: 64 KiB at most, or 1 MiB over more than 64 files.
 //!
 //! - `output`: the files, and what waits for them
+//! - `lines`: what the files grow by, written where it waits
 //! - `capture_record`: the header of a record of a capture
 //! - `step`: what a step adds to the files
 //! - `recorder`: a watch that writes them, and hands out the packets of a capture; a line of a script
@@ -21,6 +22,7 @@
 mod books;
 mod capture_record;
 mod labels;
+mod lines;
 mod output;
 mod recorder;
 mod step;

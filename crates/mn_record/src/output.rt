@@ -13,14 +13,12 @@ ghost use Rattle.mn_files.specs.Numbers.{edge_places};
 ghost use Rattle.mn_record.specs.Adding.{Adds, MayAdd, only_in};
 ghost use Rattle.mn_record.specs.Parts.{file_for, IsFileOf};
 
-use crate::capture_record::{put_record, record_header};
-use crate::labels::put_label;
+use crate::capture_record::{CaptureRecord, record_header};
+use crate::lines::{CaptureHeader, JournalLine, LabelLine};
 use mn_base::NodeNo;
-use mn_edge::{DeviceBad, Gather, Shelf};
+use mn_edge::{DeviceBad, Gather, Line, Shelf};
 use mn_files::{EdgePlaces, find_frames, find_said, find_told, journal_file, labels_file};
-use mn_journal::put_entry;
 use mn_labels::Given;
-use mn_pcap::put_header;
 use mn_sched::Channel;
 use mn_topo::{JournalEntry, Topology};
 use std::alloc::{AllocError, Global};
@@ -35,8 +33,6 @@ pub(crate) struct Output {
     names: Vec<String>,
     gather: Gather,
     places: EdgePlaces,
-    /// A line on its way into its file.
-    line: Vec<u8>,
 }
 
 impl Model for Output {
@@ -50,32 +46,6 @@ impl Model for Output {
     ghost view = { λ o. record { names = texts o.names.items; held = o.gather; places = o.places } };
 
     ghost invariant = { λ o. (length o.names.items ≡ length o.gather) × IsTrue (all_differ (texts o.names.items)) };
-}
-
-/// A file grows by a piece, if it is one of these.
-fn put_piece<S: Shelf>(
-    gather: &mut Gather,
-    shelf: &mut S,
-    names: &[String],
-    file: u32,
-    piece: &[u8],
-) -> Result<(), DeviceBad>
-    requires names { length names.now ≡ length gather.old }
-    requires differ { IsTrue (all_differ (texts names.now)) }
-    ensures adds { OnOk result (Adds (only_in file piece.now) (record { names = texts names.now; held = gather.old; places = [] })
-        (record { names = texts names.now; held = gather.new; places = [] }) (S.files shelf.old) (S.files shelf.new)) }
-    ensures may { OnErr result (MayAdd (only_in file piece.now) (record { names = texts names.now; held = gather.old; places = [] })
-        (record { names = texts names.now; held = gather.new; places = [] }) (S.files shelf.old) (S.files shelf.new)) }
-    ensures files { length gather.new ≡ length gather.old }
-    ensures framed { Framed (texts names.now) (S.files shelf.old) (S.files shelf.new) }
-    ensures writes { CountedUnless (Lacking (texts names.now) (S.files shelf.old))
-        (S.write_faults shelf.old) (S.write_faults shelf.new) result }
-    ensures reads { S.read_faults shelf.new ≡ S.read_faults shelf.old }
-{
-    if file as usize >= names.len() {
-        return Ok(());
-    }
-    gather.put(shelf, names, file, piece)
 }
 
 impl Output {
@@ -93,7 +63,6 @@ impl Output {
             gather: Gather::new(alloc, names.len() as u32)?,
             names,
             places,
-            line: Vec::new(alloc),
         })
     }
 
@@ -132,10 +101,37 @@ impl Output {
             (S.write_faults shelf.old) (S.write_faults shelf.new) result }
         ensures reads { S.read_faults shelf.new ≡ S.read_faults shelf.old }
     {
-        put_piece(&mut self.gather, shelf, &self.names, file, piece)
+        if file as usize >= self.names.len() {
+            return Ok(());
+        }
+        self.gather.put(shelf, &self.names, file, piece)
+    }
+
+    /// The same by a line.
+    #[inline(always)]
+    fn put_line<S: Shelf, L: Line>(
+        &mut self,
+        shelf: &mut S,
+        file: u32,
+        line: &L,
+    ) -> Result<(), DeviceBad>
+        ensures adds { OnOk result (Adds (only_in file (L.text line.now)) self.old self.new (S.files shelf.old) (S.files shelf.new)) }
+        ensures may { OnErr result (MayAdd (only_in file (L.text line.now)) self.old self.new (S.files shelf.old) (S.files shelf.new)) }
+        ensures names { self.new.names ≡ self.old.names }
+        ensures places { self.new.places ≡ self.old.places }
+        ensures framed { Framed self.old.names (S.files shelf.old) (S.files shelf.new) }
+        ensures writes { CountedUnless (Lacking self.old.names (S.files shelf.old))
+            (S.write_faults shelf.old) (S.write_faults shelf.new) result }
+        ensures reads { S.read_faults shelf.new ≡ S.read_faults shelf.old }
+    {
+        if file as usize >= self.names.len() {
+            return Ok(());
+        }
+        self.gather.put_line(shelf, &self.names, file, line)
     }
 
     /// The journal grows by the line of an entry.
+    #[inline(always)]
     pub(crate) fn put_entry<S: Shelf>(
         &mut self,
         shelf: &mut S,
@@ -152,15 +148,7 @@ impl Output {
             (S.write_faults shelf.old) (S.write_faults shelf.new) result }
         ensures reads { S.read_faults shelf.new ≡ S.read_faults shelf.old }
     {
-        self.line.clear();
-        put_entry(&mut self.line, topology, entry)?;
-        put_piece(
-            &mut self.gather,
-            shelf,
-            &self.names,
-            journal_file(),
-            &self.line,
-        )
+        self.put_line(shelf, journal_file(), &JournalLine { topology, entry })
     }
 
     /// A capture begins with its header.
@@ -179,9 +167,7 @@ impl Output {
             (S.write_faults shelf.old) (S.write_faults shelf.new) result }
         ensures reads { S.read_faults shelf.new ≡ S.read_faults shelf.old }
     {
-        self.line.clear();
-        put_header(&mut self.line, link)?;
-        put_piece(&mut self.gather, shelf, &self.names, file, &self.line)
+        self.put_line(shelf, file, &CaptureHeader { link })
     }
 
     /// The labels grow by the line of one that was given.
@@ -201,18 +187,19 @@ impl Output {
             (S.write_faults shelf.old) (S.write_faults shelf.new) result }
         ensures reads { S.read_faults shelf.new ≡ S.read_faults shelf.old }
     {
-        self.line.clear();
-        put_label(&mut self.line, topology, node, giving)?;
-        put_piece(
-            &mut self.gather,
+        self.put_line(
             shelf,
-            &self.names,
             labels_file(),
-            &self.line,
+            &LabelLine {
+                topology,
+                node,
+                giving,
+            },
         )
     }
 
     /// A capture grows by the record of a packet of two parts.
+    #[inline(always)]
     pub(crate) fn put_record<S: Shelf>(
         &mut self,
         shelf: &mut S,
@@ -238,6 +225,7 @@ impl Output {
     }
 
     /// The same, as one piece.
+    #[inline(always)]
     fn put_joined<S: Shelf>(
         &mut self,
         shelf: &mut S,
@@ -255,9 +243,15 @@ impl Output {
             (S.write_faults shelf.old) (S.write_faults shelf.new) result }
         ensures reads { S.read_faults shelf.new ≡ S.read_faults shelf.old }
     {
-        self.line.clear();
-        put_record(&mut self.line, tick, front, packet)?;
-        put_piece(&mut self.gather, shelf, &self.names, file, &self.line)
+        self.put_line(
+            shelf,
+            file,
+            &CaptureRecord {
+                tick,
+                front,
+                packet,
+            },
+        )
     }
 
     /// The same, in three pieces, none of which is copied on its way.

@@ -1,36 +1,18 @@
-use Rattle.std.proofs.Common.{◌≡◌, ◌++◌, ◌∙◌, ap}
-use Rattle.mn_edge.specs.Written.{texts}
+use Rattle.std.proofs.Common.{◌≡◌, OnOk, OnErr, subst}
 use Rattle.mn_output_laws.specs.Files.{Labels}
-use Rattle.mn_files.proofs.Places.{one_number, labels_are}
 use Rattle.mn_output_laws.specs.Contents.{label_line}
-use Rattle.mn_record.proofs.Adding.{on_err, ok_then, err_then, seen_adds, seen_may, none_may}
+use Rattle.mn_files.proofs.Places.{one_number, labels_are}
+use Rattle.mn_record.specs.Adding.{Adds, MayAdd, only_in}
 use Rattle.mn_record.proofs.output.Output.put_label.Goals as goal
-
-pub returns-in_err-put_label-clause-may : goal.returns-in_err-put_label-clause-may
-returns-in_err-put_label-clause-may g c = on_err c.from_residual.result _ (none_may _ c.args.self.now
-    (record { names = texts c.self.inside.names.items; held = c.self.inside.gather; places = c.self.inside.places }) (g.S.Shelf.files c.args.shelf.now)
-    (ap (λ b. b.names) c.self.view_is))
 
 pub returns-clause-adds : goal.returns-clause-adds
 returns-clause-adds g c =
-    let piece : c.deref-2.result.now ≡ label_line c.args.topology.now c.args.node.0 c.args.giving =
-    c.deref-2.ensures.value ∙ c.in_ok-put_label.ensures
-    ∙ ap (λ l. l ++ label_line c.args.topology.now c.args.node.0 c.args.giving) c.clear.ensures.items in
-    ok_then c.put_piece.result _ _ c.put_piece.ensures.adds
-    (seen_adds 1 c.labels_file.result c.deref-2.result.now (label_line c.args.topology.now c.args.node.0 c.args.giving)
-    (texts c.deref.result.now) (texts c.self.inside.names.items) c.self.inside.gather c.put_piece.new.gather c.self.inside.places c.args.self.now
-    (g.S.Shelf.files c.args.shelf.now) (g.S.Shelf.files c.put_piece.new.shelf)
-    (one_number c.args.topology.now _ 1 Labels (c.labels_file.ensures c.args.topology.now) (labels_are c.args.topology.now)) piece
-    (ap texts c.deref.ensures.value) c.self.view_is)
+    let number : c.labels_file.result ≡ 1 = one_number c.args.topology.now _ 1 Labels (c.labels_file.ensures c.args.topology.now) (labels_are c.args.topology.now) in
+    subst (λ k. OnOk c.put_line.result (Adds (only_in k (label_line c.args.topology.now c.args.node.0 c.args.giving)) c.args.self.now c.put_line.new.self (g.S.Shelf.files c.args.shelf.now)
+    (g.S.Shelf.files c.put_line.new.shelf))) number c.put_line.ensures.adds
 
 pub returns-clause-may : goal.returns-clause-may
 returns-clause-may g c =
-    let piece : c.deref-2.result.now ≡ label_line c.args.topology.now c.args.node.0 c.args.giving =
-    c.deref-2.ensures.value ∙ c.in_ok-put_label.ensures
-    ∙ ap (λ l. l ++ label_line c.args.topology.now c.args.node.0 c.args.giving) c.clear.ensures.items in
-    err_then c.put_piece.result _ _ c.put_piece.ensures.may
-    (seen_may 1 c.labels_file.result c.deref-2.result.now (label_line c.args.topology.now c.args.node.0 c.args.giving) (texts c.deref.result.now)
-    (texts c.self.inside.names.items) c.self.inside.gather c.put_piece.new.gather c.self.inside.places c.args.self.now
-    (g.S.Shelf.files c.args.shelf.now) (g.S.Shelf.files c.put_piece.new.shelf)
-    (one_number c.args.topology.now _ 1 Labels (c.labels_file.ensures c.args.topology.now) (labels_are c.args.topology.now)) piece
-    (ap texts c.deref.ensures.value) c.self.view_is)
+    let number : c.labels_file.result ≡ 1 = one_number c.args.topology.now _ 1 Labels (c.labels_file.ensures c.args.topology.now) (labels_are c.args.topology.now) in
+    subst (λ k. OnErr c.put_line.result (MayAdd (only_in k (label_line c.args.topology.now c.args.node.0 c.args.giving)) c.args.self.now c.put_line.new.self (g.S.Shelf.files c.args.shelf.now)
+    (g.S.Shelf.files c.put_line.new.shelf))) number c.put_line.ensures.may
