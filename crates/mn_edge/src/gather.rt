@@ -100,7 +100,7 @@ impl Gather {
             BeginsOn (texts names.now) (grown contents file (L.text line.now)) (S.files shelf.new)) }
         ensures framed { Framed (texts names.now) (S.files shelf.old) (S.files shelf.new) }
 
-        // Where there is room for the piece, the shelf isn't called, and the piece is held.
+        // Where there is room for the line, the shelf isn't called, and the line is held.
         ensures untouched { held_bytes self.old + length (L.text line.now) ≤ most_held (length self.old) → shelf.new ≡ shelf.old }
         ensures held { OnOk result (held_bytes self.old + length (L.text line.now) ≤ most_held (length self.old) →
             self.new ≡ with_piece self.old file (L.text line.now)) }
