@@ -1,7 +1,7 @@
 -- The lines of packets, one after another, and what verdicts come to.
 use Rattle.std.proofs.Common.{◌≡◌, ◌+◌, ◌<◌, ◌≤◌, ◌⊎◌, inl, inr, ℕ, Bool, true, false, List, [], ◌∷◌, ◌++◌, length, get_or, take, drop}
 use Rattle.std.proofs.Common.{Ok, Err, refl, ap, sym, ◌∙◌, subst, append_assoc, add-one, arith}
-use Rattle.std.specs.Prelude.{map, filter, min, nat_le, slice_index_or, if◌then◌else◌}
+use Rattle.std.specs.Prelude.{Option, map, filter, min, nat_le, slice_index_or, if◌then◌else◌}
 use Rattle.std.proofs.Math.Seq.{drop-cons}
 use Rattle.std.proofs.lemmas.List.{append-nil, drop_all, take_more, get_or-map, length-map}
 use Rattle.mn_base.proofs.Bools.{two_ways, at_most_tells, not_at_most_tells}
@@ -16,6 +16,7 @@ use Rattle.mn_course_laws.specs.Expansion.{SentLine}
 use Rattle.mn_lines.specs.declared.lines.Sent.{Sent}
 use Rattle.mn_lines.specs.Names.{names_of}
 use Rattle.mn_lines.specs.Lines.{packet_line}
+use Rattle.mn_lines.specs.Putting.{Puts}
 use Rattle.mn_output_laws.specs.Report.{packet_lines, count, is_delivered, is_dropped, is_flying}
 use Rattle.mn_tables.specs.Telling.{Stand, Tells, Told}
 use Rattle.mn_tables.proofs.Telling.{Answer, IsErrOnly, told_nothing, told_more, told_by, tells_as, tells_within}
@@ -37,6 +38,15 @@ packet_is topology other packets packet sent verdict path same is_verdict is_pat
     ∙ ap (λ v. packet_line (names_of topology) (packet + 1) sent v path) is_verdict
     ∙ ap (packet_line (names_of topology) (packet + 1) sent (verdict_on packets packet))
     (sym (nodes_again path) ∙ ap (map (λ node. record { 0 = node })) is_path)
+
+-- its line was composed behind what waits
+pub waits_too : (text line waits now : List ℕ) (written : Option (List ℕ)) → line ≡ text → now ≡ waits ++ line → Puts text waits now written written
+waits_too text line waits now written is behind = λ before so_far on.
+    record {
+      part = on.part;
+      told = on.told;
+      whole = ap (λ l. on.part ++ l) behind ∙ sym (append_assoc on.part waits line) ∙ ap (λ l. l ++ line) on.whole ∙ ap (λ l. so_far ++ l) is;
+    }
 
 -- 2. All packets
 

@@ -16,8 +16,8 @@ use mn_edge::{DeviceBad, Sink};
 use mn_lines::{Page, Sent, write_packet};
 use mn_net::Net;
 
-/// Puts the line of the packet of a number, from 0, which this injection sent.
-fn put_packet<O: Sink>(
+/// Writes the line of the packet of a number, from 0, which this injection sent, and puts it.
+fn put_written<O: Sink>(
     out: &mut O,
     page: &mut Page,
     line: &mut Vec<u8>,
@@ -37,6 +37,30 @@ fn put_packet<O: Sink>(
     let path = net.path(packet);
     write_packet(line, net.topology(), packet + 1, sent, verdict, path)?;
     put_line(out, page, line.as_slice())
+}
+
+/// Puts the line of the packet of a number, from 0, which this injection sent. Where there is room it is composed on the page.
+fn put_packet<O: Sink>(
+    out: &mut O,
+    page: &mut Page,
+    line: &mut Vec<u8>,
+    net: &Net,
+    packet: u32,
+    sent: Sent,
+) -> Result<(), DeviceBad>
+    requires there { packet < length net.now.moving.verdicts }
+    requires few { length net.now.moving.verdicts ≤ most_steps }
+    ensures told { (inputs : List (List ℕ)) → StandsFor net.now inputs →
+        Tells (packet_row net.now.topology (packets_of net.now.topology net.now.journal inputs) packet sent)
+        (standing page.old (O.written out.old) (O.faults out.old)) (standing page.new (O.written out.new) (O.faults out.new)) result }
+    ensures cause { Counted (O.faults out.old) (O.faults out.new) result }
+{
+    let verdict = net.verdict(packet);
+    let path = net.path(packet);
+    if page.hold_packet(net.topology(), packet + 1, sent, verdict, path) {
+        return Ok(());
+    }
+    put_written(out, page, line, net, packet, sent)
 }
 
 /// The lesser of two numbers.

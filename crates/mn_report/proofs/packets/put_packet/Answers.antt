@@ -1,28 +1,20 @@
-use Rattle.std.proofs.Common.{[], ◌++◌, ◌+◌, ap, ◌∙◌}
-use Rattle.mn_edge.specs.declared.device.DeviceBad.TheVariants.{NoMemory}
+use Rattle.std.proofs.Common.{refl, subst}
 use Rattle.mn_ledger.specs.Ledger.{packets_of}
-use Rattle.mn_lines.specs.Names.{names_of}
-use Rattle.mn_lines.specs.Lines.{packet_line}
-use Rattle.mn_tables.specs.Telling.{standing}
-use Rattle.mn_tables.proofs.Telling.{tells_as, tells_err, tells_want}
-use Rattle.mn_report.proofs.PacketLines.{packet_is}
+use Rattle.mn_tables.specs.Telling.{standing, Tells}
+use Rattle.mn_report.specs.Packets.{packet_row}
+use Rattle.mn_report.proofs.PacketLines.{packet_is, waits_too}
 use Rattle.mn_report.proofs.packets.put_packet.Goals as goal
 
-pub returns-in_err-write_packet-clause-told : goal.returns-in_err-write_packet-clause-told
-returns-in_err-write_packet-clause-told g c = λ inputs h. tells_err _ _ _ NoMemory _ c.from_residual.ensures (tells_want _ _)
-
-pub returns-in_err-write_packet-clause-cause : goal.returns-in_err-write_packet-clause-cause
-returns-in_err-write_packet-clause-cause g c =
-    (tells_err [] _ _ NoMemory _ c.from_residual.ensures
-    (tells_want [] (standing c.args.page.now (g.O.Sink.written c.args.out.now) (g.O.Sink.faults c.args.out.now)))).cause
+pub returns-then-hold_packet-clause-told : goal.returns-then-hold_packet-clause-told
+returns-then-hold_packet-clause-told g c = λ inputs h.
+    let is = packet_is c.args.net.now.topology c.topology.result.now (packets_of c.args.net.now.topology c.args.net.now.journal inputs) c.args.packet
+    c.args.sent c.verdict-verdict.result c.path-path.result.now c.topology.ensures (c.verdict-verdict.ensures.told inputs h)
+    (c.path-path.ensures.told inputs h) in
+    record { put = waits_too _ _ _ _ _ is (c.hold_packet.ensures.held c.if-hold_packet.true); part = tt; cause = refl }
 
 pub returns-clause-told : goal.returns-clause-told
-returns-clause-told g c = λ inputs h. tells_as _ _ _ _ _ c.put_line.ensures
-    (c.as_slice.ensures.value ∙ c.in_ok-write_packet.ensures.ok
-    ∙ ap (λ xs. xs ++ packet_line (names_of c.topology.result.now) (c.args.packet + 1) c.args.sent c.verdict-verdict.result c.path-path.result.now)
-    c.clear.ensures.items
-    ∙ packet_is c.args.net.now.topology c.topology.result.now (packets_of c.args.net.now.topology c.args.net.now.journal inputs) c.args.packet c.args.sent
-    c.verdict-verdict.result c.path-path.result.now c.topology.ensures (c.verdict-verdict.ensures.told inputs h) (c.path-path.ensures.told inputs h))
-
-pub returns-clause-cause : goal.returns-clause-cause
-returns-clause-cause g c = c.put_line.ensures.cause
+returns-clause-told g c = λ inputs h.
+    subst (λ waits. Tells (packet_row c.args.net.now.topology (packets_of c.args.net.now.topology c.args.net.now.journal inputs) c.args.packet c.args.sent)
+    (standing waits (g.O.Sink.written c.args.out.now) (g.O.Sink.faults c.args.out.now))
+    (standing c.put_written.new.page (g.O.Sink.written c.put_written.new.out) (g.O.Sink.faults c.put_written.new.out)) c.put_written.result)
+    (c.hold_packet.ensures.kept c.if-hold_packet.false) (c.put_written.ensures.told inputs h)
