@@ -3,3 +3,4 @@ pub mod Plain
 pub mod Asked
 pub mod Words
 pub mod Journals
+mod Digits

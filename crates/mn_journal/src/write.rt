@@ -14,6 +14,7 @@ ghost use Rattle.mn_entry.specs.Entries.{entry_fits};
 ghost use Rattle.mn_topo.specs.Steps.{fits};
 ghost use Rattle.mn_journal.specs.Lines.{entry_words, joined, line_of, spaced, text_of, texts, Grew};
 
+use crate::laying::{lay, lay_name, lay_number};
 use crate::text::{prefix_text, target_text};
 use itoa::Buffer;
 use mn_base::{LinkNo, NodeNo, Rt, SiteNo, VrfNo};
@@ -22,18 +23,6 @@ use mn_prefix::Prefix;
 use mn_topo::{Damage, Damaged, JournalEntry, Step, Topology};
 use mn_wiring::Dir;
 use std::alloc::AllocError;
-
-/// Copies a piece over bytes from a place on, and answers where it ends.
-#[inline(always)]
-fn lay(bytes: &mut [u8], at: usize, piece: &[u8]) -> usize
-    requires { at + length piece.now ≤ length bytes.old }
-    ensures end { result ≡ at + length piece.now }
-    ensures laid { take result bytes.new ≡ take at bytes.old ++ piece.now }
-{
-    let end = at + piece.len();
-    bytes[at..end].copy_from_slice(piece);
-    end
-}
 
 /// Copies pieces, one behind another, over as many bytes as they have.
 #[inline(always)]
@@ -457,7 +446,36 @@ fn put_parts(out: &mut Vec<u8>, topology: &Topology, entry: &JournalEntry) -> Re
     Ok(())
 }
 
-/// The line of a carry, by one call: most lines of a long run are carries.
+/// Composes the line of a carry from a place on, and answers where it ends.
+#[inline(always)]
+fn lay_carry(
+    bytes: &mut [u8],
+    at: usize,
+    topology: &Topology,
+    tick: u64,
+    link: LinkNo,
+    direction: Dir,
+    place: u32,
+) -> usize
+    requires there { link.0 < length topology.now.links }
+    requires room { at + 128 ≤ length bytes.old }
+    ensures most { result ≤ at + 128 }
+    ensures laid { take result bytes.new ≡ take at bytes.old ++
+        ((number_text tick ++ spaced (step_words topology.now (Carry link direction place))) ++ 10 ∷ []) }
+{
+    topology.laws();
+    let (from, to) = ends(topology, link, direction);
+    let after_tick = lay_number(bytes, at, tick);
+    let after_carry = lay(bytes, after_tick, b" carry ");
+    let after_from = lay_name(bytes, after_carry, from);
+    let after_space = lay(bytes, after_from, b" ");
+    let after_to = lay_name(bytes, after_space, to);
+    let after_other = lay(bytes, after_to, b" ");
+    let end = lay_number(bytes, after_other, place as u64);
+    lay(bytes, end, b"\n")
+}
+
+/// The line of a carry, in room for any of them: most lines of a long run are carries.
 fn put_carry(
     out: &mut Vec<u8>,
     topology: &Topology,
@@ -471,24 +489,40 @@ fn put_carry(
         ((number_text tick ++ spaced (step_words topology.now (Carry link direction place))) ++ 10 ∷ [])) }
     ensures grew { Grew out.old.items out.new.items }
 {
-    let (from, to) = ends(topology, link, direction);
-    let (mut ticks, mut places) = (Buffer::new(), Buffer::new());
-    put_pieces(
-        out,
-        &[
-            ticks.format(tick).as_bytes(),
-            b" carry ",
-            from,
-            b" ",
-            to,
-            b" ",
-            places.format(place).as_bytes(),
-            b"\n",
-        ],
-    )
+    let before = out.len();
+    out.resize(before + 128, 0)?;
+    let bytes = &mut out[..];
+    let end = lay_carry(bytes, before, topology, tick, link, direction, place);
+    out.truncate(end);
+    Ok(())
 }
 
-/// The line of a packet that is sent, by one call: most other lines are of these.
+/// Composes the line of a packet that is sent from a place on, and answers where it ends.
+#[inline(always)]
+fn lay_inject(
+    bytes: &mut [u8],
+    at: usize,
+    topology: &Topology,
+    tick: u64,
+    site: SiteNo,
+    number: u32,
+) -> usize
+    requires there { site.0 < length topology.now.sites }
+    requires room { at + 96 ≤ length bytes.old }
+    ensures most { result ≤ at + 96 }
+    ensures laid { take result bytes.new ≡ take at bytes.old ++
+        ((number_text tick ++ spaced (step_words topology.now (Inject site number))) ++ 10 ∷ []) }
+{
+    topology.laws();
+    let after_tick = lay_number(bytes, at, tick);
+    let after_inject = lay(bytes, after_tick, b" inject ");
+    let after_site = lay_name(bytes, after_inject, site_name(topology, site));
+    let after_space = lay(bytes, after_site, b" ");
+    let end = lay_number(bytes, after_space, number as u64);
+    lay(bytes, end, b"\n")
+}
+
+/// The line of a packet that is sent, in room for any of them: most other lines are of these.
 fn put_inject(
     out: &mut Vec<u8>,
     topology: &Topology,
@@ -501,18 +535,12 @@ fn put_inject(
         ((number_text tick ++ spaced (step_words topology.now (Inject site number))) ++ 10 ∷ [])) }
     ensures grew { Grew out.old.items out.new.items }
 {
-    let (mut ticks, mut numbers) = (Buffer::new(), Buffer::new());
-    put_pieces(
-        out,
-        &[
-            ticks.format(tick).as_bytes(),
-            b" inject ",
-            site_name(topology, site),
-            b" ",
-            numbers.format(number).as_bytes(),
-            b"\n",
-        ],
-    )
+    let before = out.len();
+    out.resize(before + 96, 0)?;
+    let bytes = &mut out[..];
+    let end = lay_inject(bytes, before, topology, tick, site, number);
+    out.truncate(end);
+    Ok(())
 }
 
 fn put_line(out: &mut Vec<u8>, topology: &Topology, entry: &JournalEntry) -> Result<(), AllocError>
