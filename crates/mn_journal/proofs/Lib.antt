@@ -3,4 +3,3 @@ pub mod Plain
 pub mod Asked
 pub mod Words
 pub mod Journals
-mod Digits

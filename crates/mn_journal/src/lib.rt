@@ -16,12 +16,10 @@
 //!
 //! - `text`: prefixes and targets, on the stack
 //! - `write`: from an entry to its line
-//! - `laying`: words and numbers, laid over bytes that are there
 //! - `read`: from the bytes of a journal to its entries
 //! - `refusal`: why bytes aren't a journal
 #![tactic(auto)]
 
-mod laying;
 mod read;
 mod refusal;
 mod text;

@@ -14,11 +14,11 @@ ghost use Rattle.mn_entry.specs.Entries.{entry_fits};
 ghost use Rattle.mn_topo.specs.Steps.{fits};
 ghost use Rattle.mn_journal.specs.Lines.{entry_words, joined, line_of, spaced, text_of, texts, Grew};
 
-use crate::laying::{lay, lay_name, lay_number};
 use crate::text::{prefix_text, target_text};
 use itoa::Buffer;
 use mn_base::{LinkNo, NodeNo, Rt, SiteNo, VrfNo};
 use mn_entry::damage_of;
+use mn_laying::{lay, lay_name, lay_number};
 use mn_prefix::Prefix;
 use mn_topo::{Damage, Damaged, JournalEntry, Step, Topology};
 use mn_wiring::Dir;

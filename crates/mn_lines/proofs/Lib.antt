@@ -1,4 +1,3 @@
 pub mod Putting
 mod Waiting
 pub mod Pieces
-mod Digits

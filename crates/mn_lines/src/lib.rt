@@ -13,13 +13,11 @@
 //!
 //! - `write`: the lines, appended to bytes
 //! - `packet`: the line of a packet, composed over bytes that are there
-//! - `laying`: words and numbers, laid over such bytes
 //! - `page`: text that waits to be put
 //! - `lines`: what the lines tell of
 //! - `names`: nodes and sites by their names
 #![tactic(auto)]
 
-mod laying;
 mod lines;
 mod names;
 mod packet;

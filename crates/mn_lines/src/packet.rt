@@ -3,11 +3,11 @@ ghost use Rattle.std.specs.Prelude.{◌≡◌, ◌+◌, ◌*◌, ◌≤◌, ◌+
 ghost use Rattle.mn_lines.specs.Names.{name_at, names_of};
 ghost use Rattle.mn_lines.specs.Lines.{packet_line, path_text, sent_text, text, verdict_text};
 
-use crate::laying::{lay, lay_name, lay_number};
 use crate::lines::{Sent, rule_name};
 use crate::names::{direction, node_name, site_name};
 use mn_base::{LinkNo, NodeNo, SiteNo};
 use mn_drops::Rule;
+use mn_laying::{lay, lay_name, lay_number};
 use mn_ledger::Verdict;
 use mn_topo::Topology;
 use mn_wiring::Dir;

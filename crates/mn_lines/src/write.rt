@@ -4,12 +4,12 @@ ghost use Rattle.mn_edge.specs.Written.{IsPrefix};
 ghost use Rattle.mn_lines.specs.Names.{names_of};
 ghost use Rattle.mn_lines.specs.Lines.{cause_text, packet_line, pieces_of, refused_line, text, total_line, verdicts_text};
 
-use crate::laying::lay;
 use crate::lines::{Sent, Totals, cause_name};
 use crate::names::site_name;
 use crate::packet::lay_packet;
 use itoa::Buffer;
 use mn_base::{NodeNo, SiteNo};
+use mn_laying::lay;
 use mn_ledger::{Refused, Verdict};
 use mn_topo::Topology;
 use std::alloc::AllocError;

@@ -1,7 +1,7 @@
 use Rattle.std.proofs.Common.{arith, ◌+◌}
 use Rattle.std.specs.Fmt.{decimal}
-use Rattle.mn_journal.proofs.Digits.{at_most_20, written_at}
-use Rattle.mn_journal.proofs.laying.lay_number.Goals as goal
+use Rattle.mn_laying.proofs.Digits.{at_most_20, written_at}
+use Rattle.mn_laying.proofs.laying.lay_number.Goals as goal
 
 pub overflow_add-end : goal.overflow_add-end
 overflow_add-end c =

@@ -1,6 +1,6 @@
 use Rattle.std.proofs.Common.{arith}
-use Rattle.mn_lines.proofs.Digits.{one_digit, one_less, at_most_20}
-use Rattle.mn_lines.proofs.laying.many_digits.Goals as goal
+use Rattle.mn_laying.proofs.Digits.{one_digit, one_less, at_most_20}
+use Rattle.mn_laying.proofs.laying.many_digits.Goals as goal
 
 pub overflow_add-count : goal.overflow_add-count
 overflow_add-count c =

@@ -1,5 +1,5 @@
-use Rattle.mn_journal.proofs.Digits.{one_digit, two_digits, three_digits, four_digits, five_digits, six_digits}
-use Rattle.mn_journal.proofs.laying.digits_of.Goals as goal
+use Rattle.mn_laying.proofs.Digits.{one_digit, two_digits, three_digits, four_digits, five_digits, six_digits}
+use Rattle.mn_laying.proofs.laying.digits_of.Goals as goal
 
 pub returns-then-number-lt10 : goal.returns-then-number-lt10
 returns-then-number-lt10 c = one_digit c.args.number c.if-number-lt10.true

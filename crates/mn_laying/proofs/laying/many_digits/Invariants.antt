@@ -1,6 +1,6 @@
 use Rattle.std.proofs.Common.{◌≡◌, ◌+◌, length}
 use Rattle.std.specs.Fmt.{decimal}
-use Rattle.mn_journal.proofs.laying.many_digits.Given as goal
+use Rattle.mn_laying.proofs.laying.many_digits.Given as goal
 
 abbrev pub invariant-loop-left : goal.invariant-loop-left
 invariant-loop-left l = l.count + length (decimal l.left) ≡ length (decimal l.number)

@@ -1,4 +1,4 @@
-//! Words and numbers, laid over bytes that are there.
+// Words and numbers, laid over bytes.
 ghost use Rattle.std.specs.Prelude.{◌≡◌, ◌+◌, ◌<◌, ◌≤◌, ◌++◌, length, take};
 ghost use Rattle.std.specs.Fmt.{decimal};
 
@@ -6,7 +6,7 @@ use itoa::write_digits;
 
 /// Copies a piece over bytes from a place on, and answers where it ends.
 #[inline(always)]
-pub(crate) fn lay(bytes: &mut [u8], at: usize, piece: &[u8]) -> usize
+pub fn lay(bytes: &mut [u8], at: usize, piece: &[u8]) -> usize
     requires { at + length piece.now ≤ length bytes.old }
     ensures end { result ≡ at + length piece.now }
     ensures laid { take result bytes.new ≡ take at bytes.old ++ piece.now }
@@ -18,7 +18,7 @@ pub(crate) fn lay(bytes: &mut [u8], at: usize, piece: &[u8]) -> usize
 
 /// Copies a name. Most are short, and a copy of known length is less work than a call.
 #[inline(always)]
-pub(crate) fn lay_name(bytes: &mut [u8], at: usize, name: &[u8]) -> usize
+pub fn lay_name(bytes: &mut [u8], at: usize, name: &[u8]) -> usize
     requires { at + length name.now ≤ length bytes.old }
     ensures end { result ≡ at + length name.now }
     ensures laid { take result bytes.new ≡ take at bytes.old ++ name.now }
@@ -74,7 +74,7 @@ fn digits_of(number: u64) -> usize
 
 /// Writes a number's digits from a place on, and answers where they end.
 #[inline(always)]
-pub(crate) fn lay_number(bytes: &mut [u8], at: usize, number: u64) -> usize
+pub fn lay_number(bytes: &mut [u8], at: usize, number: u64) -> usize
     requires { at + 20 ≤ length bytes.old }
     ensures most { result ≤ at + 20 }
     ensures laid { take result bytes.new ≡ take at bytes.old ++ decimal number }
