@@ -1,12 +1,55 @@
 -- The three networks are lawful.
-use Rattle.std.proofs.Common.{arith, [], ◌∷◌, refl}
-use Rattle.std.specs.List.{IsDistinct}
-use Rattle.mn_topo.specs.Lawful.{AreNodes, AreLinks, AreTargets, AreVrfs, AreSites, IsLawful}
+use Rattle.std.proofs.Common.{ℕ, ◌≡◌, ◌≤◌, true, arith, List, [], ◌∷◌, length, refl}
+use Rattle.std.specs.Prelude.{codes}
+use Rattle.std.specs.List.{list_all, IsDistinct}
+use Rattle.mn_base.specs.declared.numbers.Rt.{Rt}
+use Rattle.mn_wiring.specs.Wiring.{Wiring}
+use Rattle.mn_wiring.specs.declared.links.LinkEnds.{LinkEnds}
+use Rattle.mn_topo.specs.Nodes.{NodeTable}
+use Rattle.mn_topo.specs.VrfTable.{VrfTable, edges_of}
+use Rattle.mn_topo.specs.Lawful.{AreNodes, AreLinks, AreTargets, AreVrfs, AreSites, IsLawful, is_vrf_of}
 use Rattle.mn_topo.proofs.Wirings.{joins_nodes, ends_differ, joins_once}
-use Rattle.mn_test_nets.specs.Entries.{target}
-use Rattle.mn_topo.specs.SiteTable.{no_sites}
-use Rattle.mn_test_nets.specs.Nets.{row_nodes, row_links, row_vrfs, row_sites, row_net, pair_nodes, pair_links, pair_vrfs, pair_sites, pair_net}
+use Rattle.mn_topo.specs.SiteTable.{SiteTable, no_sites}
+use Rattle.mn_test_nets.specs.Entries.{target, vrf_with}
+use Rattle.mn_test_nets.specs.Nets.{network_with, row_nodes, row_links, row_vrfs, row_sites, row_net, pair_nodes, pair_links, pair_vrfs, pair_sites, pair_net}
 use Rattle.mn_test_nets.specs.Nets.{star_nodes, star_links, star_vrfs, star_net}
+
+-- a few lawful tables make a lawful topology
+lawful : (nodes : NodeTable) (links : List LinkEnds) (vrfs : VrfTable) (sites : SiteTable) → length nodes.loopbacks ≤ 4 → length links ≤ 4
+    → length vrfs.vrfs ≤ 4 → length sites.sites ≤ 4 → AreNodes nodes → AreLinks (length nodes.loopbacks) links → AreVrfs (length nodes.loopbacks) vrfs
+    → AreSites (length vrfs.vrfs) sites → IsLawful (network_with nodes links vrfs sites)
+lawful nodes links vrfs sites few_nodes few_links few_vrfs few_sites are_nodes are_links are_vrfs are_sites =
+    let wiring : Wiring = record { loopbacks = nodes.loopbacks; ends = links } in
+    record {
+      asn = refl;
+      notice_delay = refl;
+      bgp_delay = refl;
+      few_nodes = omega (arith, few_nodes);
+      few_links = omega (arith, few_links);
+      few_vrfs = omega (arith, few_vrfs);
+      few_sites = omega (arith, few_sites);
+      nodes = are_nodes;
+      links = are_links;
+      vrfs = are_vrfs;
+      sites = are_sites;
+      joins_nodes = joins_nodes wiring are_links;
+      ends_differ = ends_differ wiring are_links;
+      joins_once = joins_once wiring are_links;
+    }
+
+-- the VRFs red1 and red2 at two nodes, with the same targets
+reds : (nodes : ℕ) (targets : List Rt) (m n : ℕ) → AreTargets targets → list_all (is_vrf_of nodes) (vrf_with targets m 1 ∷ vrf_with targets n 2 ∷ []) ≡ true
+    → length (edges_of (vrf_with targets m 1 ∷ vrf_with targets n 2 ∷ [])) ≤ 64
+    → AreVrfs nodes (record { names = codes "red1" ∷ codes "red2" ∷ []; vrfs = vrf_with targets m 1 ∷ vrf_with targets n 2 ∷ [] })
+unfolding IsDistinct
+reds nodes targets m n are_targets formed few_edges = record {
+  named = record { formed = refl; distinct = ((refl, tt), (tt, tt)) };
+  each = refl;
+  formed = formed;
+  distinct = ((refl, tt), (tt, tt));
+  targets = ((are_targets, are_targets), ((are_targets, are_targets), tt));
+  few_edges = few_edges;
+}
 
 row_are_nodes : AreNodes row_nodes
 unfolding IsDistinct
@@ -26,15 +69,7 @@ unfolding IsDistinct
 one_target = record { few = omega arith; formed = refl; distinct = (tt, tt) }
 
 row_are_vrfs : AreVrfs 3 row_vrfs
-unfolding IsDistinct
-row_are_vrfs = record {
-  named = record { formed = refl; distinct = ((refl, tt), (tt, tt)) };
-  each = refl;
-  formed = refl;
-  distinct = ((refl, tt), (tt, tt));
-  targets = ((one_target, one_target), ((one_target, one_target), tt));
-  few_edges = omega arith;
-}
+row_are_vrfs = reds 3 (target ∷ []) 0 2 one_target refl (omega arith)
 
 row_are_sites : AreSites 2 row_sites
 unfolding IsDistinct
@@ -48,22 +83,8 @@ row_are_sites = record {
 }
 
 pub row_lawful : IsLawful row_net
-row_lawful = record {
-  asn = refl;
-  notice_delay = refl;
-  bgp_delay = refl;
-  few_nodes = omega arith;
-  few_links = omega arith;
-  few_vrfs = omega arith;
-  few_sites = omega arith;
-  nodes = row_are_nodes;
-  links = row_are_links;
-  vrfs = row_are_vrfs;
-  sites = row_are_sites;
-  joins_nodes = joins_nodes (record { loopbacks = row_net.loopbacks; ends = row_net.links }) row_are_links;
-  ends_differ = ends_differ (record { loopbacks = row_net.loopbacks; ends = row_net.links }) row_are_links;
-  joins_once = joins_once (record { loopbacks = row_net.loopbacks; ends = row_net.links }) row_are_links;
-}
+row_lawful =
+    lawful row_nodes row_links row_vrfs row_sites (omega arith) (omega arith) (omega arith) (omega arith) row_are_nodes row_are_links row_are_vrfs row_are_sites
 
 pair_are_nodes : AreNodes pair_nodes
 unfolding IsDistinct
@@ -78,15 +99,7 @@ unfolding IsDistinct
 no_target = record { few = omega arith; formed = refl; distinct = tt }
 
 pair_are_vrfs : AreVrfs 2 pair_vrfs
-unfolding IsDistinct
-pair_are_vrfs = record {
-  named = record { formed = refl; distinct = ((refl, tt), (tt, tt)) };
-  each = refl;
-  formed = refl;
-  distinct = ((refl, tt), (tt, tt));
-  targets = ((no_target, no_target), ((no_target, no_target), tt));
-  few_edges = omega arith;
-}
+pair_are_vrfs = reds 2 [] 0 1 no_target refl (omega arith)
 
 pair_are_sites : AreSites 2 pair_sites
 unfolding IsDistinct
@@ -100,22 +113,8 @@ pair_are_sites = record {
 }
 
 pub pair_lawful : IsLawful pair_net
-pair_lawful = record {
-  asn = refl;
-  notice_delay = refl;
-  bgp_delay = refl;
-  few_nodes = omega arith;
-  few_links = omega arith;
-  few_vrfs = omega arith;
-  few_sites = omega arith;
-  nodes = pair_are_nodes;
-  links = pair_are_links;
-  vrfs = pair_are_vrfs;
-  sites = pair_are_sites;
-  joins_nodes = joins_nodes (record { loopbacks = pair_net.loopbacks; ends = pair_net.links }) pair_are_links;
-  ends_differ = ends_differ (record { loopbacks = pair_net.loopbacks; ends = pair_net.links }) pair_are_links;
-  joins_once = joins_once (record { loopbacks = pair_net.loopbacks; ends = pair_net.links }) pair_are_links;
-}
+pair_lawful =
+    lawful pair_nodes pair_links pair_vrfs pair_sites (omega arith) (omega arith) (omega arith) (omega arith) pair_are_nodes pair_are_links pair_are_vrfs pair_are_sites
 
 star_are_nodes : AreNodes star_nodes
 unfolding IsDistinct
@@ -148,19 +147,5 @@ star_are_sites = record {
 }
 
 pub star_lawful : IsLawful star_net
-star_lawful = record {
-  asn = refl;
-  notice_delay = refl;
-  bgp_delay = refl;
-  few_nodes = omega arith;
-  few_links = omega arith;
-  few_vrfs = omega arith;
-  few_sites = omega arith;
-  nodes = star_are_nodes;
-  links = star_are_links;
-  vrfs = star_are_vrfs;
-  sites = star_are_sites;
-  joins_nodes = joins_nodes (record { loopbacks = star_net.loopbacks; ends = star_net.links }) star_are_links;
-  ends_differ = ends_differ (record { loopbacks = star_net.loopbacks; ends = star_net.links }) star_are_links;
-  joins_once = joins_once (record { loopbacks = star_net.loopbacks; ends = star_net.links }) star_are_links;
-}
+star_lawful =
+    lawful star_nodes star_links star_vrfs no_sites (omega arith) (omega arith) (omega arith) (omega arith) star_are_nodes star_are_links star_are_vrfs star_are_sites

@@ -1,4 +1,5 @@
-//! Three small networks, made in code: for programs and tests that need a topology and no reader of its file.
+//! Three small networks, made in code: for programs and tests that need a topology and no reader of its file; and the file of
+//! the row, for those that read one.
 //!
 //! ```text
 //! row                                             pair                          star
@@ -15,9 +16,12 @@
 //!
 //! - `entries`: a link, a VRF, a site
 //! - `nets`: the three networks
+//! - `texts`: the row's file
 #![tactic(auto)]
 
 mod entries;
 mod nets;
+mod texts;
 
 pub use nets::{pair, row, star};
+pub use texts::{SiteText, row_text};
