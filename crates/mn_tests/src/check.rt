@@ -2,42 +2,18 @@
 use crate::one_node::{does, is_answer, is_fault, shelf_of};
 use mn_edge::MemShelf;
 use mn_run::Outcome;
+use mn_test_nets::{SiteText, row_text};
 use std::alloc::{AllocError, Global};
 use std::test::Fail;
 
 /// Three nodes in a row, with a VRF and a site at either end.
-const ROW: &str = r#"[[node]]
-name = "pe1"
-loopback = "192.0.2.1"
-[[node]]
-name = "p"
-loopback = "192.0.2.2"
-[[node]]
-name = "pe2"
-loopback = "192.0.2.3"
-[[link]]
-a = "pe1"
-b = "p"
-[[link]]
-a = "p"
-b = "pe2"
-[[vrf]]
-name = "red1"
-node = "pe1"
-rd = "65000:1"
-[[vrf]]
-name = "red2"
-node = "pe2"
-rd = "65000:2"
-[[site]]
-name = "a"
-vrf = "red1"
-prefixes = ["10.1.0.0/16", "10.3.0.0/16"]
-[[site]]
-name = "b"
-vrf = "red2"
-prefixes = ["10.2.0.0/16"]
-"#;
+fn row(alloc: Global) -> Result<String, AllocError> {
+    let sites: [SiteText<'static>; 2] = [
+        ("a", "red1", &["10.1.0.0/16", "10.3.0.0/16"]),
+        ("b", "red2", &["10.2.0.0/16"]),
+    ];
+    row_text(alloc, &sites)
+}
 
 /// Two nodes with one loopback.
 const TWICE: &str = r#"[[node]]
@@ -80,7 +56,7 @@ fn check_answers(alloc: Global, text: &str, status: u8, line: &str) -> Result<bo
 fn a_lawful_topology_is_counted(rt: HostRuntime) -> Result<(), Fail> {
     let alloc = rt.alloc();
     let three = "topology ok nodes 3 links 2 vrfs 2 sites 2 prefixes 3\n";
-    assert!(rt; check_answers(alloc, ROW, 0, three)?);
+    assert!(rt; check_answers(alloc, row(alloc)?.as_str(), 0, three)?);
     let none = "topology ok nodes 0 links 0 vrfs 0 sites 0 prefixes 0\n";
     assert!(rt; check_answers(alloc, "", 0, none)?);
     Ok(())
@@ -117,9 +93,10 @@ fn a_run_refuses_a_topology_before_it_reads_on(rt: HostRuntime) -> Result<(), Fa
     let alloc = rt.alloc();
     let run = ["run", "t", "nowhere", "nowhere", "out"];
     // Of a lawful one the script is asked for, and isn't there.
+    let row = row(alloc)?;
     for (text, status, line) in [
         (TWICE, 3, "topology refused T10 TwiceLoopback at node 1\n"),
-        (ROW, 6, ""),
+        (row.as_str(), 6, ""),
     ] {
         let topology = Vec::from_slice(alloc, text.as_bytes())?;
         assert!(rt; answers(alloc, &run, topology, status, line)?, "{line}");

@@ -1,6 +1,6 @@
 // Devices that fail while a run goes over two links: what `mn_device_rows` can't say, since it compares whole bytes.
 use crate::one_node::{RUN, Ran, does, is_fault, reports, runs, shelf};
-use crate::two_links::{CAPTURE, File, REPORT, SCRIPT, TOPOLOGY, are_whole, files, packet_files};
+use crate::two_links::{CAPTURE, File, REPORT, SCRIPT, are_whole, files, packet_files, topology};
 use mn_edge::MemShelf;
 use mn_run::Outcome;
 use std::alloc::{AllocError, Global};
@@ -63,7 +63,7 @@ fn long_files(alloc: Global) -> Result<Vec<File>, AllocError> {
 /// The run over the long packet, where the shelf's calls of these numbers fail.
 fn sent_long(alloc: Global, script: &str, failing: Vec<u64>) -> Result<Ran, AllocError> {
     let capture = long(alloc, &LONG_CAPTURE)?;
-    runs(alloc, TOPOLOGY, script, capture, failing)
+    runs(alloc, topology(alloc)?.as_str(), script, capture, failing)
 }
 
 /// Whether each of these files was begun, and is a first part of its bytes.
@@ -81,7 +81,8 @@ fn are_first_parts(shelf: &MemShelf, files: &[File]) -> bool {
 /// The run over the capture, where the first put fails.
 fn put_fails(alloc: Global) -> Result<Ran, AllocError> {
     let capture = Vec::from_slice(alloc, &CAPTURE)?;
-    let shelf = shelf(alloc, TOPOLOGY, SCRIPT, capture, Vec::new(alloc))?;
+    let topology = topology(alloc)?;
+    let shelf = shelf(alloc, topology.as_str(), SCRIPT, capture, Vec::new(alloc))?;
     does(alloc, &RUN, shelf, vec![in alloc; 1u64]?)
 }
 

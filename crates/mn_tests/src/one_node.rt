@@ -5,30 +5,7 @@ use std::alloc::{AllocError, Global};
 use std::process::Abort;
 use std::test::Fail;
 
-/// A node with sites a (10.1.0.0/16) and b (10.2.0.0/16).
-const TWO_SITES: &str = r#"[[node]]
-name = "pe1"
-loopback = "192.0.2.1"
-
-[[vrf]]
-name = "red"
-node = "pe1"
-rd = "65000:1"
-import = ["65000:100"]
-export = ["65000:100"]
-
-[[site]]
-name = "a"
-vrf = "red"
-prefixes = ["10.1.0.0/16"]
-
-[[site]]
-name = "b"
-vrf = "red"
-prefixes = ["10.2.0.0/16"]
-"#;
-
-/// The same node with site a alone, of all addresses.
+/// A node with one site, a, of all addresses.
 pub(crate) const ONE_SITE: &str = r#"[[node]]
 name = "pe1"
 loopback = "192.0.2.1"
@@ -178,7 +155,7 @@ fn sent(alloc: Global, topology: &str, failing: Vec<u64>) -> Result<Ran, AllocEr
 /// Does what the words say over the inputs of such a run.
 fn told(alloc: Global, texts: &[&str]) -> Result<Ran, AllocError> {
     let packet = capture(alloc, &[PACKET.as_slice()])?;
-    let shelf = shelf(alloc, TWO_SITES, "inject a 1\n", packet, Vec::new(alloc))?;
+    let shelf = shelf(alloc, ONE_SITE, "inject a 1\n", packet, Vec::new(alloc))?;
     does(alloc, texts, shelf, Vec::new(alloc))
 }
 
@@ -220,7 +197,7 @@ fn is_refused_capture(
     status: u8,
     line: &str,
 ) -> Result<bool, AllocError> {
-    let ran = runs(alloc, TWO_SITES, "inject a 1\n", capture, Vec::new(alloc))?;
+    let ran = runs(alloc, ONE_SITE, "inject a 1\n", capture, Vec::new(alloc))?;
     Ok(is_answer(&ran, status, line) && delivers_nowhere(&ran))
 }
 
@@ -246,7 +223,7 @@ fn a_failing_read_ends_the_run_before_a_file_is_begun(rt: HostRuntime) -> Result
     // Each input takes two fetches: its bytes, and its end.
     for call in 1..7u64 {
         let alloc = rt.alloc();
-        let ran = sent(alloc, TWO_SITES, vec![in alloc; call]?)?;
+        let ran = sent(alloc, ONE_SITE, vec![in alloc; call]?)?;
         cannot_read(&rt, &ran);
     }
     Ok(())
@@ -274,7 +251,7 @@ fn begins(
     journal: Option<&[u8]>,
     labels: Option<&[u8]>,
 ) -> Result<(), Fail> {
-    let ran = sent(alloc, TWO_SITES, vec![in alloc; call]?)?;
+    let ran = sent(alloc, ONE_SITE, vec![in alloc; call]?)?;
     is_fault(rt, &ran, Outcome::WriteFault, 7);
     stand(rt, &ran, journal, labels);
     Ok(())

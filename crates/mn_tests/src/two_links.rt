@@ -2,49 +2,17 @@
 ghost use Rattle.std.specs.Prelude.{◌<◌};
 
 use mn_edge::MemShelf;
+use mn_test_nets::{SiteText, row_text};
 use std::alloc::{AllocError, Global};
 
 /// Sites a (10.1.0.0/16) at pe1 and b (10.2.0.0/16) at pe2, whose VRFs share a route target.
-pub(crate) const TOPOLOGY: &str = r#"
-as = 65000
-[[node]]
-name = "pe1"
-loopback = "192.0.2.1"
-[[node]]
-name = "p"
-loopback = "192.0.2.2"
-[[node]]
-name = "pe2"
-loopback = "192.0.2.3"
-[[link]]
-a = "pe1"
-b = "p"
-delay = 2
-[[link]]
-a = "p"
-b = "pe2"
-delay = 2
-[[vrf]]
-name = "red1"
-node = "pe1"
-rd = "65000:1"
-import = ["65000:100"]
-export = ["65000:100"]
-[[vrf]]
-name = "red2"
-node = "pe2"
-rd = "65000:2"
-import = ["65000:100"]
-export = ["65000:100"]
-[[site]]
-name = "a"
-vrf = "red1"
-prefixes = ["10.1.0.0/16"]
-[[site]]
-name = "b"
-vrf = "red2"
-prefixes = ["10.2.0.0/16"]
-"#;
+pub(crate) fn topology(alloc: Global) -> Result<String, AllocError> {
+    let sites: [SiteText<'static>; 2] = [
+        ("a", "red1", &["10.1.0.0/16"]),
+        ("b", "red2", &["10.2.0.0/16"]),
+    ];
+    row_text(alloc, &sites)
+}
 
 pub(crate) const SCRIPT: &str = "\
 link up pe1 p       # both links come up, and with them LDP's sessions
