@@ -14,6 +14,7 @@ use mn_ledger::Verdict;
 use mn_lfib::Lfib;
 use mn_pe::Entered;
 use mn_stack::Frame;
+use mn_test_nets::row_text;
 use mn_topo::Topology;
 use mn_topo_toml::read_topology;
 use mn_transit::Transit;
@@ -21,27 +22,6 @@ use mn_wiring::Dir;
 use std::alloc::Global;
 use std::process::Abort;
 use std::test::Fail;
-
-const TOPOLOGY: &str = r#"
-as = 65000
-[[node]]
-name = "pe1"
-loopback = "192.0.2.1"
-[[node]]
-name = "p"
-loopback = "192.0.2.2"
-[[node]]
-name = "pe2"
-loopback = "192.0.2.3"
-[[link]]
-a = "pe1"
-b = "p"
-delay = 2
-[[link]]
-a = "p"
-b = "pe2"
-delay = 2
-"#;
 
 const PE1: NodeNo = NodeNo(0);
 
@@ -125,7 +105,7 @@ struct Run {
 
 impl Run {
     fn begins(alloc: Global) -> Result<Run, Fail> {
-        let topology = read_topology(alloc, TOPOLOGY.as_bytes())?;
+        let topology = read_topology(alloc, row_text(alloc, &[])?.as_bytes())?;
         let transit = Transit::new(alloc, &topology)?;
         Ok(Run {
             topology,

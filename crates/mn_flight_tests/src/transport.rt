@@ -6,52 +6,16 @@
 use mn_base::{LinkNo, NodeNo, SiteNo};
 use mn_flight::Flight;
 use mn_labels::Bind;
+use mn_test_nets::{SiteText, row_text};
 use mn_topo_toml::read_topology;
 use mn_transport::Transport;
 use std::test::Fail;
 
-const TOPOLOGY: &str = r#"
-as = 65000
-[[node]]
-name = "pe1"
-loopback = "192.0.2.1"
-[[node]]
-name = "p"
-loopback = "192.0.2.2"
-[[node]]
-name = "pe2"
-loopback = "192.0.2.3"
-[[link]]
-a = "pe1"
-b = "p"
-[[link]]
-a = "p"
-b = "pe2"
-[[vrf]]
-name = "red"
-node = "pe1"
-rd = "65000:1"
-import = ["65000:100"]
-export = ["65000:100"]
-[[vrf]]
-name = "far"
-node = "pe2"
-rd = "65000:2"
-import = ["65000:100"]
-export = ["65000:100"]
-[[site]]
-name = "a"
-vrf = "red"
-prefixes = ["10.1.0.0/16"]
-[[site]]
-name = "b"
-vrf = "red"
-prefixes = ["10.2.0.0/16"]
-[[site]]
-name = "c"
-vrf = "far"
-prefixes = ["10.3.0.0/16"]
-"#;
+const SITES: [SiteText<'static>; 3] = [
+    ("a", "red1", &["10.1.0.0/16"]),
+    ("b", "red1", &["10.2.0.0/16"]),
+    ("c", "red2", &["10.3.0.0/16"]),
+];
 
 const PE1: NodeNo = NodeNo(0);
 
@@ -66,7 +30,8 @@ const C: SiteNo = SiteNo(2);
 /// No edge offers another node's FEC, so its sites alone have labels.
 #[test]
 fn a_site_that_is_attached_anew_has_the_next_label(rt: HostRuntime) -> Result<(), Fail> {
-    let topology = read_topology(rt.alloc(), TOPOLOGY.as_bytes())?;
+    let text = row_text(rt.alloc(), &SITES)?;
+    let topology = read_topology(rt.alloc(), text.as_bytes())?;
     let mut transport = Transport::new(rt.alloc(), &topology)?;
     topology.laws();
     assert!(rt; topology.nodes().len() == 3);

@@ -1,6 +1,6 @@
 use Rattle.std.proofs.Common.{◌≡◌, ◌<◌}
 use Rattle.std.specs.List.{All}
-use Rattle.mn_flight_tests.proofs.flight.makes_the_forty_calls.Given as goal
+use Rattle.mn_flight_tests.proofs.calls.makes_the_forty_calls.Given as goal
 
 abbrev pub invariant-loop-call : goal.invariant-loop-call
 invariant-loop-call g l = record {

@@ -1,5 +1,5 @@
 use Rattle.mn_flight.proofs.Kept.{below_without, below_off}
-use Rattle.mn_flight_tests.proofs.flight_pool.made.Goals as goal
+use Rattle.mn_flight_tests.proofs.calls.made.Goals as goal
 
 pub returns-in-Take-clause-number : goal.returns-in-Take-clause-number
 returns-in-Take-clause-number g c = rw c.take.ensures.items (below_without c.args.number _ c.take.result c.requires.number)
