@@ -1,4 +1,5 @@
 // Runs over one node with one VRF, which devices cut off or words refuse.
+use crate::captures::{IPV4, SHORT};
 use mn_edge::{MemShelf, MemSink};
 use mn_run::{Outcome, command};
 use std::alloc::{AllocError, Global};
@@ -19,23 +20,6 @@ vrf = "red"
 prefixes = ["0.0.0.0/0"]
 "#;
 
-/// A capture of IPv4 packets: link type 228.
-const CAPTURE_HEADER: [u8; 24] = [
-    0xD4, 0xC3, 0xB2, 0xA1, 0x02, 0x00, 0x04, 0x00, 0x00, 0x00, 0x00, 0x00, 0x00, 0x00, 0x00, 0x00,
-    0x00, 0x00, 0x04, 0x00, 0xE4, 0x00, 0x00, 0x00,
-];
-
-/// The header of a record of 28 bytes at tick 0.
-const RECORD_HEADER: [u8; 16] = [
-    0x00, 0x00, 0x00, 0x00, 0x00, 0x00, 0x00, 0x00, 0x1C, 0x00, 0x00, 0x00, 0x1C, 0x00, 0x00, 0x00,
-];
-
-/// A UDP packet of 28 bytes from 10.1.0.1 to 10.2.0.1 with TTL 64.
-const PACKET: [u8; 28] = [
-    0x45, 0x00, 0x00, 0x1C, 0x00, 0x00, 0x00, 0x00, 0x40, 0x11, 0x66, 0xCD, 0x0A, 0x01, 0x00, 0x01,
-    0x0A, 0x02, 0x00, 0x01, 0x00, 0x35, 0x00, 0x35, 0x00, 0x08, 0x00, 0x00,
-];
-
 /// The words of a run over the inputs t, s and c into the folder out.
 pub(crate) const RUN: [&str; 5] = ["run", "t", "s", "c", "out"];
 
@@ -45,16 +29,6 @@ fn words(alloc: Global, texts: &[&str]) -> Result<Vec<String>, AllocError> {
         words.push(String::from_str(alloc, text)?)?;
     }
     Ok(words)
-}
-
-/// A capture of packets of 28 bytes.
-fn capture(alloc: Global, packets: &[&[u8]]) -> Result<Vec<u8>, AllocError> {
-    let mut bytes = Vec::from_slice(alloc, &CAPTURE_HEADER)?;
-    for packet in packets {
-        bytes.extend_from_slice(&RECORD_HEADER)?;
-        bytes.extend_from_slice(packet)?;
-    }
-    Ok(bytes)
 }
 
 /// A shelf with the three inputs, on which the calls of these numbers fail.
@@ -148,13 +122,13 @@ fn delivers_nowhere(ran: &Ran) -> bool {
 
 /// A run that sends the packet at site a, where the shelf's calls of these numbers fail.
 fn sent(alloc: Global, topology: &str, failing: Vec<u64>) -> Result<Ran, AllocError> {
-    let packet = capture(alloc, &[PACKET.as_slice()])?;
+    let packet = SHORT.taken(alloc)?;
     runs(alloc, topology, "inject a 1\n", packet, failing)
 }
 
 /// Does what the words say over the inputs of such a run.
 fn told(alloc: Global, texts: &[&str]) -> Result<Ran, AllocError> {
-    let packet = capture(alloc, &[PACKET.as_slice()])?;
+    let packet = SHORT.taken(alloc)?;
     let shelf = shelf(alloc, ONE_SITE, "inject a 1\n", packet, Vec::new(alloc))?;
     does(alloc, texts, shelf, Vec::new(alloc))
 }
@@ -204,7 +178,7 @@ fn is_refused_capture(
 #[test]
 fn a_capture_has_at_most_so_many_records(rt: HostRuntime) -> Result<(), Fail> {
     let alloc = rt.alloc();
-    let mut many = Vec::from_slice(alloc, &CAPTURE_HEADER)?;
+    let mut many = Vec::from_slice(alloc, &IPV4)?;
     for _ in 0..100_001 {
         many.extend_from_slice(&[0; 16])?;
     }
