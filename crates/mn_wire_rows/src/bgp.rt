@@ -1,32 +1,40 @@
 //! BGP messages, read and written.
-use crate::bytes::{Fronts, bytes_from};
+use crate::bytes::{bytes_from, read_row};
+use crate::named::says;
 use crate::routes::{rd_at, route_at, targets_at};
-use crate::text::{put_address, put_route, put_rt};
+use crate::text::Routed;
 use mn_bgp_wire::{
     BgpMessage, BgpWireBad, Update, read_bgp, write_keep, write_open, write_reach, write_unreach,
 };
-use mn_rows::{Answer, Call, displayed, done, in_hex};
+use mn_rows::{Answer, Call, Dotted, Paired, done, in_hex};
 use std::alloc::{AllocError, Global};
 use std::fmt::Write;
+
+const REFUSALS: [BgpWireBad; 8] = [
+    BgpWireBad::Short,
+    BgpWireBad::BadMarker,
+    BgpWireBad::BadLength,
+    BgpWireBad::BadType,
+    BgpWireBad::BadOpen,
+    BgpWireBad::BadAttribute,
+    BgpWireBad::MissingAttribute,
+    BgpWireBad::NoMemory,
+];
 
 /// The most bytes that are framed.
 const MOST: usize = 60_000;
 
 /// The next hop, and then the routes and targets, each behind its word.
 pub(crate) fn put_update(text: &mut String, update: &Update) -> Result<(), AllocError> {
-    text.push_str("Update, next hop ")?;
-    put_address(text, update.next_hop())?;
+    write!(text, "Update, next hop {}", Dotted(update.next_hop()))?;
     for route in update.reached() {
-        text.push_str(", reach ")?;
-        put_route(text, route)?;
+        write!(text, ", reach {}", Routed(route))?;
     }
     for route in update.withdrawn() {
-        text.push_str(", withdraw ")?;
-        put_route(text, route)?;
+        write!(text, ", withdraw {}", Routed(route))?;
     }
     for target in update.targets() {
-        text.push_str(", target ")?;
-        put_rt(text, *target)?;
+        write!(text, ", target {}", Paired(target.0))?;
     }
     Ok(())
 }
@@ -41,12 +49,11 @@ fn put_message(text: &mut String, message: &BgpMessage) -> Result<(), AllocError
             vpn,
         } => {
             let vpn = if *vpn { ", vpn" } else { "" };
+            let id = Dotted(*id);
             write!(
                 text,
-                "Opening, version {version}, as {asn}, hold {hold}, id "
-            )?;
-            put_address(text, *id)?;
-            text.push_str(vpn)
+                "Opening, version {version}, as {asn}, hold {hold}, id {id}{vpn}"
+            )
         }
         BgpMessage::Update(update) => put_update(text, update),
         BgpMessage::Notification { code, subcode } => {
@@ -65,14 +72,6 @@ fn reading(alloc: Global, bytes: &[u8]) -> Result<String, AllocError> {
             Ok(text)
         }
     }
-}
-
-fn fronts(alloc: Global, bytes: &[u8]) -> Answer {
-    let mut fronts = Fronts::new(alloc);
-    for end in 0..bytes.len() {
-        fronts.add(reading(alloc, &bytes[..end])?)?;
-    }
-    Ok(Some(fronts.text()?))
 }
 
 /// A message of this type and body.
@@ -115,17 +114,6 @@ pub(crate) fn message_from(alloc: Global, call: Call<'_>) -> Result<Option<Vec<u
     bytes_from(alloc, call, 2)
 }
 
-fn read_row(alloc: Global, call: Call<'_>) -> Answer {
-    let Some(bytes) = message_from(alloc, call)? else {
-        return Ok(None);
-    };
-    match call.verb() {
-        b"read" => Ok(Some(reading(alloc, &bytes)?)),
-        b"fronts" => fronts(alloc, &bytes),
-        _ => Ok(None),
-    }
-}
-
 fn reach(alloc: Global, call: Call<'_>) -> Result<Option<Vec<u8>>, AllocError> {
     let (Some(hop), Some(route), Some(targets)) = (
         call.address(2),
@@ -160,27 +148,6 @@ fn write_row(alloc: Global, call: Call<'_>) -> Answer {
     }
 }
 
-fn bad_of(call: Call<'_>) -> Option<BgpWireBad> {
-    Some(match call.word(2)? {
-        b"Short" => BgpWireBad::Short,
-        b"BadMarker" => BgpWireBad::BadMarker,
-        b"BadLength" => BgpWireBad::BadLength,
-        b"BadType" => BgpWireBad::BadType,
-        b"BadOpen" => BgpWireBad::BadOpen,
-        b"BadAttribute" => BgpWireBad::BadAttribute,
-        b"MissingAttribute" => BgpWireBad::MissingAttribute,
-        b"NoMemory" => BgpWireBad::NoMemory,
-        _ => return None,
-    })
-}
-
-fn says(alloc: Global, call: Call<'_>) -> Answer {
-    match bad_of(call) {
-        Some(bad) => displayed(alloc, &bad),
-        None => Ok(None),
-    }
-}
-
 fn laws(alloc: Global) -> Answer {
     mn_bgp_wire::message_is_read();
     mn_bgp_wire::no_front_is_read();
@@ -190,8 +157,8 @@ fn laws(alloc: Global) -> Answer {
 
 pub(crate) fn bgp_row(alloc: Global, call: Call<'_>) -> Answer {
     match call.verb() {
-        b"read" | b"fronts" => read_row(alloc, call),
-        b"says" => says(alloc, call),
+        b"read" | b"fronts" => read_row(alloc, call, message_from(alloc, call)?, reading),
+        b"says" => says(alloc, call, &REFUSALS),
         b"laws" => laws(alloc),
         _ => write_row(alloc, call),
     }

@@ -1,5 +1,5 @@
 //! Bytes as the words of a row, and what all fronts of some bytes are answered.
-use mn_rows::Call;
+use mn_rows::{Answer, Call};
 use mn_text::number_up_to;
 use std::alloc::{AllocError, Global};
 use std::fmt::Write;
@@ -73,7 +73,7 @@ pub(crate) struct Fronts {
 }
 
 impl Fronts {
-    pub(crate) fn new(alloc: Global) -> Fronts {
+    fn new(alloc: Global) -> Fronts {
         Fronts {
             text: String::new(alloc),
             last: String::new(alloc),
@@ -105,8 +105,42 @@ impl Fronts {
         Ok(())
     }
 
+    /// What is read of each front of the bytes, from none of them to all but the last.
+    pub(crate) fn of<F: Fn(Global, &[u8]) -> Result<String, AllocError>>(
+        alloc: Global,
+        bytes: &[u8],
+        reading: F,
+    ) -> Result<Fronts, AllocError>
+        requires { F.IsAlwaysCallable reading }
+    {
+        let mut fronts = Fronts::new(alloc);
+        for end in 0..bytes.len() {
+            fronts.add(reading(alloc, &bytes[..end])?)?;
+        }
+        Ok(fronts)
+    }
+
     pub(crate) fn text(mut self) -> Result<String, AllocError> {
         self.close()?;
         Ok(self.text)
+    }
+}
+
+/// A row that reads bytes, where it has some: `read` is answered by what is read of them, `fronts` by what is of each front.
+pub(crate) fn read_row<F: Fn(Global, &[u8]) -> Result<String, AllocError>>(
+    alloc: Global,
+    call: Call<'_>,
+    bytes: Option<Vec<u8>>,
+    reading: F,
+) -> Answer
+    requires { F.IsAlwaysCallable reading }
+{
+    let Some(bytes) = bytes else {
+        return Ok(None);
+    };
+    match call.verb() {
+        b"read" => Ok(Some(reading(alloc, &bytes)?)),
+        b"fronts" => Ok(Some(Fronts::of(alloc, &bytes, reading)?.text()?)),
+        _ => Ok(None),
     }
 }

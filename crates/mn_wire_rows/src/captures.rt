@@ -2,6 +2,7 @@
 ghost use Rattle.std.specs.Prelude.{◌<◌, IfSome};
 
 use crate::bytes::{Fronts, bytes_from};
+use crate::named::named;
 use mn_pcap::{
     Form, LinkKind, PcapBad, PcapRule, Place, Scan, count_records, packet_of, put_header,
     put_record, read_header, records,
@@ -16,6 +17,17 @@ const LAST_TICK: u64 = 4_294_967_295_999;
 
 /// More bytes than any row has.
 const MANY: usize = 1_000_000;
+
+const LINKS: [LinkKind; 3] = [LinkKind::Ethernet, LinkKind::RawIp, LinkKind::RawIpv4];
+
+const RULES: [PcapRule; 6] = [
+    PcapRule::CutShort,
+    PcapRule::IsPcapng,
+    PcapRule::BadMagic,
+    PcapRule::BadVersion,
+    PcapRule::BadLinkType,
+    PcapRule::BadRecord,
+];
 
 /// A refusal by its rule and place.
 fn refusal(alloc: Global, bad: PcapBad) -> Result<String, AllocError> {
@@ -121,10 +133,7 @@ fn read_by(alloc: Global, way: Way, bytes: &[u8]) -> Result<String, AllocError> 
 
 /// What each front of the bytes holds, from none of them to all.
 fn fronts(alloc: Global, way: Way, bytes: &[u8]) -> Answer {
-    let mut fronts = Fronts::new(alloc);
-    for end in 0..bytes.len() {
-        fronts.add(read_by(alloc, way, &bytes[..end])?)?;
-    }
+    let mut fronts = Fronts::of(alloc, bytes, |alloc, front| read_by(alloc, way, front))?;
     fronts.add(read_by(alloc, way, bytes)?)?;
     Ok(Some(fronts.text()?))
 }
@@ -145,17 +154,9 @@ fn read_row(alloc: Global, call: Call<'_>) -> Answer {
     }
 }
 
-fn link_of(call: Call<'_>) -> Option<LinkKind> {
-    Some(match call.word(2)? {
-        b"Ethernet" => LinkKind::Ethernet,
-        b"RawIp" => LinkKind::RawIp,
-        b"RawIpv4" => LinkKind::RawIpv4,
-        _ => return None,
-    })
-}
-
 fn packet(alloc: Global, call: Call<'_>) -> Answer {
-    let (Some(link), Some(bytes)) = (link_of(call), bytes_from(alloc, call, 3)?) else {
+    let (Some(link), Some(bytes)) = (named(alloc, call, &LINKS)?, bytes_from(alloc, call, 3)?)
+    else {
         return Ok(None);
     };
     Ok(Some(in_hex(alloc, packet_of(link, &bytes))?))
@@ -184,20 +185,8 @@ fn record(alloc: Global, call: Call<'_>) -> Answer {
     Ok(Some(in_hex(alloc, &out)?))
 }
 
-fn rule_of(call: Call<'_>) -> Option<PcapRule> {
-    Some(match call.word(2)? {
-        b"CutShort" => PcapRule::CutShort,
-        b"IsPcapng" => PcapRule::IsPcapng,
-        b"BadMagic" => PcapRule::BadMagic,
-        b"BadVersion" => PcapRule::BadVersion,
-        b"BadLinkType" => PcapRule::BadLinkType,
-        b"BadRecord" => PcapRule::BadRecord,
-        _ => return None,
-    })
-}
-
 fn says(alloc: Global, call: Call<'_>) -> Answer {
-    match (rule_of(call), call.number(3, u64::MAX)) {
+    match (named(alloc, call, &RULES)?, call.number(3, u64::MAX)) {
         (Some(rule), Some(place)) => displayed(alloc, &PcapBad::Refused { rule, place }),
         (None, None) if call.has(2, b"NoMemory") => displayed(alloc, &PcapBad::NoMemory),
         _ => Ok(None),

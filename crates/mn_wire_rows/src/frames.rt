@@ -3,12 +3,20 @@ ghost use Rattle.std.specs.Prelude.{IfSome};
 ghost use Rattle.mn_stack.specs.Entry.{Fits};
 
 use crate::bytes::bytes_from;
+use crate::named::says;
 use mn_ipv4::check;
-use mn_rows::{Answer, Call, displayed, done, in_hex, shown};
+use mn_rows::{Answer, Call, done, in_hex, shown};
 use mn_stack::{
     Entry, Frame, FrameBad, entries_differ_in_bytes, read_entry, write_entry, written_is_read,
 };
 use std::alloc::Global;
+
+const REFUSALS: [FrameBad; 4] = [
+    FrameBad::NoBottom,
+    FrameBad::Short,
+    FrameBad::BadPayload,
+    FrameBad::NoMemory,
+];
 
 /// Label, Exp, S bit and TTL, from the third word on.
 fn entry_of(call: Call<'_>) -> Option<Entry>
@@ -129,27 +137,10 @@ fn asked(alloc: Global, frame: &mut Frame, call: Call<'_>) -> Answer {
     }
 }
 
-fn bad_of(call: Call<'_>) -> Option<FrameBad> {
-    Some(match call.word(2)? {
-        b"NoBottom" => FrameBad::NoBottom,
-        b"Short" => FrameBad::Short,
-        b"BadPayload" => FrameBad::BadPayload,
-        b"NoMemory" => FrameBad::NoMemory,
-        _ => return None,
-    })
-}
-
-fn says(alloc: Global, call: Call<'_>) -> Answer {
-    match bad_of(call) {
-        Some(bad) => displayed(alloc, &bad),
-        None => Ok(None),
-    }
-}
-
 pub(crate) fn frame_row(alloc: Global, frame: &mut Option<Frame>, call: Call<'_>) -> Answer {
     match (call.verb(), frame.as_mut()) {
         (b"over" | b"read", _) => made(alloc, frame, call),
-        (b"says", _) => says(alloc, call),
+        (b"says", _) => says(alloc, call, &REFUSALS),
         (_, Some(frame)) => asked(alloc, frame, call),
         (_, None) => Ok(None),
     }

@@ -2,18 +2,16 @@
 ghost use Rattle.std.specs.Prelude.{◌<◌, ◌≤◌, IfOk, IfSome, length};
 ghost use Rattle.mn_ldp_wire.specs.Grammar.{IsLabel, IsWritable};
 
-use crate::bytes::{Fronts, WORDS, bytes_from};
-use crate::text::{put_address, put_prefix};
+use crate::bytes::{WORDS, bytes_from, read_row};
 use mn_ldp_wire::{Addresses, LdpBody, LdpId, LdpMessage, Pdu, read_pdu, write_pdu};
 use mn_prefix::Prefix;
-use mn_rows::{Answer, Call, done, in_hex};
+use mn_rows::{Answer, Call, Dotted, Slashed, done, in_hex};
 use std::alloc::{AllocError, Global};
 use std::fmt::Write;
 
+/// As `192.0.2.1:0`.
 fn put_id(text: &mut String, id: LdpId) -> Result<(), AllocError> {
-    put_address(text, id.lsr)?;
-    let space = id.space;
-    write!(text, ":{space}")
+    write!(text, "{}:{}", Dotted(id.lsr), id.space)
 }
 
 fn put_binding(
@@ -22,16 +20,13 @@ fn put_binding(
     prefix: Prefix,
     label: u32,
 ) -> Result<(), AllocError> {
-    write!(text, "{name} ")?;
-    put_prefix(text, prefix)?;
-    write!(text, " {label}")
+    write!(text, "{name} {} {label}", Slashed(prefix))
 }
 
 fn put_addresses(text: &mut String, addresses: &Addresses) -> Result<(), AllocError> {
     text.push_str("Address")?;
     for address in addresses.as_slice() {
-        text.push(' ')?;
-        put_address(text, *address)?;
+        write!(text, " {}", Dotted(*address))?;
     }
     Ok(())
 }
@@ -82,25 +77,6 @@ fn reading(alloc: Global, bytes: &[u8]) -> Result<String, AllocError> {
     match read_pdu(alloc, bytes) {
         Ok(pdu) => pdu_text(alloc, &pdu),
         Err(bad) => format!(in alloc; "{bad:?}"),
-    }
-}
-
-fn fronts(alloc: Global, bytes: &[u8]) -> Answer {
-    let mut fronts = Fronts::new(alloc);
-    for end in 0..bytes.len() {
-        fronts.add(reading(alloc, &bytes[..end])?)?;
-    }
-    Ok(Some(fronts.text()?))
-}
-
-fn read_row(alloc: Global, call: Call<'_>) -> Answer {
-    let Some(bytes) = bytes_from(alloc, call, 2)? else {
-        return Ok(None);
-    };
-    match call.verb() {
-        b"read" => Ok(Some(reading(alloc, &bytes)?)),
-        b"fronts" => fronts(alloc, &bytes),
-        _ => Ok(None),
     }
 }
 
@@ -234,6 +210,6 @@ pub(crate) fn ldp_row(alloc: Global, call: Call<'_>) -> Answer {
     match call.verb() {
         b"write" => write_row(alloc, call),
         b"laws" => laws(alloc),
-        _ => read_row(alloc, call),
+        _ => read_row(alloc, call, bytes_from(alloc, call, 2)?, reading),
     }
 }

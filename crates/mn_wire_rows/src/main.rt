@@ -9,7 +9,8 @@
 //! | `routes` | `route`, `targets` |
 //! | `bgp`, `reflected`, `peers` | `bgp`, `reflected`, `peer` |
 //!
-//! `bytes` has bytes as the words of a row, and answers of all fronts of some bytes; `text` has values as text.
+//! `bytes` has bytes as the words of a row, and answers of all fronts of some bytes; `named` has values that a row names;
+//! `text` has a route as text.
 #![tactic(auto)]
 
 mod bgp;
@@ -17,6 +18,7 @@ mod bytes;
 mod captures;
 mod frames;
 mod ldp;
+mod named;
 mod packets;
 mod peers;
 mod prefixes;

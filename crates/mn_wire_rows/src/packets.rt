@@ -1,8 +1,16 @@
 //! IPv4 headers: their checks, and their time to live.
 use crate::bytes::bytes_from;
+use crate::named::says;
 use mn_ipv4::{Bad, age, check, set_ttl};
-use mn_rows::{Answer, Call, displayed, in_hex, shown};
+use mn_rows::{Answer, Call, in_hex, shown};
 use std::alloc::Global;
+
+const REFUSALS: [Bad; 4] = [
+    Bad::NotIpv4,
+    Bad::Malformed,
+    Bad::Truncated,
+    Bad::BadChecksum,
+];
 
 /// The packet after so many hops, or why it isn't aged.
 fn aged(alloc: Global, packet: &mut [u8], by: u8) -> Answer {
@@ -38,23 +46,6 @@ fn changed(alloc: Global, call: Call<'_>) -> Answer {
     }
 }
 
-fn bad_of(call: Call<'_>) -> Option<Bad> {
-    Some(match call.word(2)? {
-        b"NotIpv4" => Bad::NotIpv4,
-        b"Malformed" => Bad::Malformed,
-        b"Truncated" => Bad::Truncated,
-        b"BadChecksum" => Bad::BadChecksum,
-        _ => return None,
-    })
-}
-
-fn says(alloc: Global, call: Call<'_>) -> Answer {
-    match bad_of(call) {
-        Some(bad) => displayed(alloc, &bad),
-        None => Ok(None),
-    }
-}
-
 fn checked(alloc: Global, call: Call<'_>) -> Answer {
     match bytes_from(alloc, call, 2)? {
         Some(packet) => shown(alloc, &check(&packet)),
@@ -65,7 +56,7 @@ fn checked(alloc: Global, call: Call<'_>) -> Answer {
 pub(crate) fn ipv4_row(alloc: Global, call: Call<'_>) -> Answer {
     match call.verb() {
         b"check" => checked(alloc, call),
-        b"says" => says(alloc, call),
+        b"says" => says(alloc, call, &REFUSALS),
         _ => changed(alloc, call),
     }
 }

@@ -1,9 +1,9 @@
 //! Prefixes as whole bytes, and which addresses they contain.
 use crate::bytes::WORDS;
-use crate::text::put_prefix;
 use mn_prefix::Prefix;
-use mn_rows::{Answer, Call, done, shown};
+use mn_rows::{Answer, Call, Slashed, done, shown};
 use std::alloc::{AllocError, Global};
+use std::fmt::Write;
 
 /// The prefixes from a word on, in their order.
 fn sorted(alloc: Global, call: Call<'_>, k: usize) -> Result<String, AllocError> {
@@ -20,7 +20,7 @@ fn sorted(alloc: Global, call: Call<'_>, k: usize) -> Result<String, AllocError>
         if !text.is_empty() {
             text.push(' ')?;
         }
-        put_prefix(&mut text, *prefix)?;
+        write!(text, "{}", Slashed(*prefix))?;
     }
     Ok(text)
 }

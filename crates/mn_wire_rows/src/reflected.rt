@@ -3,10 +3,10 @@ ghost use Rattle.std.specs.Prelude.{◌≤◌, length, IfOk};
 
 use crate::bgp::{message_from, put_update};
 use crate::routes::{route_at, targets_at};
-use crate::text::put_address;
 use mn_bgp_reflected::{Reflected, read_reflected, write_reflected};
-use mn_rows::{Answer, Call, done, in_hex};
+use mn_rows::{Answer, Call, Dotted, done, in_hex};
 use std::alloc::{AllocError, Global};
+use std::fmt::Write;
 
 /// The most clusters that are written.
 const CLUSTERS: usize = 8;
@@ -15,12 +15,10 @@ const CLUSTERS: usize = 8;
 fn put_reflected(text: &mut String, reflected: &Reflected) -> Result<(), AllocError> {
     put_update(text, reflected.update())?;
     if let Some(originator) = reflected.originator() {
-        text.push_str(", originator ")?;
-        put_address(text, originator)?;
+        write!(text, ", originator {}", Dotted(originator))?;
     }
     for cluster in reflected.clusters() {
-        text.push_str(", cluster ")?;
-        put_address(text, *cluster)?;
+        write!(text, ", cluster {}", Dotted(*cluster))?;
     }
     Ok(())
 }

@@ -3,10 +3,10 @@ ghost use Rattle.std.specs.Prelude.{◌≡◌, ◌<◌, ◌≤◌, ◌^◌, true
 ghost use Rattle.mn_base.specs.Numbers.{has_rd_form, has_rt_form};
 ghost use Rattle.mn_vpn_nlri.specs.Grammar.{IsAscending, AllTargets};
 
-use crate::bytes::{Fronts, bytes_from};
-use crate::text::{put_route, put_rt};
+use crate::bytes::{bytes_from, read_row};
+use crate::text::Routed;
 use mn_base::{Rd, Rt};
-use mn_rows::{Answer, Call, done, in_hex};
+use mn_rows::{Answer, Call, Paired, done, in_hex};
 use mn_vpn_nlri::{VpnRoute, read_route, read_targets, write_route, write_targets};
 use std::alloc::{AllocError, Global};
 use std::fmt::Write;
@@ -39,31 +39,7 @@ pub(crate) fn route_at(call: Call<'_>, k: usize) -> Option<VpnRoute>
 fn reading(alloc: Global, bytes: &[u8]) -> Result<String, AllocError> {
     match read_route(bytes) {
         Err(bad) => format!(in alloc; "{bad:?}"),
-        Ok((route, size)) => {
-            let mut text = String::new(alloc);
-            put_route(&mut text, &route)?;
-            write!(text, ", {size} bytes")?;
-            Ok(text)
-        }
-    }
-}
-
-fn fronts(alloc: Global, bytes: &[u8]) -> Answer {
-    let mut fronts = Fronts::new(alloc);
-    for end in 0..bytes.len() {
-        fronts.add(reading(alloc, &bytes[..end])?)?;
-    }
-    Ok(Some(fronts.text()?))
-}
-
-fn read_row(alloc: Global, call: Call<'_>) -> Answer {
-    let Some(bytes) = bytes_from(alloc, call, 2)? else {
-        return Ok(None);
-    };
-    match call.verb() {
-        b"read" => Ok(Some(reading(alloc, &bytes)?)),
-        b"fronts" => fronts(alloc, &bytes),
-        _ => Ok(None),
+        Ok((route, size)) => format!(in alloc; "{}, {size} bytes", Routed(&route)),
     }
 }
 
@@ -91,7 +67,7 @@ pub(crate) fn route_row(alloc: Global, call: Call<'_>) -> Answer {
     match call.verb() {
         b"write" => write_row(alloc, call),
         b"laws" => laws(alloc),
-        _ => read_row(alloc, call),
+        _ => read_row(alloc, call, bytes_from(alloc, call, 2)?, reading),
     }
 }
 
@@ -143,7 +119,7 @@ fn read_communities(alloc: Global, bytes: &[u8]) -> Result<String, AllocError> {
         if !text.is_empty() {
             text.push(' ')?;
         }
-        put_rt(&mut text, *target)?;
+        write!(text, "{}", Paired(target.0))?;
     }
     if targets.is_empty() {
         text.push_str("none")?;

@@ -1,11 +1,19 @@
 //! One end of an LDP session: of 192.0.2.1 with 192.0.2.2, unless a row opens another.
 use crate::bytes::bytes_from;
 use crate::ldp::{body_from, ldp_id};
+use crate::named::named;
 use mn_ldp_session::{LdpKind, Reply, Session, SessionBad, kind_of};
 use mn_ldp_wire::{LdpMessage, read_pdu};
 use mn_rows::{Answer, Call, displayed, done, shown};
 use mn_states::LdpState;
 use std::alloc::Global;
+
+const STATES: [LdpState; 4] = [
+    LdpState::Initialized,
+    LdpState::OpenSent,
+    LdpState::OpenRec,
+    LdpState::Operational,
+];
 
 /// The end at 192.0.2.1, which has heard nothing.
 pub(crate) fn first_router() -> Session {
@@ -16,19 +24,9 @@ pub(crate) fn first_router() -> Session {
     }
 }
 
-fn state_of(call: Call<'_>) -> Option<LdpState> {
-    Some(match call.word(2)? {
-        b"Initialized" => LdpState::Initialized,
-        b"OpenSent" => LdpState::OpenSent,
-        b"OpenRec" => LdpState::OpenRec,
-        b"Operational" => LdpState::Operational,
-        _ => return None,
-    })
-}
-
 /// The end at 192.0.2.1 in a state.
 fn put_in(alloc: Global, session: &mut Session, call: Call<'_>) -> Answer {
-    let Some(state) = state_of(call) else {
+    let Some(state) = named(alloc, call, &STATES)? else {
         return Ok(None);
     };
     *session = Session {
