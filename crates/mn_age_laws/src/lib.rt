@@ -17,12 +17,7 @@
 #![tactic(auto)]
 
 ghost use Rattle.std.specs.Prelude.{ℕ, List, ◌≡◌};
-ghost use Rattle.mn_topo.specs.Lawful.{IsLawful};
-ghost use Rattle.mn_topo.specs.Network.{Network};
-ghost use Rattle.mn_topo.specs.declared.steps.JournalEntry.{JournalEntry};
-ghost use Rattle.mn_ledger.specs.Ledger.{packets_of};
-ghost use Rattle.mn_ledger.specs.Lawful.{IsLawfulJournal};
-ghost use Rattle.mn_ledger.specs.OneMore.{tick_from};
+ghost use Rattle.mn_ledger.specs.Prelude.{IsLawful, Network, JournalEntry, packets_of, IsLawfulJournal, tick_from};
 ghost use Rattle.mn_age_laws.specs.Ages.{NoneIsOverdue};
 
 /// After a lawful journal no frame on a link is older than the link's life.

@@ -16,10 +16,7 @@
 #![tactic(auto)]
 
 ghost use Rattle.std.specs.Prelude.{ℕ, List};
-ghost use Rattle.mn_topo.specs.Network.{Network};
-ghost use Rattle.mn_topo.specs.Lawful.{IsLawful};
-ghost use Rattle.mn_topo.specs.declared.steps.JournalEntry.{JournalEntry};
-ghost use Rattle.mn_ledger.specs.Lawful.{IsLawfulJournal};
+ghost use Rattle.mn_ledger.specs.Prelude.{Network, IsLawful, JournalEntry, IsLawfulJournal};
 ghost use Rattle.mn_arrival_laws.specs.Arrival.{ItArrives, ArrivesWhereItCan};
 ghost use Rattle.mn_arrival_laws.specs.TwoLinks.{TwoLinksHaveAnArrival};
 

@@ -1,3 +1,4 @@
+pub mod Prelude
 pub mod Says
 pub mod Grammar
 pub mod Written

@@ -1,10 +1,8 @@
 // What is read, against what RFC 4456 says.
 ghost use Rattle.std.specs.Prelude.{◌≡◌, ◌≢◌, ◌%◌, ◌⊎◌, List, ℕ, Ok, Err, Some, Option, length};
-ghost use Rattle.mn_vpn_nlri.specs.Reading.{IsBytes};
-ghost use Rattle.mn_bgp_wire.specs.Grammar.{IsBgp, kind_of, update_kind, value_of};
+ghost use Rattle.mn_bgp_reflected.specs.Prelude.{IsBytes, IsBgp, kind_of, update_kind, value_of, Says};
 ghost use Rattle.mn_bgp_wire.specs.declared.message.BgpMessage.{BgpMessage as Message};
 ghost use Rattle.mn_bgp_reflected.specs.declared.refusal.ReflectedBad.{ReflectedBad as Bad};
-ghost use Rattle.mn_bgp_wire.specs.Says.{Says};
 ghost use Rattle.mn_bgp_reflected.specs.Says.{SaysReflected};
 ghost use Rattle.mn_bgp_reflected.specs.Grammar.{originator_kind, cluster_kind, attributes_of_update, SayOriginator, IsReflected};
 ghost use Rattle.mn_bgp_reflected.specs.Reading.{reflected_of};

@@ -2,8 +2,7 @@
 ghost use Rattle.std.specs.Prelude.{◌≡◌, ◌≤◌, List, Ok, Err, length, drop, IfOk};
 ghost use Rattle.std.specs.Option.{option_map};
 ghost use Rattle.mn_bgp_wire.specs.declared.message.BgpMessage.{BgpMessage as Message};
-ghost use Rattle.mn_bgp_wire.specs.Grammar.{IsBgp};
-ghost use Rattle.mn_bgp_wire.specs.Reading.{message_of};
+ghost use Rattle.mn_bgp_reflected.specs.Prelude.{IsBgp, message_of};
 ghost use Rattle.mn_bgp_reflected.specs.Says.{SaysReflected};
 ghost use Rattle.mn_bgp_reflected.specs.Grammar.{IsReflected};
 ghost use Rattle.mn_bgp_reflected.specs.Reading.{update_in, originator_of, addresses_of, clusters_of, reflected_of, Gives, Answers};

@@ -2,10 +2,7 @@
 ghost use Rattle.std.specs.Prelude.{◌≡◌, ◌≤◌, ◌<◌, ◌+◌, ◌*◌, ◌^◌, ◌∷◌, ◌++◌, true, length, IfOk, OnOk};
 ghost use Rattle.std.specs.List.{flat_map};
 ghost use Rattle.byteorder.specs.Endian.{big_bytes};
-ghost use Rattle.mn_base.specs.Numbers.{has_rd_form};
-ghost use Rattle.mn_vpn_nlri.specs.Grammar.{IsAscending, AllTargets};
-ghost use Rattle.mn_bgp_wire.specs.Grammar.{marker, update_kind, attribute_bytes};
-ghost use Rattle.mn_bgp_wire.specs.Written.{update_bytes};
+ghost use Rattle.mn_bgp_reflected.specs.Prelude.{has_rd_form, IsAscending, AllTargets, marker, update_kind, attribute_bytes, update_bytes};
 ghost use Rattle.mn_bgp_reflected.specs.Grammar.{IsReflected, address_bytes};
 ghost use Rattle.mn_bgp_reflected.specs.Written.{written_originator, written_clusters, reflected, says_reflected};
 

@@ -1,15 +1,8 @@
 ghost use Rattle.std.specs.Prelude.{◌≡◌, ℕ, List, Ok};
 ghost use Rattle.std.specs.List.{Contains};
-ghost use Rattle.mn_base.specs.declared.numbers.NodeNo.{NodeNo};
-ghost use Rattle.mn_topo.specs.Network.{Network};
-ghost use Rattle.mn_topo.specs.Lawful.{IsLawful};
-ghost use Rattle.mn_topo.specs.declared.steps.JournalEntry.{JournalEntry};
+ghost use Rattle.mn_ledger.specs.Prelude.{NodeNo, Network, IsLawful, JournalEntry, World, Telling, IsInTurn, world_of, IsLawfulJournal};
 ghost use Rattle.mn_bgp_wire.specs.Grammar.{IsBgp};
 ghost use Rattle.mn_bgp_wire.specs.Reading.{message_of};
-ghost use Rattle.mn_ledger.specs.World.{World, Telling};
-ghost use Rattle.mn_ledger.specs.Turns.{IsInTurn};
-ghost use Rattle.mn_ledger.specs.Ledger.{world_of};
-ghost use Rattle.mn_ledger.specs.Lawful.{IsLawfulJournal};
 ghost use Rattle.mn_bgp_spelling_laws.specs.Spelling.{Labels, message_in, bytes_in, IsWritable};
 ghost use Rattle.mn_bgp_spelling_laws.specs.TwoEdges.{TwoEdgesTalk};
 ghost use Rattle.mn_bgp_spelling_laws.specs.Laws.{IsComing, IsTaken, GoesOn, RepliesByTheTable, AreLabels};

@@ -1,16 +1,11 @@
 //! Laws of the definitions, each the contract of a function that does nothing.
 ghost use Rattle.std.specs.Prelude.{◌≡◌, ◌≤◌, ◌^◌, ◌*◌, List, [], ℕ, Some, None, true, length};
-ghost use Rattle.mn_base.specs.Limits.{most_steps};
-ghost use Rattle.mn_topo.specs.Lawful.{IsLawful};
-ghost use Rattle.mn_topo.specs.Network.{Network};
-ghost use Rattle.mn_topo.specs.declared.steps.JournalEntry.{JournalEntry};
+ghost use Rattle.mn_ledger.specs.Prelude.{most_steps, IsLawful, Network, JournalEntry, flight_of, IsLawfulJournal};
 ghost use Rattle.mn_script.specs.declared.command.Command.{Command};
 ghost use Rattle.mn_script.specs.declared.command.Command.TheVariants.{Drain};
 ghost use Rattle.mn_script.specs.declared.command.Line.{Line};
 ghost use Rattle.mn_script.specs.Lines.{command_fits};
 ghost use Rattle.mn_script.specs.Script.{AllFit};
-ghost use Rattle.mn_ledger.specs.Items.{flight_of};
-ghost use Rattle.mn_ledger.specs.Lawful.{IsLawfulJournal};
 ghost use Rattle.mn_course_laws.specs.declared.coming.Arrivals.{Arrivals};
 ghost use Rattle.mn_course_laws.specs.declared.coming.Ending.TheVariants as ending;
 ghost use Rattle.mn_course_laws.specs.declared.coming.Kind.{Kind};

@@ -14,20 +14,7 @@
 #![tactic(auto)]
 
 ghost use Rattle.std.specs.Prelude.{ℕ, List, Some, None, true, false, nat_le, ◌≡◌, ◌≤◌, [], length};
-ghost use Rattle.mn_base.specs.Limits.{most_steps};
-ghost use Rattle.mn_topo.specs.Network.{Network};
-ghost use Rattle.mn_topo.specs.Lawful.{IsLawful};
-ghost use Rattle.mn_topo.specs.declared.steps.JournalEntry.{JournalEntry};
-ghost use Rattle.mn_ledger.specs.Ledger.{world_of, no_packets};
-ghost use Rattle.mn_ledger.specs.Refusal.{is_empty, refusal_at};
-ghost use Rattle.mn_ledger.specs.Items.{Channel, loads_on, flight_of};
-ghost use Rattle.mn_ledger.specs.InFlight.{is_in_order};
-ghost use Rattle.mn_topo.specs.Steps.{fits};
-ghost use Rattle.mn_ledger.specs.World.{World};
-ghost use Rattle.mn_ledger.specs.Packets.{Packets};
-ghost use Rattle.mn_ledger.specs.Lawful.{IsLawfulJournal};
-ghost use Rattle.mn_ledger.specs.Settled.{IsSettled};
-ghost use Rattle.mn_topo.specs.declared.steps.Step.{Step};
+ghost use Rattle.mn_ledger.specs.Prelude.{most_steps, Network, IsLawful, JournalEntry, world_of, no_packets, is_empty, refusal_at, Channel, loads_on, flight_of, is_in_order, fits, World, Packets, IsLawfulJournal, IsSettled, Step};
 ghost use Rattle.mn_drain_laws.specs.Drain.{taken_from, is_nil, IsDrain, after_steps, IsDrained, IsSwitchedOn, IsDrainStep, drain_bound};
 ghost use Rattle.mn_drain_laws.specs.Draining.{TwoLinksDrain};
 

@@ -1,9 +1,6 @@
 //! What follows from the definitions.
 ghost use Rattle.std.specs.Prelude.{◌≡◌, ℕ, List, map, true};
-ghost use Rattle.mn_edge.specs.Memory.{all_differ};
-ghost use Rattle.mn_topo.specs.Network.{Network};
-ghost use Rattle.mn_topo.specs.Lawful.{IsLawful};
-ghost use Rattle.mn_output_laws.specs.Files.{OutputFile, file_name, files_of};
+ghost use Rattle.mn_files.specs.Prelude.{all_differ, Network, IsLawful, OutputFile, file_name, files_of};
 ghost use Rattle.mn_files.specs.Numbers.{IsNumber};
 
 /// No two files of a topology that meets the rules have the same name.

@@ -1,14 +1,8 @@
 //! The names of the files.
 ghost use Rattle.std.specs.Prelude.{◌≡◌, ◌==◌, ◌&&◌, not, ◌++◌, ◌<◌, ◌∷◌, [], length, map, codes, string_bytes, IfOk, OnOk, IsTrue};
 ghost use Rattle.std.specs.List.{flat_map};
-ghost use Rattle.mn_wiring.specs.Wiring.{links_of};
-ghost use Rattle.mn_wiring.specs.declared.links.Dir.TheVariants.{Forth, Back};
-ghost use Rattle.mn_edge.specs.Memory.{all_differ};
-ghost use Rattle.mn_edge.specs.Written.{texts};
-ghost use Rattle.mn_topo.specs.Network.{Network, wiring_of};
-ghost use Rattle.mn_topo.specs.VrfTable.{is_edge};
-ghost use Rattle.mn_ledger.specs.Places.{edges};
-ghost use Rattle.mn_output_laws.specs.Files.{Journal, Labels, Deliveries, Frames, Said, Told, file_name, files_of, link_name, node_name, pair_name, told_files};
+ghost use Rattle.mn_ledger.specs.Prelude.{links_of, Forth, Back, Network, wiring_of, is_edge, edges};
+ghost use Rattle.mn_files.specs.Prelude.{all_differ, texts, Journal, Labels, Deliveries, Frames, Said, Told, file_name, files_of, link_name, node_name, pair_name, told_files};
 
 use mn_base::{LinkNo, NodeNo};
 use mn_topo::Topology;

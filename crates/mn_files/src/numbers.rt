@@ -1,8 +1,6 @@
 //! The number of a file: its place, from 0, in the order in which the files are begun.
 ghost use Rattle.std.specs.Prelude.{◌≡◌, ◌≢◌, ◌<◌, ◌≤◌, ◌-◌, ℕ, nat_lt, if◌then◌else◌, length, IsTrue};
-ghost use Rattle.mn_topo.specs.Network.{Network};
-ghost use Rattle.mn_topo.specs.VrfTable.{is_edge};
-ghost use Rattle.mn_output_laws.specs.Files.{Journal, Labels, Deliveries, Frames, Said, Told};
+ghost use Rattle.mn_files.specs.Prelude.{Network, is_edge, Journal, Labels, Deliveries, Frames, Said, Told};
 ghost use Rattle.mn_files.specs.Numbers.{IsNumber, edge_places, edges_before};
 
 use crate::edges::EdgePlaces;

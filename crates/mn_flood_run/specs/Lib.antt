@@ -1,3 +1,4 @@
+pub mod Prelude
 pub mod Language
 pub mod Report
 pub mod Playing

@@ -1,11 +1,6 @@
 //! Lines played on a flood.
 ghost use Rattle.std.specs.Prelude.{◌≡◌, ◌<◌, ◌≤◌, true, false, None, length, All, IfOk, OnOk};
-ghost use Rattle.mn_base.specs.Limits.{most_steps, most_script_lines};
-ghost use Rattle.mn_flood_laws.specs.Flood.{Hear};
-ghost use Rattle.mn_flood_laws.specs.Course.{FloodRun, drain_for, every_hearing, with_line};
-ghost use Rattle.mn_flood.specs.Floods.{first_flood, happened, refusal_of};
-ghost use Rattle.mn_tables.specs.Telling.{standing, Tells};
-ghost use Rattle.mn_topo.specs.Network.{wiring_of};
+ghost use Rattle.mn_flood_run.specs.Prelude.{most_steps, most_script_lines, Hear, FloodRun, drain_for, every_hearing, with_line, first_flood, happened, refusal_of, standing, Tells, wiring_of};
 ghost use Rattle.mn_flood_run.specs.Language.{order_of, command_fits};
 ghost use Rattle.mn_flood_run.specs.Playing.{IsAt, Follows, IsAnswered, played_text, played_count, PlaysAll};
 

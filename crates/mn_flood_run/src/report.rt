@@ -1,11 +1,6 @@
 //! The lines of the report, put on a page.
 ghost use Rattle.std.specs.Prelude.{◌≡◌, ◌<◌, length};
-ghost use Rattle.mn_wiring.specs.Wiring.{View};
-ghost use Rattle.mn_linkdb.specs.Trees.{IsTree};
-ghost use Rattle.mn_topo.specs.Network.{wiring_of};
-ghost use Rattle.mn_lines.specs.Lines.{refused_line};
-ghost use Rattle.mn_flood_laws.specs.Flood.{flooded};
-ghost use Rattle.mn_tables.specs.Telling.{standing, Tells};
+ghost use Rattle.mn_flood_run.specs.Prelude.{View, IsTree, wiring_of, refused_line, flooded, standing, Tells};
 ghost use Rattle.mn_flood_run.specs.Report.{tree_text, trees_text, total_line};
 ghost use Rattle.mn_flood_run.specs.Playing.{bad_name, walk_row};
 

@@ -12,10 +12,7 @@
 #![tactic(auto)]
 
 ghost use Rattle.std.specs.Prelude.{ℕ, List};
-ghost use Rattle.mn_topo.specs.Lawful.{IsLawful};
-ghost use Rattle.mn_topo.specs.Network.{Network};
-ghost use Rattle.mn_topo.specs.declared.steps.JournalEntry.{JournalEntry};
-ghost use Rattle.mn_ledger.specs.Lawful.{IsLawfulJournal};
+ghost use Rattle.mn_ledger.specs.Prelude.{IsLawful, Network, JournalEntry, IsLawfulJournal};
 ghost use Rattle.mn_item_laws.specs.Few.{MakesFew};
 
 /// A lawful journal makes at most 35,000,000,000 items for each entry, and fewer than 2 ^ 62 in all.

@@ -1,3 +1,4 @@
+pub mod Prelude
 pub mod Course
 pub mod Report
 pub mod Reading

@@ -1,10 +1,6 @@
 //! What became of packets, and how many of each.
 ghost use Rattle.std.specs.Prelude.{◌≡◌, ◌<◌, false, ◌++◌, ◌∷◌, [], ℕ, List, length};
-ghost use Rattle.mn_ledger.specs.Ledger.{packets_of};
-ghost use Rattle.mn_ledger.specs.Verdicts.{verdict_on};
-ghost use Rattle.mn_leg_laws.specs.Pairing.{Pairing, Both, travel, packets_in};
-ghost use Rattle.mn_net_laws.specs.Now.{StandsFor};
-ghost use Rattle.mn_option_a.specs.Pairs.{PairStands};
+ghost use Rattle.mn_join_report.specs.Prelude.{packets_of, verdict_on, Pairing, Both, travel, packets_in, StandsFor, PairStands};
 ghost use Rattle.mn_join_report.specs.Reading.{IsJoined, CountSome};
 ghost use Rattle.mn_join_report.specs.Report.{last_leg, end_of, ends_of, totals_of};
 

@@ -1,12 +1,7 @@
 //! The lines of the report, put on a page.
 ghost use Rattle.std.specs.Prelude.{◌≡◌, ◌<◌, ◌+◌, ◌^◌, ℕ, ◌∷◌, [], codes, length, map, slice_index_or};
 ghost use Rattle.std.specs.List.{flat_map};
-ghost use Rattle.mn_leg_laws.specs.Pairing.{Pairing, Both, travel, network};
-ghost use Rattle.mn_lines.specs.Lines.{text};
-ghost use Rattle.mn_lines.specs.Names.{names_of, name_at, ends_at, pairs_of, sender_of, hearer_of};
-ghost use Rattle.mn_option_a.specs.Pairs.{PairStands, net_of};
-ghost use Rattle.mn_report.specs.Shown.{sending_of};
-ghost use Rattle.mn_tables.specs.Telling.{standing, Tells};
+ghost use Rattle.mn_join_report.specs.Prelude.{Pairing, Both, travel, network, text, names_of, name_at, ends_at, pairs_of, sender_of, hearer_of, PairStands, net_of, sending_of, standing, Tells};
 ghost use Rattle.mn_join_report.specs.Course.{JoinRun};
 ghost use Rattle.mn_join_report.specs.Reading.{IsJoined, AreOf};
 ghost use Rattle.mn_join_report.specs.Report.{number_text, leg_text, verdict_text, end_text, end_of, sent_text, no_line, packet_line, packets_text, total_line, ended_text};

@@ -1,3 +1,4 @@
+pub mod Prelude
 pub mod Outside
 pub mod Playing
 pub mod Answer

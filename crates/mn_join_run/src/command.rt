@@ -1,14 +1,7 @@
 //! The whole command, over a shelf of files and a sink.
 ghost use Rattle.std.specs.Prelude.{◌≡◌, ◌≢◌, false, ℕ, List, Some, Ok, All, true, option_map};
 ghost use Rattle.std.specs.Option.{ForSome};
-ghost use Rattle.mn_edge.specs.Files.{file};
-ghost use Rattle.mn_answer.specs.Endings.{Answers, CausedBy, HasNone};
-ghost use Rattle.mn_joints.specs.Joints.{joints_of};
-ghost use Rattle.mn_join_report.specs.Pairs.{AreSites, AreApart, pairing_of};
-ghost use Rattle.mn_perform.specs.Inside.{is_inside};
-ghost use Rattle.mn_script.specs.Reading.{lines_of};
-ghost use Rattle.mn_topo_toml.specs.Topology.{topology_of};
-ghost use Rattle.mn_join_script.specs.Language.{join_says, line_fits};
+ghost use Rattle.mn_join_run.specs.Prelude.{file, Answers, CausedBy, HasNone, joints_of, AreSites, AreApart, pairing_of, is_inside, lines_of, topology_of, join_says, line_fits};
 ghost use Rattle.mn_join_run.specs.Answer.{join_answer, with_first, with_both, with_pairing, with_script};
 ghost use Rattle.mn_join_run.specs.Headline.{IsJoinTold};
 

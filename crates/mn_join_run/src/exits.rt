@@ -2,14 +2,8 @@
 ghost use Rattle.std.specs.Prelude.{◌≡◌, ◌++◌, ◌∷◌, [], ℕ, List, IfOk, OnOk, OnErr, Some, None};
 ghost use Rattle.std.specs.List.{flat_map};
 ghost use Rattle.std.specs.Option.{ForSome};
-ghost use Rattle.mn_edge.specs.Faults.{Counted, CountedUnless};
-ghost use Rattle.mn_edge.specs.Files.{Files};
-ghost use Rattle.mn_edge.specs.Kept.{Framed, Lacking};
-ghost use Rattle.mn_edge.specs.Laid.{named};
-ghost use Rattle.mn_edge.specs.Written.{laid, texts, PartWritten};
-ghost use Rattle.mn_leg_laws.specs.Course.{Exit};
-ghost use Rattle.mn_pcap.specs.Format.{header, record_of};
-ghost use Rattle.mn_join_report.specs.Report.{exit_record, exits_file};
+ghost use Rattle.mn_join_run.specs.Prelude.{Counted, CountedUnless, Files, Framed, Lacking, named, laid, texts, PartWritten, Exit, header, exit_record, exits_file};
+ghost use Rattle.mn_pcap.specs.Format.{record_of};
 ghost use Rattle.mn_join_run.specs.Answer.{exits_name};
 ghost use Rattle.mn_join_run.specs.Outside.{Holding, Beginning};
 

@@ -1,10 +1,8 @@
 //! The packets that lines name.
 ghost use Rattle.std.specs.Prelude.{◌≡◌, ℕ, List, option_map, IfOk};
 ghost use Rattle.std.specs.Option.{ForSome};
-ghost use Rattle.mn_edge.specs.Faults.{CountedUnless};
-ghost use Rattle.mn_edge.specs.Files.{Absent};
+ghost use Rattle.mn_join_run.specs.Prelude.{CountedUnless, Absent, told_packets};
 ghost use Rattle.mn_course_laws.specs.Course.{record_of};
-ghost use Rattle.mn_perform.specs.Recorded.{told_packets};
 ghost use Rattle.mn_join_run.specs.Playing.{IsPacket};
 
 use mn_capture::Capture;

@@ -1,15 +1,6 @@
 //! The lines of a script, one after another.
 ghost use Rattle.std.specs.Prelude.{◌≡◌, true, All, None, Some, map};
-ghost use Rattle.mn_edge.specs.Kept.{Framed, Lacking};
-ghost use Rattle.mn_perform.specs.Recorded.{told_packets};
-ghost use Rattle.mn_perform.specs.Faults.{Blamed};
-ghost use Rattle.mn_perform.specs.Shown.{sending_of};
-ghost use Rattle.mn_leg_laws.specs.Pairing.{Pairing, network};
-ghost use Rattle.mn_leg_laws.specs.Course.{PairCourse};
-ghost use Rattle.mn_join_report.specs.Pairs.{net_of};
-ghost use Rattle.mn_join_script.specs.Language.{line_fits};
-ghost use Rattle.mn_join_report.specs.Course.{JoinRun, at_start, after_course, with_packet};
-ghost use Rattle.mn_join_report.specs.Report.{refused_texts, exits_file};
+ghost use Rattle.mn_join_run.specs.Prelude.{Framed, Lacking, told_packets, Blamed, sending_of, Pairing, network, PairCourse, net_of, line_fits, JoinRun, at_start, after_course, with_packet, refused_texts, exits_file};
 ghost use Rattle.mn_join_run.specs.Outside.{Start, Stands, outside};
 ghost use Rattle.mn_join_run.specs.Playing.{Keeps, Went, LineWent, AllWent, IsNoted, ending_of};
 

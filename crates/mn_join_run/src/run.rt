@@ -1,18 +1,7 @@
 //! A whole run: the lines of a script on two joined networks, with the file of what comes out and the report.
 ghost use Rattle.std.specs.Prelude.{◌≡◌, ◌≢◌, None, Some, true, false, All, Ok, OnOk};
 ghost use Rattle.std.specs.Option.{ForSome};
-ghost use Rattle.mn_edge.specs.Faults.{Counted};
-ghost use Rattle.mn_edge.specs.Files.{Absent, file};
-ghost use Rattle.mn_edge.specs.Kept.{Framed, Lacking};
-ghost use Rattle.mn_answer.specs.Endings.{Answers, CausedBy};
-ghost use Rattle.mn_capture.specs.Packets.{packets_in};
-ghost use Rattle.mn_leg_laws.specs.Pairing.{Pairing, at_first};
-ghost use Rattle.mn_join_report.specs.Pairs.{pairing_of, AreSites, AreApart, PairStands};
-ghost use Rattle.mn_perform.specs.Faults.{Blamed};
-ghost use Rattle.mn_perform.specs.Inside.{is_inside};
-ghost use Rattle.mn_tables.specs.Telling.{standing, Tells};
-ghost use Rattle.mn_join_script.specs.Language.{line_fits};
-ghost use Rattle.mn_join_report.specs.Course.{JoinRun, run_of};
+ghost use Rattle.mn_join_run.specs.Prelude.{Counted, Absent, file, Framed, Lacking, Answers, CausedBy, packets_in, Pairing, at_first, pairing_of, AreSites, AreApart, PairStands, Blamed, is_inside, standing, Tells, line_fits, JoinRun, run_of};
 ghost use Rattle.mn_join_run.specs.Answer.{join_done};
 ghost use Rattle.mn_join_run.specs.Outside.{Start, outside};
 ghost use Rattle.mn_join_run.specs.Playing.{Went};

@@ -1,10 +1,7 @@
 //! The script from its file.
 ghost use Rattle.std.specs.Prelude.{◌≡◌, IfOk, Some};
 ghost use Rattle.std.specs.Option.{ForSome};
-ghost use Rattle.mn_edge.specs.Faults.{CountedUnless};
-ghost use Rattle.mn_edge.specs.Files.{Absent, file};
-ghost use Rattle.mn_answer.specs.Inputs.{IsSound, LinesAre, LinesFit};
-ghost use Rattle.mn_join_script.specs.Language.{join_says, line_fits};
+ghost use Rattle.mn_join_run.specs.Prelude.{CountedUnless, Absent, file, IsSound, LinesAre, LinesFit, join_says, line_fits};
 
 use mn_answer::{Limit, MOST_SCRIPT_BYTES, Outcome, too_large};
 use mn_base::MOST_SCRIPT_LINES;

@@ -1,11 +1,8 @@
 //! From the bytes of a journal to its entries.
 ghost use Rattle.std.specs.Prelude.{◌≡◌, [], true, List, All, IfOk, IfSome};
 ghost use Rattle.std.specs.List.{flat_map};
-ghost use Rattle.mn_text.specs.Words.{words};
-ghost use Rattle.mn_script.specs.Lines.{line_says};
-ghost use Rattle.mn_script.specs.Words.{line_words, texts};
-ghost use Rattle.mn_entry.specs.Entries.{entry_fits};
-ghost use Rattle.mn_topo.specs.declared.steps.JournalEntry.{JournalEntry};
+ghost use Rattle.mn_journal.specs.Prelude.{words, line_says, line_words, entry_fits, JournalEntry};
+ghost use Rattle.mn_script.specs.Words.{texts};
 ghost use Rattle.mn_journal.specs.Lines.{line_of, IsEntry};
 ghost use Rattle.mn_journal.specs.Reading.{asked_by, entry_at, Again, Says, Reads, Takes};
 

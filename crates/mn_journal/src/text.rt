@@ -1,8 +1,6 @@
 //! The texts of prefixes and targets, on the stack.
 ghost use Rattle.std.specs.Prelude.{◌≡◌, ◌+◌, ◌≤◌, ◌<◌, ◌^◌, ◌++◌, ◌∷◌, [], decimal, length, true};
-ghost use Rattle.mn_base.specs.Numbers.{has_rt_form};
-ghost use Rattle.mn_text.specs.Addresses.{address_text, prefix_text};
-ghost use Rattle.mn_text.specs.Pairs.{pair_text, rt_text};
+ghost use Rattle.mn_journal.specs.Prelude.{has_rt_form, address_text, prefix_text, pair_text, rt_text};
 
 use itoa::{Buffer, Integer};
 use mn_base::Rt;

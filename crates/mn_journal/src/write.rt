@@ -1,17 +1,6 @@
 //! From an entry to its line.
 ghost use Rattle.std.specs.Prelude.{◌≡◌, ◌+◌, ◌<◌, ◌≤◌, ◌++◌, ◌∷◌, [], IfSome, OnOk, OnErr, length, take, true, slice_index_or, codes, if◌then◌else◌};
-ghost use Rattle.mn_wiring.specs.declared.links.Dir.TheVariants.{Forth};
-ghost use Rattle.mn_wiring.specs.Wiring.{sender, receiver};
-ghost use Rattle.mn_script.specs.Spelled.{node_text, vrf_text, site_text, from_text, to_text, step_words, damage_words};
-ghost use Rattle.mn_text.specs.Addresses.{prefix_text};
-ghost use Rattle.mn_text.specs.Numbers.{number_text};
-ghost use Rattle.mn_text.specs.Pairs.{rt_text};
-ghost use Rattle.mn_topo.specs.Network.{wiring_of};
-ghost use Rattle.mn_topo.specs.declared.steps.Damage.TheVariants.{Ldp, Bgp};
-ghost use Rattle.mn_topo.specs.declared.steps.Step.TheVariants.{Carry, Inject};
-ghost use Rattle.mn_entry.specs.Damages.{damage_fits};
-ghost use Rattle.mn_entry.specs.Entries.{entry_fits};
-ghost use Rattle.mn_topo.specs.Steps.{fits};
+ghost use Rattle.mn_journal.specs.Prelude.{Forth, sender, receiver, node_text, vrf_text, site_text, from_text, to_text, step_words, damage_words, prefix_text, number_text, rt_text, wiring_of, Ldp, Bgp, Carry, Inject, damage_fits, entry_fits, fits};
 ghost use Rattle.mn_journal.specs.Lines.{entry_words, joined, line_of, spaced, text_of, texts, Grew};
 
 use crate::text::{prefix_text, target_text};

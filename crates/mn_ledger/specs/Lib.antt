@@ -1,3 +1,4 @@
+pub mod Prelude
 pub mod Entry
 pub mod Tables
 pub mod World

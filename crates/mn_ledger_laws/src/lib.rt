@@ -22,15 +22,7 @@
 #![tactic(auto)]
 
 ghost use Rattle.std.specs.Prelude.{ℕ, List, ◌≡◌, ◌<◌, true, length};
-ghost use Rattle.mn_wiring.specs.Wiring.{Wiring, is_end};
-ghost use Rattle.mn_topo.specs.Lawful.{IsLawful};
-ghost use Rattle.mn_topo.specs.Network.{Network, wiring_of};
-ghost use Rattle.mn_topo.specs.declared.steps.JournalEntry.{JournalEntry};
-ghost use Rattle.mn_ledger.specs.Ldp.{Knowledge};
-ghost use Rattle.mn_ledger.specs.World.{Config, Export, Peerings};
-ghost use Rattle.mn_ledger.specs.Ledger.{world_of, packets_of};
-ghost use Rattle.mn_ledger.specs.Lawful.{IsLawfulJournal};
-ghost use Rattle.mn_ledger.specs.Verdicts.{injections};
+ghost use Rattle.mn_ledger.specs.Prelude.{Wiring, is_end, IsLawful, Network, wiring_of, JournalEntry, Knowledge, Config, Export, Peerings, world_of, packets_of, IsLawfulJournal, injections};
 ghost use Rattle.mn_ledger_laws.specs.Accounts.{Accounts};
 ghost use Rattle.mn_ledger_laws.specs.Believed.{BelievesLastMentions};
 ghost use Rattle.mn_ledger_laws.specs.Flight.{FliesAsCounted};

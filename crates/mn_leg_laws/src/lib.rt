@@ -19,11 +19,7 @@
 #![tactic(auto)]
 
 ghost use Rattle.std.specs.Prelude.{◌≡◌, ◌≤◌, ◌+◌, ℕ, List, ◌∷◌, length};
-ghost use Rattle.mn_topo.specs.Lawful.{IsLawful};
-ghost use Rattle.mn_ledger.specs.Held.{HeldRoute};
-ghost use Rattle.mn_ledger.specs.Lawful.{IsLawfulJournal};
-ghost use Rattle.mn_ledger.specs.Verdicts.{injections};
-ghost use Rattle.mn_ipv4.specs.Header.{ttl_of};
+ghost use Rattle.mn_ledger.specs.Prelude.{IsLawful, HeldRoute, IsLawfulJournal, injections, ttl_of};
 ghost use Rattle.mn_ledger_laws.specs.Accounts.{IsPassedOn};
 ghost use Rattle.mn_leg_laws.specs.Pairing.{Pairing, at_first};
 ghost use Rattle.mn_leg_laws.specs.Legs.{Line, after_lines, AllHaveLegs, ArriveByTheirLegs};

@@ -1,3 +1,4 @@
+pub mod Prelude
 pub mod Telling
 pub mod Message
 pub mod Standing

@@ -1,9 +1,7 @@
 ghost use Rattle.std.specs.Prelude.{◌≡◌, ◌≢◌, ◌≤◌, ◌<◌, ◌++◌, [], ℕ, List, All, None, Some, Ok, Err, length, map, slice_index_or, OnOk, IfOk, IfErr, MatchResult, option_map};
 ghost use Rattle.std.specs.Option.{option_to_list};
-ghost use Rattle.mn_ldp_wire.specs.Grammar.{IsLawful};
-ghost use Rattle.mn_node.specs.Node.{session_at};
+ghost use Rattle.mn_lsr.specs.Prelude.{IsLawful, session_at, AreSpelled, message_in};
 ghost use Rattle.mn_node.specs.Node as node;
-ghost use Rattle.mn_ldp_session.specs.Spelling.{AreSpelled, message_in};
 ghost use Rattle.mn_lsr.specs.Said.{pdu_of};
 ghost use Rattle.mn_lsr.specs.Message.{meaning, meant};
 ghost use Rattle.mn_lsr.specs.Replies.{heard_by};

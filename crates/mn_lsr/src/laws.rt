@@ -1,11 +1,6 @@
 //! Laws of the definitions, each the contract of a function that does nothing.
 ghost use Rattle.std.specs.Prelude.{ℕ};
-ghost use Rattle.mn_wiring.specs.Wiring.{Wiring};
-ghost use Rattle.mn_node.specs.Ldp.{Message};
-ghost use Rattle.mn_node.specs.Node.{Node, Session};
-ghost use Rattle.mn_node.specs.Machine.{Event};
-ghost use Rattle.mn_ldp_session.specs.Routers.{routers_in_a_row};
-ghost use Rattle.mn_ldp_session.specs.Spelling.{AreSpelled};
+ghost use Rattle.mn_lsr.specs.Prelude.{Wiring, Message, Node, Session, Event, routers_in_a_row, AreSpelled};
 ghost use Rattle.mn_lsr.specs.Standing.{IsWired};
 ghost use Rattle.mn_lsr.specs.Turns.{Kept};
 ghost use Rattle.mn_lsr.specs.InNetwork.{Labelling, IsHeardInside, SpeaksInside, MayBeHeard, IsHeardAsOne};

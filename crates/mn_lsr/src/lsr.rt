@@ -1,16 +1,7 @@
 ghost use Rattle.std.specs.Prelude.{◌≡◌, ◌≢◌, ◌≤◌, ◌<◌, ◌+◌, [], ◌↔◌, ℕ, true, false, None, Some, Ok, Err, length, map, slice_index, IfOk, IfErr, OnOk, OnErr, IsErr, IsErrOf, IsTrue, MatchResult, option_map};
-ghost use Rattle.mn_base.specs.Limits.{most_labels};
-ghost use Rattle.mn_wiring.specs.Wiring.{Wiring, is_end};
-ghost use Rattle.mn_node.specs.Node.{Session, session_at, view_in};
+ghost use Rattle.mn_lsr.specs.Prelude.{most_labels, Wiring, is_end, Session, session_at, view_in, none_given, own_labels, greatest, attached, attachments_in, meaning_of, IsTold, at_first, use_of, fresh_node, Learns, Opens, Closes, changed, said, after_event, IsTree, forwarded, pdus};
 ghost use Rattle.mn_labels.specs.declared.meaning.Bind.TheVariants as bind;
-ghost use Rattle.mn_labels.specs.Labels.{none_given, own_labels, greatest, attached, attachments_in, meaning_of, IsTold};
-ghost use Rattle.mn_rest.specs.Rests.{at_first};
 ghost use Rattle.mn_lfib.specs.declared.answer.Use.TheVariants as use_kind;
-ghost use Rattle.mn_lfib.specs.Uses.{use_of};
-ghost use Rattle.mn_node.specs.Machine.{fresh_node, Learns, Opens, Closes, changed, said, after_event};
-ghost use Rattle.mn_linkdb.specs.Trees.{IsTree};
-ghost use Rattle.mn_lfib.specs.Forwarding.{forwarded};
-ghost use Rattle.mn_ldp_session.specs.Spelling.{pdus};
 ghost use Rattle.mn_lsr.specs.Standing.{IsWired, IsMendedFor, FitsOuter, TableStands, SitesKeep, HasNumbers, IsAttachment, attachments, way_to, label_sent, sent_to, state_in};
 ghost use Rattle.mn_lsr.specs.Turns.{kept_in, labels_then, resting_then};
 ghost use Rattle.mn_lsr.specs.Hearing.{after_bytes};

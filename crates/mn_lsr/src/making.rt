@@ -1,7 +1,5 @@
 ghost use Rattle.std.specs.Prelude.{◌≡◌, ◌<◌, [], length, IfOk};
-ghost use Rattle.mn_node.specs.Machine.{fresh_node};
-ghost use Rattle.mn_labels.specs.Labels.{none_given};
-ghost use Rattle.mn_rest.specs.Rests.{at_first};
+ghost use Rattle.mn_lsr.specs.Prelude.{fresh_node, none_given, at_first};
 ghost use Rattle.mn_lsr.specs.Standing.{IsWired};
 ghost use Rattle.mn_lsr.specs.Parts.{wiring_in, kept_of, Stands};
 

@@ -1,7 +1,5 @@
 ghost use Rattle.std.specs.Prelude.{◌≡◌, ◌≤◌, ◌<◌, [], ◌==◌, length, position, IfOk, IfSome, option_map};
-ghost use Rattle.mn_ldp_wire.specs.Grammar.{written, IsWritable};
-ghost use Rattle.mn_labels.specs.Labels.{own_labels};
-ghost use Rattle.mn_ldp_session.specs.Spelling.{AreSpelled, body_of, id_of, node_of};
+ghost use Rattle.mn_lsr.specs.Prelude.{written, IsWritable, own_labels, AreSpelled, body_of, id_of, node_of};
 ghost use Rattle.mn_lsr.specs.Message.{meaning, NamesNode, HasLabel, as_node};
 
 use crate::ways::own_label;

@@ -1,9 +1,7 @@
 ghost use Rattle.std.specs.Prelude.{◌≡◌, ◌≢◌, ◌<◌, ◌+◌, ◌↔◌, ℕ, Some, OnOk, OnErr, IfOk, IsErrOf, length, slice_index_or};
-ghost use Rattle.mn_base.specs.Limits.{most_labels};
+ghost use Rattle.mn_lsr.specs.Prelude.{most_labels, greatest, attached, attachments_in, meaning_of, use_of};
 ghost use Rattle.mn_labels.specs.declared.meaning.Bind.TheVariants as bind;
-ghost use Rattle.mn_labels.specs.Labels.{greatest, attached, attachments_in, meaning_of};
 ghost use Rattle.mn_lfib.specs.declared.answer.Use.TheVariants as use_kind;
-ghost use Rattle.mn_lfib.specs.Uses.{use_of};
 ghost use Rattle.mn_lsr.specs.Standing.{IsAttachment, attachments};
 ghost use Rattle.mn_lsr.specs.Parts.{Stands};
 

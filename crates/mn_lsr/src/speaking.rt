@@ -1,9 +1,7 @@
 ghost use Rattle.std.specs.Prelude.{◌≡◌, ◌≤◌, ◌<◌, ◌+◌, ◌∷◌, ◌++◌, [], ℕ, List, None, length, map, slice_index_or, option_map, OnOk};
 ghost use Rattle.std.specs.List.{flat_map};
-ghost use Rattle.mn_wiring.specs.Wiring.{joining, JoinsNodes};
-ghost use Rattle.mn_labels.specs.Labels.{Labels as NodeLabels, own_labels};
-ghost use Rattle.mn_ldp_session.specs.Spelling.{pdu};
-ghost use Rattle.mn_node.specs.Ldp.{said_on};
+ghost use Rattle.mn_lsr.specs.Prelude.{joining, JoinsNodes, own_labels, pdu, said_on};
+ghost use Rattle.mn_labels.specs.Labels.{Labels as NodeLabels};
 ghost use Rattle.mn_lsr.specs.Message.{meaning, NamesNode, HasLabel};
 ghost use Rattle.mn_lsr.specs.Telling.{said_by_tell, message_of, MayBring, MayTell, other_end, AreLinks};
 ghost use Rattle.mn_lsr.specs.Said.{pdu_of};

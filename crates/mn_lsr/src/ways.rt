@@ -1,14 +1,9 @@
 ghost use Rattle.std.specs.Prelude.{◌≡◌, ◌≢◌, ◌≤◌, ◌<◌, ◌&&◌, ℕ, [], Some, OnOk, IfOk, is_some, true};
 ghost use Rattle.std.specs.List.{flat_map, range_with_len};
-ghost use Rattle.mn_labels.specs.Labels.{label_now, own_labels, numbers, IsTold};
-ghost use Rattle.mn_ldp_wire.specs.Grammar.{IsLabel};
-ghost use Rattle.mn_lib.specs.Bindings.{nodes, usable, after_events, EventsFit};
-ghost use Rattle.mn_lib.specs.Known.{is_free};
-ghost use Rattle.mn_lib.specs.News.{begun, InOrder, AreBelow, Apart, fecs_in};
+ghost use Rattle.mn_lsr.specs.Prelude.{label_now, own_labels, numbers, IsTold, IsLabel, nodes, usable, after_events, EventsFit, is_free, begun, InOrder, AreBelow, Apart, fecs_in, use_of, fec_use, IsNotSite, IsNextHop};
 ghost use Rattle.mn_lsr.specs.Message.{HasOne};
 ghost use Rattle.mn_lsr.specs.Parts.{free_of};
 ghost use Rattle.mn_lsr.specs.Telling.{opens_one};
-ghost use Rattle.mn_lfib.specs.Uses.{use_of, fec_use, IsNotSite, IsNextHop};
 
 use mn_base::NodeNo;
 use mn_labels::Labels;

@@ -1,3 +1,4 @@
+pub mod Prelude
 pub mod Turns
 pub mod Told
 pub mod Landing

@@ -1,19 +1,8 @@
 //! What is told of edges: the states of their sessions, and the routes that their VRFs hold.
 ghost use Rattle.std.specs.Prelude.{◌≡◌, ◌+◌, ◌<◌, ℕ, false, filter, length, option_map};
-ghost use Rattle.mn_ledger.specs.Ledger.{world_of};
-ghost use Rattle.mn_ledger.specs.Places.{edge_of};
-ghost use Rattle.mn_ledger.specs.Bgp.{bgp_state_of};
-ghost use Rattle.mn_ledger.specs.Held.{HeldRoute, held, best};
-ghost use Rattle.mn_ledger.specs.Eligible.{eligible, is_resolved};
-ghost use Rattle.mn_frame_laws.specs.Entries.{AreWays};
-ghost use Rattle.mn_frame_laws.specs.Given.{given};
-ghost use Rattle.mn_frame_laws.specs.Numbers.{labels_of};
-ghost use Rattle.mn_pe.specs.Entries.{source_of, as_held as given_held};
-ghost use Rattle.mn_routing_laws.specs.Sources.{as_held};
-ghost use Rattle.mn_ledger.specs.Settled.{IsSettled};
-ghost use Rattle.mn_settled_laws.specs.Routes.{eligible_of};
-ghost use Rattle.mn_ledger.specs.Heads.{best_for, held_at};
-ghost use Rattle.mn_vrf.specs.Vrf.{IsHeldAt};
+ghost use Rattle.mn_ledger.specs.Prelude.{world_of, edge_of, bgp_state_of, HeldRoute, held, best, eligible, is_resolved, IsSettled, best_for, held_at};
+ghost use Rattle.mn_net.specs.Prelude.{AreWays, given, labels_of, source_of, as_held, eligible_of, IsHeldAt};
+ghost use Rattle.mn_pe.specs.Entries.{as_held as given_held};
 
 use crate::net::Net;
 use mn_base::{NodeNo, VrfNo};

@@ -1,15 +1,8 @@
 //! What becomes of a packet that a site sends, and the way out for it.
 ghost use Rattle.std.specs.Prelude.{◌≡◌, ◌<◌, ◌&&◌, ℕ, true, List, length, IfOk};
-ghost use Rattle.mn_topo.specs.declared.steps.JournalEntry.{JournalEntry};
-ghost use Rattle.mn_ledger.specs.Ledger.{world_of};
-ghost use Rattle.mn_ledger.specs.Lawful.{IsLawfulJournal};
-ghost use Rattle.mn_ledger.specs.Places.{home_of};
-ghost use Rattle.mn_frame_laws.specs.Given.{given};
-ghost use Rattle.mn_pe.specs.Entries.{IsItsFate, IsBoundBelow};
-ghost use Rattle.mn_transit.specs.Entering.{IsWayOut, OuterFits, HasRoom};
-ghost use Rattle.mn_transport_laws.specs.Stands.{IsTransport};
-ghost use Rattle.mn_routing_laws.specs.Routed.{IsRoutes};
-ghost use Rattle.mn_net_laws.specs.Bound.{is_cut_off};
+ghost use Rattle.mn_ledger.specs.Prelude.{JournalEntry, world_of, IsLawfulJournal, home_of};
+ghost use Rattle.mn_net.specs.Prelude.{given, IsItsFate, IsBoundBelow, IsWayOut, OuterFits, IsTransport, IsRoutes, is_cut_off};
+ghost use Rattle.mn_transit.specs.Entering.{HasRoom};
 
 use mn_base::{NodeNo, SiteNo};
 use mn_net_refusals::{Routes, Transport};

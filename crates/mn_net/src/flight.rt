@@ -1,10 +1,7 @@
 //! What is told of items in flight.
 ghost use Rattle.std.specs.Prelude.{◌≡◌, ◌<◌, ◌≤◌, ◌*◌, ◌/◌, ◌%◌, ◌^◌, ℕ, List, [], false, true, None, option_map};
-ghost use Rattle.mn_stack.specs.Labelled.{frame_bytes};
-ghost use Rattle.mn_ledger.specs.Items.{flight_of};
+ghost use Rattle.mn_net.specs.Prelude.{frame_bytes, flight_of, dir_of, StandsFor};
 ghost use Rattle.mn_course_laws.specs.declared.coming.Kind.TheVariants as kind;
-ghost use Rattle.mn_net_refusals.specs.Coming.{dir_of};
-ghost use Rattle.mn_net_laws.specs.Now.{StandsFor};
 ghost use Rattle.mn_net.specs.declared.flight.Channel.TheVariants as channel;
 ghost use Rattle.mn_net.specs.Told.{told_at};
 ghost use Rattle.mn_net.specs.Tables.{count_of};

@@ -1,14 +1,11 @@
 //! What is kept, and the clock.
 ghost use Rattle.std.specs.Prelude.{◌≡◌, ◌≤◌, ◌<◌, ◌^◌, ℕ, List, [], true, false, Err, IfOk, IfSome, OnOk, OnErr, IsErr, IsErrOf};
 ghost use Rattle.std.specs.List.{All};
-ghost use Rattle.mn_topo.specs.Steps.{fits};
+ghost use Rattle.mn_ledger.specs.Prelude.{fits, refusal, with_packet};
 ghost use Rattle.mn_topo.specs.declared.steps.Step.TheVariants as step;
-ghost use Rattle.mn_ledger.specs.Refusal.{refusal};
-ghost use Rattle.mn_ledger.specs.OneMore.{with_packet};
 ghost use Rattle.mn_ledger.specs.declared.refused.Refused.TheVariants as why;
-ghost use Rattle.mn_net_laws.specs.Now.{StandsFor, HasRoom, but_spare};
-ghost use Rattle.mn_net_laws.specs.Labels.{LabelsMean};
-ghost use Rattle.mn_net_laws.specs.Done.{Answers, Refuses, IsLonger, HasFailed, Leaves, MayBeDone, IsDone, is_of_frames, TakesOne, TakesRoom};
+ghost use Rattle.mn_net.specs.Prelude.{StandsFor, but_spare, LabelsMean, Answers, Refuses, IsLonger, HasFailed, Leaves, MayBeDone, IsDone, is_of_frames, TakesOne, TakesRoom};
+ghost use Rattle.mn_net_laws.specs.Now.{HasRoom};
 
 use crate::turns::{LinkTurn, RouteTurn};
 use mn_ledger::Refused;

@@ -1,14 +1,10 @@
 //! What comes next.
 ghost use Rattle.std.specs.Prelude.{◌≡◌, ◌≤◌, ◌+◌, ℕ, List, true, false, None, IfSome};
 ghost use Rattle.std.specs.List.{All};
-ghost use Rattle.mn_topo.specs.Steps.{fits};
-ghost use Rattle.mn_ledger.specs.Ledger.{injects};
-ghost use Rattle.mn_ledger.specs.Time.{ticks_in};
-ghost use Rattle.mn_ledger_laws.specs.Flight.{IsOpen};
-ghost use Rattle.mn_course_laws.specs.Coming.{coming as ledgers, delivery};
-ghost use Rattle.mn_course_laws.specs.Next.{first_due};
+ghost use Rattle.mn_ledger.specs.Prelude.{fits, injects, ticks_in};
+ghost use Rattle.mn_net.specs.Prelude.{IsOpen, delivery, first_due, StandsFor};
+ghost use Rattle.mn_course_laws.specs.Coming.{coming as ledgers};
 ghost use Rattle.mn_course_laws.specs.declared.coming.Kind;
-ghost use Rattle.mn_net_laws.specs.Now.{StandsFor};
 
 use crate::net::Net;
 use mn_course_laws::{Coming, Kind};

@@ -1,3 +1,4 @@
+pub mod Prelude
 pub mod Parts
 pub use Rattle.mn_net_laws.specs.Coming
 pub use Rattle.mn_net_laws.specs.Refusal

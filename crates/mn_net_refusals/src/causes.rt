@@ -1,15 +1,9 @@
 //! The causes for which a step is refused, one by one.
 ghost use Rattle.std.specs.Prelude.{◌≡◌, ◌<◌, ◌≤◌, ◌+◌, ◌*◌, ℕ, true, length, nat_le, unwrap_or, Some};
-ghost use Rattle.mn_base.specs.Limits.{most_targets};
-ghost use Rattle.mn_topo.specs.Steps.{fits};
-ghost use Rattle.mn_transit.specs.Moving.{Moving};
-ghost use Rattle.mn_ledger.specs.Refusal.{agree, takes_out};
-ghost use Rattle.mn_routing_laws.specs.Routed.{Routed};
-ghost use Rattle.mn_transport_laws.specs.Carried.{Carried};
+ghost use Rattle.mn_ledger.specs.Prelude.{most_targets, fits, agree, takes_out};
+ghost use Rattle.mn_net_refusals.specs.Prelude.{Moving, Routed, Carried, VrfState, of_vrf, is_so, has_nothing, of_static, has_all_targets, has_given_all, has_no_room, has_too_much};
 ghost use Rattle.mn_net_laws.specs.Tallies.{Tally as Counts};
 ghost use Rattle.mn_net_refusals.specs.Parts.{HaveSizes, HaveFecs, shown, asked_in, packed_of, seen_in};
-ghost use Rattle.mn_vrf.specs.Vrf.{VrfState};
-ghost use Rattle.mn_net_laws.specs.Refusal.{of_vrf, is_so, has_nothing, of_static, has_all_targets, has_given_all, has_no_room, has_too_much};
 
 use crate::sites::{exports, imports, is_attached, site_with, vrf_at};
 use mn_base::{LinkNo, MOST_FLYING_BYTES, MOST_IN_FLIGHT, MOST_STATIC_ROUTES, MOST_TARGETS, VrfNo};

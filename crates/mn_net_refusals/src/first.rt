@@ -1,7 +1,6 @@
 //! Why a step is refused.
 ghost use Rattle.std.specs.Prelude.{◌≡◌, ℕ, true, List, length};
-ghost use Rattle.mn_topo.specs.Steps.{fits};
-ghost use Rattle.mn_topo.specs.declared.steps.JournalEntry.{JournalEntry};
+ghost use Rattle.mn_ledger.specs.Prelude.{fits, JournalEntry};
 ghost use Rattle.mn_ledger.specs.Refusal.{refusal as ledgers};
 ghost use Rattle.mn_net_refusals.specs.Parts.{PartsStand, HaveSizes, seen_in, limit_seen};
 ghost use Rattle.mn_net_laws.specs.Refusal.{refusal_seen};

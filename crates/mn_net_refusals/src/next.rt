@@ -1,14 +1,9 @@
 //! What comes next of each kind.
 ghost use Rattle.std.specs.Prelude.{◌≡◌, ◌<◌, ◌≤◌, ◌*◌, ◌+◌, ◌^◌, ℕ, Bool, false, List, length, option_map};
 ghost use Rattle.std.specs.List.{All};
-ghost use Rattle.mn_topo.specs.declared.steps.JournalEntry.{JournalEntry};
-ghost use Rattle.mn_course_laws.specs.Coming.{coming as ledgers, is_due_before, earlier};
-ghost use Rattle.mn_course_laws.specs.Next.{IsNext};
-ghost use Rattle.mn_timetable_laws.specs.Keys.{key_of, keys_in};
-ghost use Rattle.mn_net_laws.specs.Rising.{AreRising};
-ghost use Rattle.mn_net_laws.specs.Tallies.{is_one};
+ghost use Rattle.mn_net_refusals.specs.Prelude.{JournalEntry, is_due_before, earlier, IsNext, key_of, keys_in, AreRising, is_one, first_key, learns_on, hears_on, tells_on, carries_on, as_coming, news_coming, coming_seen, pending_seen};
+ghost use Rattle.mn_course_laws.specs.Coming.{coming as ledgers};
 ghost use Rattle.mn_net_refusals.specs.Parts.{PartsStand, OnChannels, packed_of};
-ghost use Rattle.mn_net_laws.specs.Coming.{first_key, learns_on, hears_on, tells_on, carries_on, as_coming, news_coming, coming_seen, pending_seen};
 
 use crate::parts::Parts;
 use mn_base::{LinkNo, ListOf, NodeNo};

@@ -1,15 +1,7 @@
 //! What a line asks for, step by step, each with what it hands on.
 ghost use Rattle.std.specs.Prelude.{◌≡◌, ◌≢◌, ◌≤◌, ◌<◌, ◌+◌, ◌^◌, ℕ, List, [], true, false, None, length, IfOk, OnOk, OnErr};
-ghost use Rattle.mn_topo.specs.Steps.{fits};
+ghost use Rattle.mn_option_a.specs.Prelude.{fits, damage_fits, damage_refusal, command_fits, injects, all, most_of, limit_of, Pairing, network, Both, side, with_plain_step, with_damage, refusal_on, handed_on, tried, stepped, deliver, played};
 ghost use Rattle.mn_topo.specs.declared.steps.Step.TheVariants as step;
-ghost use Rattle.mn_entry.specs.Damages.{damage_fits};
-ghost use Rattle.mn_damage.specs.Refusals.{damage_refusal};
-ghost use Rattle.mn_script.specs.Lines.{command_fits};
-ghost use Rattle.mn_ledger.specs.Ledger.{injects};
-ghost use Rattle.mn_course_laws.specs.Course.{all, most_of};
-ghost use Rattle.mn_sched.specs.Playing.{limit_of};
-ghost use Rattle.mn_leg_laws.specs.Pairing.{Pairing, network, Both, side, with_plain_step, with_damage};
-ghost use Rattle.mn_leg_laws.specs.Course.{refusal_on, handed_on, tried, stepped, deliver, played};
 ghost use Rattle.mn_option_a.specs.Pairs.{PairStands, net_of};
 ghost use Rattle.mn_option_a.specs.Plays.{is_played, Plays, IsOwnCause};
 ghost use Rattle.mn_option_a.specs.Moves.{Tries, Crosses, ArrivesIn, Takes, PairGoesOn, StoodStill, Undone, sent, ended_by, as_played};

@@ -1,8 +1,6 @@
 //! Two networks that are joined.
 ghost use Rattle.std.specs.Prelude.{◌≡◌, ◌≢◌, ◌<◌, ◌+◌, ◌^◌, ℕ, List, [], true, Some, None, Err, length, slice_get, slice_index_or, option_map, IfOk, IfSome};
-ghost use Rattle.mn_script.specs.Lines.{command_fits};
-ghost use Rattle.mn_leg_laws.specs.Pairing.{Pairing, Both, at_first, travel, no_travel};
-ghost use Rattle.mn_leg_laws.specs.Course.{played};
+ghost use Rattle.mn_option_a.specs.Prelude.{command_fits, Pairing, Both, at_first, travel, no_travel, played};
 ghost use Rattle.mn_option_a.specs.Pairs.{pairing_of, AreSites, AreApart, PairStands, net_of};
 ghost use Rattle.mn_option_a.specs.Plays.{is_played, Plays, IsOwnCause, bad_of};
 ghost use Rattle.mn_option_a.specs.Moves.{PairGoesOn};

@@ -1,12 +1,8 @@
 //! One of two networks that are joined.
 ghost use Rattle.std.specs.Prelude.{◌≡◌, ◌≤◌, ◌<◌, ◌*◌, ◌^◌, ◌∷◌, ◌++◌, [], ℕ, List, true, false, length, slice_get, slice_index_or, OnOk, OnErr, IfOk, IfSome, Ok};
-ghost use Rattle.mn_topo.specs.Steps.{fits};
-ghost use Rattle.mn_entry.specs.Damages.{damage_fits};
+ghost use Rattle.mn_option_a.specs.Prelude.{fits, damage_fits, injects, packets_of, Which, Pairing, network, limit_of};
 ghost use Rattle.mn_topo.specs.declared.steps.Step.TheVariants as step;
-ghost use Rattle.mn_ledger.specs.Ledger.{injects, packets_of};
-ghost use Rattle.mn_leg_laws.specs.declared.leg.Which.{Which};
-ghost use Rattle.mn_leg_laws.specs.Pairing.{Pairing, network, Side as SideOf};
-ghost use Rattle.mn_sched.specs.Playing.{limit_of};
+ghost use Rattle.mn_leg_laws.specs.Pairing.{Side as SideOf};
 ghost use Rattle.mn_option_a.specs.Ends.{LeadBelow};
 ghost use Rattle.mn_option_a.specs.Pairs.{IsSide, IsPacedFromStart, joined_to};
 ghost use Rattle.mn_option_a.specs.Moves.{Steps, Damages, Enters, Arrives, Finds, GoesOn, Undone, stepped_by, leads_to};

@@ -1,15 +1,9 @@
 //! Laws of the definitions, each the contract of a function that does nothing.
 ghost use Rattle.std.specs.Prelude.{◌≡◌, ◌≢◌, ◌<◌, ◌∷◌, ◌++◌, [], List, ℕ, length};
 ghost use Rattle.std.specs.List.{flat_map};
-ghost use Rattle.mn_wiring.specs.Wiring.{sender};
-ghost use Rattle.mn_wiring.specs.declared.links.Dir.{Dir};
-ghost use Rattle.mn_topo.specs.Lawful.{IsLawful};
-ghost use Rattle.mn_topo.specs.Network.{Network, wiring_of};
-ghost use Rattle.mn_topo.specs.declared.steps.JournalEntry.{JournalEntry};
+ghost use Rattle.mn_ledger.specs.Prelude.{sender, Dir, IsLawful, Network, wiring_of, JournalEntry, IsLawfulJournal, packets_of};
 ghost use Rattle.mn_journal.specs.Lines.{line_of};
 ghost use Rattle.mn_script.specs.declared.command.Line.{Line};
-ghost use Rattle.mn_ledger.specs.Lawful.{IsLawfulJournal};
-ghost use Rattle.mn_ledger.specs.Ledger.{packets_of};
 ghost use Rattle.mn_course_laws.specs.Course.{inputs_of};
 ghost use Rattle.mn_course_laws.specs.Expansion.{expanded};
 ghost use Rattle.mn_output_laws.specs.Files.{OutputFile, Journal, Deliveries, Frames, Said, Told};

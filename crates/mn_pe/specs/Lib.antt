@@ -1,3 +1,4 @@
+pub mod Prelude
 pub mod Edge
 pub mod Held
 pub mod Pe

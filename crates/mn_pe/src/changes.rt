@@ -1,8 +1,6 @@
 // What the VRF of a number is told.
 ghost use Rattle.std.specs.Prelude.{◌≡◌, ◌≢◌, ◌<◌, ℕ, map, length, true, OnOk, OnErr, MatchOption, slice_index_or, slice_set, None};
-ghost use Rattle.mn_base.specs.Ordered.{Ascends};
-ghost use Rattle.mn_targets.specs.Targets.{target_set};
-ghost use Rattle.mn_vrf.specs.Vrf.{VrfState, with_static, without_static, with_imports, with_exports, add_refused, del_refused, set_refused, refusal_of};
+ghost use Rattle.mn_pe.specs.Prelude.{Ascends, target_set, VrfState, with_static, without_static, with_imports, with_exports, add_refused, del_refused, set_refused, refusal_of};
 ghost use Rattle.mn_pe.specs.Changes.{telling};
 ghost use Rattle.mn_pe.specs.Pe.{found_in, by_number, IsAbsent, IsAt, is_want, told};
 

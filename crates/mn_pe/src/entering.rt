@@ -1,9 +1,7 @@
 // What the edge says of a packet that a site sends.
 ghost use Rattle.std.specs.Prelude.{◌≡◌, ◌≤◌, ◌<◌, ◌^◌, ◌-◌, ℕ, [], None, IsTrue, IfOk, IfSome, length, take};
-ghost use Rattle.mn_ipv4.specs.Header.{good, total_length, ttl_of, aged};
-ghost use Rattle.mn_ipv4.specs.Check.{head_of};
+ghost use Rattle.mn_ledger.specs.Prelude.{good, total_length, ttl_of, aged, head_of, is_unicast, header_rule};
 ghost use Rattle.mn_stack.specs.Grammar.{is_packet};
-ghost use Rattle.mn_ledger.specs.Entry.{is_unicast, header_rule};
 ghost use Rattle.mn_pe.specs.Entries.{Passes, IsFit, alone, behind, entered_over, entered_by, HasLabel};
 
 use mn_base::{NodeNo, SiteNo};

@@ -1,8 +1,6 @@
 // What the calls of an edge ask is what its callers have.
 ghost use Rattle.std.specs.Prelude.{ℕ, List};
-ghost use Rattle.mn_bgp_wire.specs.Says.{Says};
-ghost use Rattle.mn_bgp_wire.specs.Grammar.{IsBgp};
-ghost use Rattle.mn_bgp_wire.specs.declared.message.BgpMessage.TheVariants.{Update};
+ghost use Rattle.mn_pe.specs.Prelude.{Says, IsBgp, Update};
 ghost use Rattle.mn_pe.specs.Pe.{AreLabelled};
 
 /// The routes that an UPDATE announces have labels of 20 bits.

@@ -1,8 +1,6 @@
 // What the VRF of a number holds, a site's label, and a node's loopback.
 ghost use Rattle.std.specs.Prelude.{◌≡◌, ◌+◌, ℕ, drop, filter, slice_get, slice_index_or, None, Some, option_map};
-ghost use Rattle.mn_prefix.specs.Table.{longest_match, first_of};
-ghost use Rattle.mn_vrf.specs.Vrf.{Holding, heads, IsHeldAt};
-ghost use Rattle.mn_vrf.specs.Routes.{found_among, is_open, sources_of};
+ghost use Rattle.mn_pe.specs.Prelude.{longest_match, first_of, Holding, heads, IsHeldAt, found_among, is_open, sources_of};
 ghost use Rattle.mn_pe.specs.Pe.{numbered};
 
 use mn_base::{NodeNo, SiteNo, VrfNo};

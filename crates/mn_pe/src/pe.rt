@@ -1,19 +1,13 @@
 // One edge, whole.
 ghost use Rattle.std.specs.Prelude.{◌≡◌, ◌+◌, ◌↔◌, ◌<◌, ℕ, true, false, None, Some, option_map, Err, length, OnOk, OnErr, IfOk, IfErr, IsErr, filter, slice_index, slice_index_or, slice_get};
-ghost use Rattle.mn_vrf.specs.Routes.{found_among, is_open, sources_of};
-ghost use Rattle.mn_prefix.specs.Table.{longest_match, first_of};
-ghost use Rattle.mn_targets.specs.Targets.{target_set};
-ghost use Rattle.mn_vrf.specs.Vrf.{VrfState, heads, IsHeldAt, with_static, without_static, with_imports, with_exports, add_refused, del_refused, set_refused, refusal_of};
+ghost use Rattle.mn_pe.specs.Prelude.{found_among, is_open, sources_of, target_set, VrfState, heads, IsHeldAt, with_static, without_static, with_imports, with_exports, add_refused, del_refused, set_refused, refusal_of, Labelling};
+ghost use Rattle.mn_ledger.specs.Prelude.{longest_match, first_of, destination_of, Network, World};
 ghost use Rattle.mn_pe.specs.Edge.{Edge, after_update, after_forget, after_attach, after_detach, after_vrf, vrf_of_site};
 ghost use Rattle.mn_pe.specs.Held.{held_by, exports_of};
 ghost use Rattle.mn_pe.specs.Exports.{exports_at, exports_over, export_of};
 ghost use Rattle.mn_pe.specs.Start.{edge_at_start};
 ghost use Rattle.mn_pe.specs.Entries.{route_for, route_among, entered_at, entered_among, StandsAtEntry, IsItsFate};
-ghost use Rattle.mn_ipv4.specs.Header.{destination_of};
 ghost use Rattle.mn_pe.specs.Pe.{PeNow, AreLabelled, found_in, is_want};
-ghost use Rattle.mn_topo.specs.Network.{Network};
-ghost use Rattle.mn_ledger.specs.World.{World};
-ghost use Rattle.mn_frame_laws.specs.Given.{Labelling};
 
 use crate::changes::{add_in, del_in, export_in, import_in, is_want, set_label};
 use crate::entering::{entered_by, head_at_entry};

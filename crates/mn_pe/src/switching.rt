@@ -1,9 +1,7 @@
 // Routes that come to VRFs, or go, as a target comes to a set or leaves it, and as a site gets a label or loses it.
 ghost use Rattle.std.specs.Prelude.{◌≡◌, ◌<◌, ◌≤◌, ◌==◌, ◌&&◌, not, map, length, Some, OnOk, slice_index_or, slice_set};
 ghost use Rattle.std.specs.List.{range_with_len};
-ghost use Rattle.mn_base.specs.Ordered.{Ascends};
-ghost use Rattle.mn_targets.specs.Targets.{has_target};
-ghost use Rattle.mn_vrf.specs.Vrf.{Holding};
+ghost use Rattle.mn_pe.specs.Prelude.{Ascends, has_target, Holding};
 ghost use Rattle.mn_pe.specs.Pe.{by_number, told};
 ghost use Rattle.mn_pe.specs.Switched.{meet_else, meet_alone, import_alone, turned, turned_if, after_statics, after_vrfs, after_heard, after_all, at_vrf, importing, telling_statics, exporting, source_for, after_over, turning_over, attaching, IsBy};
 

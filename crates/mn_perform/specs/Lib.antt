@@ -1,3 +1,4 @@
+pub mod Prelude
 pub mod Inside
 pub mod Fails
 pub mod Faults

@@ -1,13 +1,7 @@
 //! What a run keeps for its report.
 ghost use Rattle.std.specs.Prelude.{◌≡◌, ◌-◌, ◌+◌, ◌<◌, ◌++◌, ◌^◌, true, [], List, ℕ, Some, map, codes, Err, IfOk, OnOk, OnErr};
-ghost use Rattle.mn_script.specs.Lines.{command_fits};
+ghost use Rattle.mn_perform.specs.Prelude.{command_fits, sending_by, PutOn, PartPut, Puts, PutsPart, table_text, StandsFor, sending_of, shown_text, packet_of};
 ghost use Rattle.mn_ledger.specs.Ledger.{packets_of};
-ghost use Rattle.mn_course_laws.specs.Expansion.{sending_by};
-ghost use Rattle.mn_lines.specs.Putting.{PutOn, PartPut, Puts, PutsPart};
-ghost use Rattle.mn_output_laws.specs.Tables.{table_text};
-ghost use Rattle.mn_net_laws.specs.Now.{StandsFor};
-ghost use Rattle.mn_report.specs.Shown.{sending_of, shown_text};
-ghost use Rattle.mn_report.specs.Frames.{packet_of};
 ghost use Rattle.mn_perform.specs.Faults.{SinkBlamed};
 ghost use Rattle.mn_perform.specs.declared.ended.Fault.TheVariants.{NoMemory};
 ghost use Rattle.mn_perform.specs.Running.{line_text, Notes};

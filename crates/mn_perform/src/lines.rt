@@ -1,13 +1,7 @@
 //! The lines of a script, one after another.
 ghost use Rattle.std.specs.Prelude.{◌≡◌, ◌-◌, ◌+◌, ◌<◌, ◌≤◌, ◌^◌, true, false, [], List, ℕ, length, None, Option, IfOk, OnOk};
 ghost use Rattle.std.specs.Option.{ForSome};
-ghost use Rattle.mn_base.specs.Limits.{most_script_lines};
-ghost use Rattle.mn_edge.specs.Kept.{Framed};
-ghost use Rattle.mn_script.specs.Lines.{command_fits};
-ghost use Rattle.mn_script.specs.Script.{AllFit};
-ghost use Rattle.mn_course_laws.specs.Expansion.{Expansion, with_line, start_of, expanded};
-ghost use Rattle.mn_record.specs.Playing.{is_show, IsPaced};
-ghost use Rattle.mn_record.specs.Recorded.{IsFor, told_packets};
+ghost use Rattle.mn_perform.specs.Prelude.{most_script_lines, Framed, command_fits, AllFit, Expansion, with_line, start_of, expanded, is_show, IsPaced, IsFor, told_packets};
 ghost use Rattle.mn_perform.specs.Faults.{Blamed};
 ghost use Rattle.mn_perform.specs.Running.{Stands, Keeps, Went};
 

@@ -1,8 +1,8 @@
 //! A capture in memory, and a watch that hands out its packets and keeps nothing.
 ghost use Rattle.std.specs.Prelude.{◌≡◌, ◌≢◌, ◌≤◌, length, None, Some, Ok, Err, IfOk, IfErr, ⊤};
-ghost use Rattle.mn_pcap.specs.Reading.{packets_of, end_of};
+ghost use Rattle.mn_perform.specs.Prelude.{end_of, Found};
+ghost use Rattle.mn_pcap.specs.Reading.{packets_of};
 ghost use Rattle.mn_pcap.specs.declared.refusal.PcapBad.TheVariants.{NoMemory};
-ghost use Rattle.mn_record.specs.Watching.{Found};
 ghost use Rattle.mn_perform.specs.Memory.{packets_at};
 ghost use Rattle.mn_perform.specs.MemoryLaws.{has_each};
 

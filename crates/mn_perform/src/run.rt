@@ -1,20 +1,10 @@
 //! A whole run.
 ghost use Rattle.std.specs.Prelude.{◌≡◌, ◌≢◌, ◌⊎◌, ◌≤◌, ◌++◌, [], false, List, ℕ, length, None, Some, Ok, Err, OnOk, OnErr};
 ghost use Rattle.std.specs.Option.{ForSome};
-ghost use Rattle.mn_base.specs.Limits.{most_script_lines};
-ghost use Rattle.mn_edge.specs.Files.{Absent, Files};
-ghost use Rattle.mn_edge.specs.Kept.{Framed, Lacking};
-ghost use Rattle.mn_edge.specs.Laid.{named};
-ghost use Rattle.mn_edge.specs.Written.{laid, PartWritten};
-ghost use Rattle.mn_script.specs.Script.{AllFit};
+ghost use Rattle.mn_perform.specs.Prelude.{most_script_lines, Absent, Files, Framed, Lacking, named, laid, PartWritten, AllFit, inputs_of, PutOn, PartPut, whole_at, IsFor, told_packets, start_of, expanded};
 ghost use Rattle.mn_ledger.specs.Ledger.{packets_of};
-ghost use Rattle.mn_course_laws.specs.Course.{inputs_of};
-ghost use Rattle.mn_lines.specs.Putting.{PutOn, PartPut};
-ghost use Rattle.mn_record.specs.Recorded.{whole_at};
 ghost use Rattle.mn_perform.specs.Faults.{Blamed};
 ghost use Rattle.mn_perform.specs.Inside.{is_inside};
-ghost use Rattle.mn_record.specs.Recorded.{IsFor, told_packets};
-ghost use Rattle.mn_course_laws.specs.Expansion.{start_of, expanded};
 ghost use Rattle.mn_perform.specs.Running.{notes_text, Keeps, Stands};
 ghost use Rattle.mn_perform.specs.Whole.{last_text, running, running_files, BegunAtRead, UntoldAtRead, RunEnds, RunFiles, RunText, IsLate};
 ghost use Rattle.mn_perform.specs.Whole.{ForRun, ForPackets, FilesOf, TextOf, EndsAs, TellsLate};

@@ -1,13 +1,7 @@
 //! A table, with the packet of the record that it names.
 ghost use Rattle.std.specs.Prelude.{◌≡◌, true, List, ℕ, Option, Some, OnOk, OnErr, IfOk};
-ghost use Rattle.mn_edge.specs.Files.{Absent};
-ghost use Rattle.mn_script.specs.Lines.{command_fits};
+ghost use Rattle.mn_perform.specs.Prelude.{Absent, command_fits, Puts, PutsPart, packet_for, table_text, StandsFor, told_packets};
 ghost use Rattle.mn_script.specs.declared.command.Command.TheVariants as command;
-ghost use Rattle.mn_lines.specs.Putting.{Puts, PutsPart};
-ghost use Rattle.mn_output_laws.specs.Report.{packet_for};
-ghost use Rattle.mn_output_laws.specs.Tables.{table_text};
-ghost use Rattle.mn_net_laws.specs.Now.{StandsFor};
-ghost use Rattle.mn_record.specs.Recorded.{told_packets};
 ghost use Rattle.mn_report.specs.Frames.{packet_of as packet_shown};
 ghost use Rattle.mn_perform.specs.Faults.{Blamed};
 

@@ -1,15 +1,7 @@
 //! A run that writes no file, and of whose report only the total is put.
 ghost use Rattle.std.specs.Prelude.{◌≡◌, ◌-◌, ◌+◌, ◌<◌, ◌≤◌, ◌^◌, true, false, [], List, ℕ, length, IfOk, OnOk, OnErr};
 ghost use Rattle.std.specs.Option.{ForSome};
-ghost use Rattle.mn_base.specs.Limits.{most_script_lines};
-ghost use Rattle.mn_script.specs.Lines.{command_fits};
-ghost use Rattle.mn_script.specs.Script.{AllFit};
-ghost use Rattle.mn_course_laws.specs.Course.{inputs_of};
-ghost use Rattle.mn_course_laws.specs.Expansion.{Expansion, with_line, expanded};
-ghost use Rattle.mn_lines.specs.Putting.{Puts, PutsPart};
-ghost use Rattle.mn_net_laws.specs.Now.{StandsFor};
-ghost use Rattle.mn_topo.specs.Network.{Network};
-ghost use Rattle.mn_record.specs.Playing.{is_show, IsPaced};
+ghost use Rattle.mn_perform.specs.Prelude.{most_script_lines, command_fits, AllFit, inputs_of, Expansion, with_line, expanded, Puts, PutsPart, StandsFor, Network, is_show, IsPaced};
 ghost use Rattle.mn_perform.specs.Faults.{SinkBlamed};
 ghost use Rattle.mn_perform.specs.Memory.{packets_at};
 ghost use Rattle.mn_perform.specs.Running.{is_stopped};

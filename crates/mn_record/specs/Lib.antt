@@ -1,3 +1,4 @@
+pub mod Prelude
 pub mod Recorded
 pub mod Adding
 pub mod Heads

@@ -1,9 +1,6 @@
 //! What the files of a run grow by, as lines that are written where they wait.
 ghost use Rattle.std.specs.Prelude.{◌≡◌, true};
-ghost use Rattle.mn_entry.specs.Entries.{entry_fits};
-ghost use Rattle.mn_journal.specs.Lines.{line_of};
-ghost use Rattle.mn_output_laws.specs.Contents.{label_line};
-ghost use Rattle.mn_pcap.specs.Format.{header};
+ghost use Rattle.mn_record.specs.Prelude.{entry_fits, line_of, label_line, header};
 
 use crate::labels::put_label;
 use mn_base::NodeNo;

@@ -1,15 +1,6 @@
 //! The files, by number, and what waits for them.
 ghost use Rattle.std.specs.Prelude.{◌≡◌, ◌++◌, ◌<◌, ◌^◌, ℕ, List, [], true, length, replicate, IfOk, OnOk, OnErr, IsTrue};
-ghost use Rattle.mn_edge.specs.Faults.{CountedUnless};
-ghost use Rattle.mn_edge.specs.Files.{Files};
-ghost use Rattle.mn_edge.specs.Kept.{BeginsOn, Framed, HoldsOn, Lacking, none_held};
-ghost use Rattle.mn_edge.specs.Memory.{all_differ};
-ghost use Rattle.mn_edge.specs.Written.{texts};
-ghost use Rattle.mn_entry.specs.Entries.{entry_fits};
-ghost use Rattle.mn_journal.specs.Lines.{line_of};
-ghost use Rattle.mn_output_laws.specs.Contents.{label_line};
-ghost use Rattle.mn_pcap.specs.Format.{header, record_of};
-ghost use Rattle.mn_files.specs.Numbers.{edge_places};
+ghost use Rattle.mn_record.specs.Prelude.{CountedUnless, Files, BeginsOn, Framed, HoldsOn, Lacking, none_held, all_differ, texts, entry_fits, line_of, label_line, header, record_of, edge_places};
 ghost use Rattle.mn_record.specs.Adding.{Adds, MayAdd, only_in};
 ghost use Rattle.mn_record.specs.Parts.{file_for, IsFileOf};
 

@@ -2,14 +2,7 @@
 ghost use Rattle.std.specs.Prelude.{◌≡◌, ◌≤◌, ◌^◌, true, false, List, ℕ, None, map, length, refl, OnOk, OnErr};
 ghost use Rattle.std.specs.Option.{ForSome};
 ghost use Rattle.std.proofs.Common.{◌∙◌, subst};
-ghost use Rattle.mn_script.specs.Lines.{command_fits};
-ghost use Rattle.mn_course_laws.specs.Course.{inputs_of, played};
-ghost use Rattle.mn_topo.specs.Network.{Network};
-ghost use Rattle.mn_topo.specs.declared.steps.JournalEntry.{JournalEntry};
-ghost use Rattle.mn_edge.specs.Kept.{BeginsOn, Framed};
-ghost use Rattle.mn_net_laws.specs.Now.{StandsFor};
-ghost use Rattle.mn_sched.specs.Watching.{Together, is_record};
-ghost use Rattle.mn_sched.specs.Playing.{is_show, past_of, Takes, After, Caused, IsPaced, MissingIff, names_no_record};
+ghost use Rattle.mn_record.specs.Prelude.{command_fits, inputs_of, played, Network, JournalEntry, BeginsOn, Framed, StandsFor, Together, is_record, is_show, past_of, Takes, After, Caused, IsPaced, MissingIff, names_no_record};
 ghost use Rattle.mn_record.specs.Recorded.{IsFor, Records, RecordedAfter, contents_at, told_packets};
 ghost use Rattle.mn_record.specs.Laws.{has_each, goes_on_same, goes_on_both, begun_of};
 ghost use Rattle.mn_record.specs.Watched.{Holding, Beginning, GoesOn};

@@ -1,13 +1,6 @@
 //! What a step adds to the files.
 ghost use Rattle.std.specs.Prelude.{◌≡◌, ◌-◌, ℕ, List, OnOk, OnErr};
-ghost use Rattle.mn_edge.specs.Faults.{CountedUnless};
-ghost use Rattle.mn_edge.specs.Kept.{Framed, Lacking};
-ghost use Rattle.mn_ledger.specs.Ledger.{packets_of};
-ghost use Rattle.mn_sched.specs.Told.{told_at};
-ghost use Rattle.mn_net_laws.specs.Now.{StandsFor};
-ghost use Rattle.mn_course_laws.specs.Course.{inputs_of};
-ghost use Rattle.mn_output_laws.specs.Contents.{delivery_record};
-ghost use Rattle.mn_sched.specs.Watching.{LastFits};
+ghost use Rattle.mn_record.specs.Prelude.{CountedUnless, Framed, Lacking, packets_of, told_at, StandsFor, inputs_of, delivery_record, LastFits};
 ghost use Rattle.mn_record.specs.Recorded.{IsFor};
 ghost use Rattle.mn_record.specs.Adding.{Adds, MayAdd, only_in};
 ghost use Rattle.mn_record.specs.Parts.{by_number, item_part, items_part, IsMade, RecordsLast, MayRecordLast};

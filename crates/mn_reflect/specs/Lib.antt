@@ -1,3 +1,4 @@
+pub mod Prelude
 pub mod Course
 pub mod Shape
 pub mod Doing

@@ -1,10 +1,7 @@
 //! The causes for which a step is refused, one by one.
 ghost use Rattle.std.specs.Prelude.{◌≡◌, ◌<◌, length, option_map, is_some, nat_le, unwrap_or, Some};
-ghost use Rattle.mn_base.specs.Limits.{most_targets};
+ghost use Rattle.mn_reflect.specs.Prelude.{most_targets, VrfState, agree, session_at, of_vrf, imports_it, exports_it, site_label, site_with};
 ghost use Rattle.mn_topo.specs.declared.steps.Step.TheVariants as StepOf;
-ghost use Rattle.mn_vrf.specs.Vrf.{VrfState};
-ghost use Rattle.mn_ledger.specs.Refusal.{agree};
-ghost use Rattle.mn_net_laws.specs.Refusal.{session_at, of_vrf, imports_it, exports_it, site_label, site_with};
 ghost use Rattle.mn_reflect.specs.Course.{bad_of};
 ghost use Rattle.mn_reflect.specs.Causes.{IsOfPlaces, shown, is_so, has_nothing, of_static, has_all_targets, has_given_all, has_too_much, limit_seen, refusal_seen};
 

@@ -1,12 +1,6 @@
 //! The steps of one edge, which tells its peers of its exports that come or go.
 ghost use Rattle.std.specs.Prelude.{◌≡◌, ◌<◌, ◌↔◌, IsOk, None, Ok, true, length, slice_index_or, IfOk, OnOk};
-ghost use Rattle.mn_ledger.specs.Places.{edge_of, home_of};
-ghost use Rattle.mn_vrf.specs.Vrf.{VrfState, add_refused, del_refused, set_refused, refusal_of};
-ghost use Rattle.mn_pe.specs.Edge.{vrf_of_site, after_attach, after_detach};
-ghost use Rattle.mn_pe.specs.Pe.{found_in};
-ghost use Rattle.mn_pe.specs.Exports.{exports_at, exports_over, export_of};
-ghost use Rattle.mn_routing_laws.specs.Doing.{AreSayable, AreNews, those_of};
-ghost use Rattle.mn_reflect_laws.specs.Goes.{edge_of_node};
+ghost use Rattle.mn_reflect.specs.Prelude.{edge_of, home_of, VrfState, add_refused, del_refused, set_refused, refusal_of, vrf_of_site, after_attach, after_detach, found_in, exports_at, exports_over, export_of, AreSayable, AreNews, those_of, edge_of_node};
 ghost use Rattle.mn_reflect.specs.Doing.{IsEdgeAt, changed_edge};
 ghost use Rattle.mn_reflect.specs.Changing.{told_peers, imports_changed, exports_changed, MayImport, MayExport, import_set, export_set, with_route, without_route, MayAdd, MayDel, route_added, route_deleted, next_label, MayAttach, MayDetach, site_attached, site_detached};
 

@@ -1,20 +1,8 @@
 //! What is kept, and what is read of it.
 ghost use Rattle.std.specs.Prelude.{◌≡◌, ◌<◌, ◌+◌, ℕ, List, [], length, slice_get, slice_index_or, option_map, None};
-ghost use Rattle.mn_topo.specs.Network.{Network};
+ghost use Rattle.mn_ledger.specs.Prelude.{Network, held_at, edge_of, best};
 ghost use Rattle.mn_topo.specs.declared.steps.Step.{Step as StepOf};
-ghost use Rattle.mn_reflection_laws.specs.Picks.{Spoken};
-ghost use Rattle.mn_reflection_laws.specs.World.{world_of};
-ghost use Rattle.mn_reflect_laws.specs.Labels.{labels_of};
-ghost use Rattle.mn_reflect_laws.specs.Spelling.{word_bytes};
-ghost use Rattle.mn_reflect_laws.specs.Now.{IsReflect};
-ghost use Rattle.mn_reflect_laws.specs.Steps.{first_hearing};
-ghost use Rattle.mn_ledger.specs.Heads.{held_at};
-ghost use Rattle.mn_ledger.specs.Places.{edge_of};
-ghost use Rattle.mn_ledger.specs.Held.{best};
-ghost use Rattle.mn_settled_laws.specs.Routes.{routes_of};
-ghost use Rattle.mn_reflection_laws.specs.Quiet.{held, IsJoined};
-ghost use Rattle.mn_routing_laws.specs.Sources.{as_held};
-ghost use Rattle.mn_vrf.specs.Vrf.{IsHeldAt};
+ghost use Rattle.mn_reflect.specs.Prelude.{Spoken, world_of, labels_of, word_bytes, IsReflect, first_hearing, routes_of, held, IsJoined, as_held, IsHeldAt};
 ghost use Rattle.mn_reflect.specs.Course.{IsRun};
 ghost use Rattle.mn_reflect.specs.Shape.{IsShaped};
 

@@ -1,16 +1,10 @@
 //! A session begins or ends, and a message is heard.
 ghost use Rattle.std.specs.Prelude.{◌≡◌, ◌≢◌, ◌<◌, ◌∷◌, [], ℕ, Option, Some, None, true, length, slice_index_or, IfOk, OnOk};
-ghost use Rattle.mn_states.specs.declared.states.BgpState.TheVariants.{OpenSent};
+ghost use Rattle.mn_reflect.specs.Prelude.{OpenSent, Labels, vrf_at, first_from_to, Key, Word, row_at, all_names, open_letter, reflector_offers, end_in};
 ghost use Rattle.mn_bgp_wire.specs.declared.message.BgpMessage.{BgpMessage as Message};
 ghost use Rattle.mn_bgp_session.specs.declared.table.BgpReply.{BgpReply as Reply};
-ghost use Rattle.mn_bgp_spelling_laws.specs.Spelling.{Labels};
-ghost use Rattle.mn_ledger.specs.Places.{vrf_at};
-ghost use Rattle.mn_mail.specs.Mail.{Letter as LetterNow, first_from_to};
+ghost use Rattle.mn_mail.specs.Mail.{Letter as LetterNow};
 ghost use Rattle.mn_offers.specs.Heard.{Heard as HeardRoute};
-ghost use Rattle.mn_reflection_laws.specs.Words.{Key, Word};
-ghost use Rattle.mn_reflect_laws.specs.Choice.{row_at, all_names};
-ghost use Rattle.mn_reflect_laws.specs.Letters.{open_letter, reflector_offers};
-ghost use Rattle.mn_reflect_laws.specs.Goes.{end_in};
 ghost use Rattle.mn_reflect.specs.Doing.{with_end, cut_between, with_letters, begun, ended, taken, MayTurn, MayHear, IsSaying, route_heard, MayAnswer, IsFirst, reply_of, next_of, answered, offered_all, IsNext, CanHear, word_heard};
 
 use crate::reflect::Reflect;

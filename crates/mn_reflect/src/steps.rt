@@ -1,13 +1,8 @@
 //! One call for each step.
 ghost use Rattle.std.specs.Prelude.{◌≡◌, ◌≤◌, ◌+◌, ◌++◌, ◌∷◌, ℕ, List, [], Option, None, Err, true, false, IfSome, IfErr, OnOk, IsErrOf};
-ghost use Rattle.mn_base.specs.Limits.{most_steps};
-ghost use Rattle.mn_topo.specs.Network.{Network};
+ghost use Rattle.mn_ledger.specs.Prelude.{most_steps, Network};
 ghost use Rattle.mn_topo.specs.declared.steps.Step.{Step as StepOf};
-ghost use Rattle.mn_reflection_laws.specs.World.{world_of};
-ghost use Rattle.mn_reflection_laws.specs.Refusal.{refusal};
-ghost use Rattle.mn_reflect_laws.specs.Steps.{takes};
-ghost use Rattle.mn_bgp_spelling_laws.specs.Spelling.{Labels};
-ghost use Rattle.mn_reflection_laws.specs.Words.{Word};
+ghost use Rattle.mn_reflect.specs.Prelude.{world_of, refusal, takes, Labels, Word};
 ghost use Rattle.mn_reflect.specs.Course.{IsRun, MayStep, bad_of};
 ghost use Rattle.mn_reflect.specs.Acting.{MayAct, IsHeardIn, acted, counted};
 

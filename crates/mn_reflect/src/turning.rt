@@ -1,16 +1,7 @@
 //! A node hears of a route, or forgets all that a peer announced: a reflector tells its peers, and an edge decides anew.
 ghost use Rattle.std.specs.Prelude.{◌≡◌, ◌<◌, ◌∷◌, [], false, Some, None, length, slice_index_or, option_map, IfOk, OnOk};
 ghost use Rattle.std.specs.List.{AllByRecursion};
-ghost use Rattle.mn_ledger.specs.Places.{loopback};
-ghost use Rattle.mn_pe.specs.Edge.{after_update};
-ghost use Rattle.mn_pe.specs.Pe.{AreLabelled};
-ghost use Rattle.mn_reflection_laws.specs.Picks.{is_reflector};
-ghost use Rattle.mn_reflect_laws.specs.Choice.{Row, row_at, reflected_to, names_in};
-ghost use Rattle.mn_reflect_laws.specs.Letters.{reflector_news};
-ghost use Rattle.mn_reflect_laws.specs.Goes.{steady_of, edge_of_node, decide_all, decision_says};
-ghost use Rattle.mn_reflect_telling.specs.Names.{named};
-ghost use Rattle.mn_reflect_telling.specs.Passing.{IsPassable, IfPassable};
-ghost use Rattle.mn_reflect_telling.specs.Mentions.{Shows, row_with, key_of_heard, numbers_of};
+ghost use Rattle.mn_reflect.specs.Prelude.{loopback, after_update, AreLabelled, is_reflector, Row, row_at, reflected_to, names_in, reflector_news, steady_of, edge_of_node, decide_all, decision_says, named, IsPassable, IfPassable, Shows, row_with, key_of_heard, numbers_of};
 ghost use Rattle.mn_reflect.specs.Doing.{with_row, with_letters, changed_edge, mentioned_in, kept, decided_on, route_heard, forgotten, MayTurn, IsEdgeAt};
 
 use crate::reflect::Reflect;

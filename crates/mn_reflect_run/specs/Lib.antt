@@ -1,3 +1,4 @@
+pub mod Prelude
 pub mod Language
 pub mod Reading
 pub mod Course

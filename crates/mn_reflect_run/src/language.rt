@@ -1,10 +1,6 @@
 //! The lines of a script of reflection.
 ghost use Rattle.std.specs.Prelude.{◌≡◌, ℕ, List, true, IfOk};
-ghost use Rattle.mn_topo.specs.Network.{Network};
-ghost use Rattle.mn_script.specs.Words.{texts};
-ghost use Rattle.mn_reflection_laws.specs.Picks.{is_reflector};
-ghost use Rattle.mn_reflect_laws.specs.Steps.{may_peer, takes};
-ghost use Rattle.mn_reflect_telling.specs.Mentions.{numbers_of};
+ghost use Rattle.mn_reflect_run.specs.Prelude.{Network, texts, is_reflector, may_peer, takes, numbers_of};
 ghost use Rattle.mn_reflect_run.specs.Language.{peers_in, bgp_line, second_word, hear_line, step_line, do_line, bounded_drain, drain_line, show_line, command_line, command_fits};
 
 use crate::command::ReflectCommand;

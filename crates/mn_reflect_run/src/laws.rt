@@ -1,7 +1,5 @@
 //! What holds of each script, whatever its lines: laws of the definitions.
-ghost use Rattle.mn_topo.specs.Network.{Network};
-ghost use Rattle.mn_topo.specs.Lawful.{IsLawful};
-ghost use Rattle.mn_reflect_telling.specs.Mentions.{numbers_of};
+ghost use Rattle.mn_reflect_run.specs.Prelude.{Network, IsLawful, numbers_of};
 ghost use Rattle.mn_reflect_run.specs.Language.{Script};
 ghost use Rattle.mn_reflect_run.specs.Reading.{IsLawfulScript};
 ghost use Rattle.mn_reflect_run.specs.Report.{course_of};

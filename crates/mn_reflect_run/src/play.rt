@@ -1,12 +1,8 @@
 //! Lines played on edges and reflectors.
 ghost use Rattle.std.specs.Prelude.{◌≡◌, ◌≤◌, ◌++◌, ◌∷◌, [], ℕ, List, true, length, IfOk, OnOk};
-ghost use Rattle.mn_base.specs.Limits.{most_script_lines};
-ghost use Rattle.mn_topo.specs.Network.{Network};
+ghost use Rattle.mn_ledger.specs.Prelude.{most_script_lines, Network};
 ghost use Rattle.mn_topo.specs.declared.steps.Step.{Step as StepOf};
-ghost use Rattle.mn_tables.specs.Telling.{standing, Tells};
-ghost use Rattle.mn_reflect_laws.specs.Steps.{takes};
-ghost use Rattle.mn_reflect.specs.Course.{IsRun};
-ghost use Rattle.mn_reflect_telling.specs.Mentions.{numbers_of};
+ghost use Rattle.mn_reflect_run.specs.Prelude.{standing, Tells, takes, IsRun, numbers_of};
 ghost use Rattle.mn_reflect_run.specs.Language.{command_fits};
 ghost use Rattle.mn_reflect_run.specs.Reading.{IsLawfulScript};
 ghost use Rattle.mn_reflect_run.specs.Course.{ReflectRun, asked, after_line, drain_for, most_of};

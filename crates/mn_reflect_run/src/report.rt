@@ -1,15 +1,8 @@
 //! The lines of the report, put on a page.
 ghost use Rattle.std.specs.Prelude.{◌≡◌, ◌<◌, ℕ, List, Some, length};
-ghost use Rattle.mn_text.specs.Addresses.{prefix_text};
-ghost use Rattle.mn_topo.specs.Network.{Network};
+ghost use Rattle.mn_reflect_run.specs.Prelude.{prefix_text, refused_line, cause_text, standing, Tells, Labels, source_from, world_of, IsRun};
+ghost use Rattle.mn_ledger.specs.Prelude.{Network, HeldRoute, Far};
 ghost use Rattle.mn_topo.specs.declared.steps.Step.{Step as StepOf};
-ghost use Rattle.mn_ledger.specs.Held.{HeldRoute, Far};
-ghost use Rattle.mn_lines.specs.Lines.{refused_line, cause_text};
-ghost use Rattle.mn_tables.specs.Telling.{standing, Tells};
-ghost use Rattle.mn_bgp_spelling_laws.specs.Spelling.{Labels};
-ghost use Rattle.mn_routing_laws.specs.Sources.{source_from};
-ghost use Rattle.mn_reflection_laws.specs.World.{world_of};
-ghost use Rattle.mn_reflect.specs.Course.{IsRun};
 ghost use Rattle.mn_reflect_run.specs.Report.{route_line, table_text, total_line};
 
 use itoa::Buffer;

@@ -1,14 +1,7 @@
 //! The whole command, over a shelf of files and a sink.
 ghost use Rattle.std.specs.Prelude.{◌≡◌, ◌≢◌, ◌≤◌, ◌++◌, length, Some, IfOk, OnOk, OnErr};
 ghost use Rattle.std.specs.Option.{ForSome};
-ghost use Rattle.mn_base.specs.Limits.{most_script_lines};
-ghost use Rattle.mn_edge.specs.Faults.{Counted, CountedUnless};
-ghost use Rattle.mn_edge.specs.Files.{Absent, file};
-ghost use Rattle.mn_lines.specs.Putting.{PartPut};
-ghost use Rattle.mn_tables.specs.Telling.{standing, Tells};
-ghost use Rattle.mn_answer.specs.Endings.{OutcomeIs, TextIs, CausedBy, SinkCausedBy, HasNone, Answers};
-ghost use Rattle.mn_answer.specs.Inputs.{IsSound};
-ghost use Rattle.mn_reflect_telling.specs.Mentions.{numbers_of};
+ghost use Rattle.mn_reflect_run.specs.Prelude.{most_script_lines, Counted, CountedUnless, Absent, file, PartPut, standing, Tells, OutcomeIs, TextIs, CausedBy, SinkCausedBy, HasNone, Answers, IsSound, numbers_of};
 ghost use Rattle.mn_reflect_run.specs.Reading.{IsLawfulScript};
 ghost use Rattle.mn_reflect_run.specs.Report.{report, course_of};
 ghost use Rattle.mn_reflect_run.specs.Headline.{IsScriptTold, IsReflectTold};

@@ -27,9 +27,7 @@ impl Model for Names {
 
 ghost use Rattle.std.specs.Prelude.{◌≡◌, [], ◌++◌, length, map, OnOk, IfOk};
 ghost use Rattle.std.specs.List.{flat_map};
-ghost use Rattle.mn_base.specs.Ordered.{with_one};
-ghost use Rattle.mn_reflection_laws.specs.Words.{key_before};
-ghost use Rattle.mn_reflect_laws.specs.Choice.{names_in, all_names};
+ghost use Rattle.mn_reflect_telling.specs.Prelude.{with_one, key_before, names_in, all_names};
 ghost use Rattle.mn_reflect_telling.specs.Names.{key_in, with_names};
 
 impl Names {

@@ -1,9 +1,6 @@
 //! What there is at the start, when no session lives and nothing was heard.
 ghost use Rattle.std.specs.Prelude.{◌≡◌, ◌<◌, ◌≤◌, ◌++◌, ◌∷◌, [], None, length, map, take, drop, replicate, option_map, IfOk};
-ghost use Rattle.mn_wiring.specs.Wiring.{nodes_of};
-ghost use Rattle.mn_topo.specs.Network.{wiring_of};
-ghost use Rattle.mn_ledger.specs.Places.{sites_at};
-ghost use Rattle.mn_ledger.specs.Ledger.{first_config};
+ghost use Rattle.mn_ledger.specs.Prelude.{nodes_of, wiring_of, sites_at, first_config};
 ghost use Rattle.mn_routing_laws.specs.Routed.{working};
 ghost use Rattle.mn_reflection_laws.specs.Picks.{placed_by, by_address};
 ghost use Rattle.mn_reflect_telling.specs.Mentions.{AreNodes, numbers_of};

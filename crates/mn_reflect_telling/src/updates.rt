@@ -1,9 +1,7 @@
 //! Messages as they are read, and an edge's exports as they are told.
 ghost use Rattle.std.specs.Prelude.{◌≡◌, ◌<◌, map, length, IfOk, OnOk};
 ghost use Rattle.mn_base.specs.declared.numbers.NodeNo.{NodeNo as NodeNumber};
-ghost use Rattle.mn_routing_laws.specs.Sending.{spelled_in};
-ghost use Rattle.mn_routing_laws.specs.Doing.{IsSayable, AreSayable};
-ghost use Rattle.mn_reflect_laws.specs.Letters.{export_letter, edge_news};
+ghost use Rattle.mn_reflect_telling.specs.Prelude.{spelled_in, IsSayable, AreSayable, export_letter, edge_news};
 ghost use Rattle.mn_reflect_telling.specs.Mentions.{AreNodes};
 ghost use Rattle.mn_reflect_telling.specs.Telling.{posted};
 

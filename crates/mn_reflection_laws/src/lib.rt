@@ -19,17 +19,13 @@
 #![tactic(auto)]
 
 ghost use Rattle.std.specs.Prelude.{◌≡◌, ◌≢◌, ◌<◌, ℕ, [], List, length};
-ghost use Rattle.mn_topo.specs.Network.{Network};
-ghost use Rattle.mn_topo.specs.declared.steps.Step.{Step};
+ghost use Rattle.mn_ledger.specs.Prelude.{Network, Step, edges, IsLawful, HeldRoute};
 ghost use Rattle.mn_reflection_laws.specs.Words.{Offer, Announce};
 ghost use Rattle.mn_reflection_laws.specs.World.{world_of};
 ghost use Rattle.mn_reflection_laws.specs.Through.{ComesThrough};
 ghost use Rattle.mn_reflection_laws.specs.TwoEdges.{AreReflectedTo};
 ghost use Rattle.mn_reflection_laws.specs.TwoReflectors.{AreThroughTwo};
 ghost use Rattle.std.specs.List.{Contains};
-ghost use Rattle.mn_ledger.specs.Places.{edges};
-ghost use Rattle.mn_topo.specs.Lawful.{IsLawful};
-ghost use Rattle.mn_ledger.specs.Held.{HeldRoute};
 ghost use Rattle.mn_reflection_laws.specs.Holding.{AreDone, HoldsItsRoutes};
 ghost use Rattle.mn_reflection_laws.specs.Quiet.{told, AreReflected, SaysItsOffers, AreReflectors, IsJoined, HasWhatIsExported};
 

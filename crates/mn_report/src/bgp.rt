@@ -1,9 +1,7 @@
 //! The table of BGP sessions.
 ghost use Rattle.std.specs.Prelude.{◌≡◌, ◌<◌, ◌&&◌, nat_lt, false, length};
 ghost use Rattle.std.specs.List.{flat_map};
-ghost use Rattle.mn_topo.specs.VrfTable.{is_edge};
-ghost use Rattle.mn_ledger.specs.Ledger.{world_of};
-ghost use Rattle.mn_ledger.specs.Places.{edges};
+ghost use Rattle.mn_ledger.specs.Prelude.{is_edge, world_of, edges};
 ghost use Rattle.mn_output_laws.specs.Tables.{bgp_lines};
 ghost use Rattle.mn_tables.specs.Telling.{standing, Tells};
 ghost use Rattle.mn_report.specs.Rows.{pair_row, edge_rows};

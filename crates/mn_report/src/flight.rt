@@ -1,13 +1,8 @@
 //! The table of what is in flight.
 ghost use Rattle.std.specs.Prelude.{◌≡◌, ◌<◌, false, length, List, ℕ};
 ghost use Rattle.std.specs.List.{flat_map};
-ghost use Rattle.mn_wiring.specs.Wiring.{links_of};
-ghost use Rattle.mn_edge.specs.Faults.{Counted};
-ghost use Rattle.mn_topo.specs.Network.{wiring_of};
-ghost use Rattle.mn_ledger.specs.Items.{flight_of};
-ghost use Rattle.mn_net.specs.Now.{StandsFor};
-ghost use Rattle.mn_output_laws.specs.Tables.{frames_lines, flight_lines};
-ghost use Rattle.mn_tables.specs.Telling.{standing, Tells};
+ghost use Rattle.mn_ledger.specs.Prelude.{links_of, wiring_of, flight_of};
+ghost use Rattle.mn_report.specs.Prelude.{Counted, StandsFor, frames_lines, flight_lines, standing, Tells};
 
 use crate::counts::link_count;
 use mn_base::LinkNo;

@@ -1,9 +1,7 @@
 //! The table of LDP sessions.
 ghost use Rattle.std.specs.Prelude.{◌≡◌, ◌<◌, false, length};
 ghost use Rattle.std.specs.List.{flat_map};
-ghost use Rattle.mn_wiring.specs.Wiring.{links_of};
-ghost use Rattle.mn_topo.specs.Network.{wiring_of};
-ghost use Rattle.mn_ledger.specs.Ledger.{world_of};
+ghost use Rattle.mn_ledger.specs.Prelude.{links_of, wiring_of, world_of};
 ghost use Rattle.mn_output_laws.specs.Tables.{ldp_line};
 ghost use Rattle.mn_tables.specs.Telling.{standing, Tells};
 

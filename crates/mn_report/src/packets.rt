@@ -1,13 +1,6 @@
 //! What became of each packet.
 ghost use Rattle.std.specs.Prelude.{◌≡◌, ◌≤◌, ◌<◌, ◌++◌, true, false, length, map, min, List, ℕ, OnOk, OnErr, Err};
-ghost use Rattle.mn_base.specs.Limits.{most_steps};
-ghost use Rattle.mn_edge.specs.declared.device.DeviceBad.TheVariants.{NoMemory};
-ghost use Rattle.mn_edge.specs.Faults.{Counted};
-ghost use Rattle.mn_ledger.specs.Ledger.{packets_of};
-ghost use Rattle.mn_lines.specs.Putting.{Puts, PutsPart};
-ghost use Rattle.mn_net.specs.Now.{StandsFor};
-ghost use Rattle.mn_output_laws.specs.Report.{packet_lines};
-ghost use Rattle.mn_tables.specs.Telling.{standing, Tells};
+ghost use Rattle.mn_report.specs.Prelude.{most_steps, NoMemory, Counted, packets_of, Puts, PutsPart, StandsFor, packet_lines, standing, Tells};
 ghost use Rattle.mn_report.specs.Packets.{packet_row};
 ghost use Rattle.mn_report.specs.Shown.{sending_of};
 

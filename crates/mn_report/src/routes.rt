@@ -1,16 +1,8 @@
 //! The table of the routes that a VRF holds.
 ghost use Rattle.std.specs.Prelude.{◌≡◌, ◌<◌, false, length, ℕ, Some};
-ghost use Rattle.mn_text.specs.Addresses.{prefix_text};
-ghost use Rattle.mn_ledger.specs.Held.{HeldRoute};
-ghost use Rattle.mn_ledger.specs.Ledger.{world_of};
-ghost use Rattle.mn_frame_laws.specs.Given.{Labelling, given};
-ghost use Rattle.mn_pe.specs.Entries.{source_of};
-ghost use Rattle.mn_ledger.specs.Places.{edge_of};
-ghost use Rattle.mn_frame_laws.specs.Entries.{AreWays};
-ghost use Rattle.mn_ledger.specs.Heads.{best_for};
-ghost use Rattle.mn_output_laws.specs.Tables.{marked_line, shown_lines, held_in};
+ghost use Rattle.mn_report.specs.Prelude.{prefix_text, Labelling, given, source_of, AreWays, marked_line, shown_lines, held_in, standing, Tells};
+ghost use Rattle.mn_ledger.specs.Prelude.{HeldRoute, world_of, edge_of, best_for};
 ghost use Rattle.mn_report.specs.Routes.{IsShown};
-ghost use Rattle.mn_tables.specs.Telling.{standing, Tells};
 
 use mn_base::VrfNo;
 use mn_edge::{DeviceBad, Sink};

@@ -1,13 +1,7 @@
 //! The tables that a script asks for.
 ghost use Rattle.std.specs.Prelude.{◌≡◌, true, false, List, ℕ, OnOk, OnErr, Err};
-ghost use Rattle.mn_edge.specs.declared.device.DeviceBad.TheVariants.{NoMemory};
-ghost use Rattle.mn_edge.specs.Faults.{Counted};
-ghost use Rattle.mn_script.specs.Lines.{command_fits, show_fits};
+ghost use Rattle.mn_report.specs.Prelude.{NoMemory, Counted, command_fits, show_fits, Puts, PutsPart, StandsFor, table_text, standing, Tells};
 ghost use Rattle.mn_script.specs.declared.command.Command.TheVariants as command;
-ghost use Rattle.mn_lines.specs.Putting.{Puts, PutsPart};
-ghost use Rattle.mn_net.specs.Now.{StandsFor};
-ghost use Rattle.mn_output_laws.specs.Tables.{table_text};
-ghost use Rattle.mn_tables.specs.Telling.{standing, Tells};
 ghost use Rattle.mn_report.specs.Frames.{packet_of};
 
 use crate::bgp::put_bgp_sessions;

@@ -1,12 +1,6 @@
 //! What all packets come to.
 ghost use Rattle.std.specs.Prelude.{◌≡◌, ◌≤◌, ◌<◌, ◌++◌, true, false, length, take, List, ℕ, IfOk, OnOk, OnErr, Err};
-ghost use Rattle.mn_base.specs.Limits.{most_steps};
-ghost use Rattle.mn_edge.specs.declared.device.DeviceBad.TheVariants.{NoMemory};
-ghost use Rattle.mn_edge.specs.Faults.{Counted};
-ghost use Rattle.mn_ledger.specs.Ledger.{packets_of};
-ghost use Rattle.mn_lines.specs.Lines.{total_line};
-ghost use Rattle.mn_lines.specs.Putting.{Puts, PutsPart};
-ghost use Rattle.mn_net.specs.Now.{StandsFor};
+ghost use Rattle.mn_report.specs.Prelude.{most_steps, NoMemory, Counted, packets_of, total_line, Puts, PutsPart, StandsFor};
 ghost use Rattle.mn_report.specs.Packets.{counts_of, with_verdict};
 ghost use Rattle.mn_report.specs.Shown.{totals_by};
 

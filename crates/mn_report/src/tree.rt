@@ -1,8 +1,6 @@
 //! The table of the least walks from a node.
 ghost use Rattle.std.specs.Prelude.{◌≡◌, ◌<◌, false, length};
-ghost use Rattle.mn_ledger.specs.Ledger.{world_of};
-ghost use Rattle.mn_output_laws.specs.Tables.{tree_lines};
-ghost use Rattle.mn_tables.specs.Telling.{standing, Tells};
+ghost use Rattle.mn_report.specs.Prelude.{world_of, tree_lines, standing, Tells};
 ghost use Rattle.mn_report.specs.Rows.{walk_row};
 
 use crate::counts::node_count;

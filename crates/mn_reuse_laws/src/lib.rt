@@ -23,16 +23,7 @@
 #![tactic(auto)]
 
 ghost use Rattle.std.specs.Prelude.{ℕ, ◌≡◌, ◌≢◌, ◌<◌, List, [], ◌∷◌, ◌++◌, length, true, None};
-ghost use Rattle.mn_wiring.specs.Wiring.{Wiring, is_end};
-ghost use Rattle.mn_topo.specs.Network.{Network, wiring_of};
-ghost use Rattle.mn_topo.specs.Lawful.{IsLawful};
-ghost use Rattle.mn_topo.specs.Steps.{fits};
-ghost use Rattle.mn_topo.specs.declared.steps.JournalEntry.{JournalEntry};
-ghost use Rattle.mn_node.specs.Node.{Node};
-ghost use Rattle.mn_node.specs.Machine.{Event};
-ghost use Rattle.mn_ledger.specs.Ledger.{world_of, packets_of};
-ghost use Rattle.mn_ledger.specs.Lawful.{IsLawfulJournal};
-ghost use Rattle.mn_ledger.specs.Refusal.{refusal_at};
+ghost use Rattle.mn_ledger.specs.Prelude.{Wiring, is_end, Network, wiring_of, IsLawful, fits, JournalEntry, Node, Event, world_of, packets_of, IsLawfulJournal, refusal_at};
 ghost use Rattle.mn_reuse_laws.specs.Answers.{AreAnswered};
 ghost use Rattle.mn_reuse_laws.specs.Relabelled.{Labelling, GoesAlike, IsRelabelledAlike, GoesWithItsLabels};
 ghost use Rattle.mn_reuse_laws.specs.Laws.{AreSound, KeepsItsLabel, ChangesOnceFree, KeepsWhatIsSaid, RestsByTurns, BlocksTheWay, AreForgotten};

@@ -1,14 +1,7 @@
 //! The steps of one edge, which has news then.
 ghost use Rattle.std.specs.Prelude.{◌≡◌, ◌<◌, ◌≤◌, ◌^◌, ◌↔◌, IsOk, None, Some, Ok, length, slice_get, IfOk, OnOk};
 ghost use Rattle.std.specs.List.{All};
-ghost use Rattle.mn_ledger.specs.Places.{home_of, edge_of};
-ghost use Rattle.mn_vrf.specs.Vrf.{VrfState, add_refused, del_refused, set_refused, refusal_of};
-ghost use Rattle.mn_pe.specs.Edge.{vrf_of_site, after_attach, after_detach};
-ghost use Rattle.mn_pe.specs.Pe.{found_in};
-ghost use Rattle.mn_pe.specs.Exports.{exports_at, exports_over, export_of};
-ghost use Rattle.mn_routing_laws.specs.Routed.{working};
-ghost use Rattle.mn_routing_laws.specs.Sending.{news_in};
-ghost use Rattle.mn_routing_laws.specs.Doing.{HasEdge, AreSayable, Puts, AreNews, edge_at, with_edge, those_of, export_set, static_added, static_deleted, MaySetImport, SetsImport, MaySetExport, SetsExport, MayAdd, Adds, MayDel, Dels, MayAttach, Attaches, MayDetach, Detaches};
+ghost use Rattle.mn_routing.specs.Prelude.{home_of, edge_of, VrfState, add_refused, del_refused, set_refused, refusal_of, vrf_of_site, after_attach, after_detach, found_in, exports_at, exports_over, export_of, working, news_in, HasEdge, AreSayable, Puts, AreNews, edge_at, with_edge, those_of, export_set, static_added, static_deleted, MaySetImport, SetsImport, MaySetExport, SetsExport, MayAdd, Adds, MayDel, Dels, MayAttach, Attaches, MayDetach, Detaches};
 
 use crate::flying::{steady_peers, tell};
 use crate::routes::Routes;

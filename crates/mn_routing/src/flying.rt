@@ -2,10 +2,7 @@
 ghost use Rattle.std.specs.Prelude.{◌≡◌, ◌<◌, ◌≤◌, ◌+◌, ◌*◌, ◌^◌, ◌++◌, ◌∷◌, [], Bool, length, map, IfOk, OnOk, if◌then◌else◌};
 ghost use Rattle.std.specs.List.{All, AllByRecursion};
 ghost use Rattle.mn_base.specs.declared.numbers.NodeNo.{NodeNo as NodeNumber};
-ghost use Rattle.mn_flight.specs.Flying.{IsFlight, off_channel};
-ghost use Rattle.mn_ledger.specs.Places.{loopback};
-ghost use Rattle.mn_routing_laws.specs.Sending.{put_all, to_each, news_to, spelled_in, is_steady, is_established, peers_from};
-ghost use Rattle.mn_routing_laws.specs.Doing.{IsSayable, AreSayable};
+ghost use Rattle.mn_routing.specs.Prelude.{IsFlight, off_channel, loopback, put_all, to_each, news_to, spelled_in, is_steady, is_established, peers_from, IsSayable, AreSayable};
 
 use mn_base::{ListOf, NodeNo};
 use mn_bgp_session::BgpSession;

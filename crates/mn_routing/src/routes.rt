@@ -1,22 +1,7 @@
 //! The routes, and what its edges and sessions are.
 ghost use Rattle.std.specs.Prelude.{◌≡◌, ◌<◌, ℕ, true, List, None, [], length, is_some, option_map, slice_index, slice_index_or, IfOk};
-ghost use Rattle.mn_topo.specs.Network.{Network};
-ghost use Rattle.mn_ledger.specs.World.{World};
-ghost use Rattle.mn_topo.specs.declared.steps.JournalEntry.{JournalEntry};
-ghost use Rattle.mn_ledger.specs.Places.{edge_of, home_of};
-ghost use Rattle.mn_ledger.specs.Held.{held, best};
-ghost use Rattle.mn_ledger.specs.Ledger.{world_of};
-ghost use Rattle.mn_ledger.specs.Lawful.{IsLawfulJournal};
-ghost use Rattle.mn_ledger.specs.Eligible.{eligible};
-ghost use Rattle.mn_frame_laws.specs.Given.{Labelling, given};
-ghost use Rattle.mn_frame_laws.specs.Entries.{AreWays};
-ghost use Rattle.mn_pe.specs.Header.{destination_of};
-ghost use Rattle.mn_frame_laws.specs.Numbers.{labels_of};
-ghost use Rattle.mn_pe.specs.Edge.{Edge};
-ghost use Rattle.mn_pe.specs.Entries.{IsItsFate, StandsAtEntry, IsWayOpen, IsBoundBelow, route_for, route_among, entered_at, entered_among};
-ghost use Rattle.mn_routing_laws.specs.Sources.{as_held};
-ghost use Rattle.mn_routing_laws.specs.Routed.{IsRoutes};
-ghost use Rattle.mn_routing_laws.specs.Sending.{bgp_state_by};
+ghost use Rattle.mn_ledger.specs.Prelude.{Network, World, JournalEntry, edge_of, home_of, held, best, world_of, IsLawfulJournal, eligible};
+ghost use Rattle.mn_routing.specs.Prelude.{Labelling, given, AreWays, destination_of, labels_of, Edge, IsItsFate, StandsAtEntry, IsWayOpen, IsBoundBelow, route_for, route_among, entered_at, entered_among, as_held, IsRoutes, bgp_state_by};
 
 use crate::flying::Messages;
 use mn_base::{NodeNo, SiteNo, VrfNo};

@@ -1,19 +1,11 @@
 //! A session opens or ends, and a message is heard.
 ghost use Rattle.std.specs.Prelude.{◌≡◌, ◌<◌, ◌≤◌, ◌^◌, ◌∷◌, [], ℕ, List, true, false, length, IfOk, OnOk, None, Some, option_map, slice_get, slice_index_or};
 ghost use Rattle.std.specs.List.{All};
-ghost use Rattle.mn_flight.specs.Flying.{IsFlight};
-ghost use Rattle.mn_flight.specs.declared.Item.{Item};
-ghost use Rattle.mn_bgp_wire.specs.Grammar.{IsBgp};
-ghost use Rattle.mn_bgp_wire.specs.declared.refusal.BgpWireBad.TheVariants.{NoMemory};
+ghost use Rattle.mn_routing.specs.Prelude.{IsFlight, Item, IsBgp, NoMemory, loopback, after_message, exports_of, opened, update_of, working, HasEdge, AreSayable, AreLabelledIn, Puts, edge_at, with_edge, with_end, open_to, forgotten, next_on, taken, channel_from, MayTurn, Opens, Ends, IsAnswered, MayHear, CanHear, Hears, answers_in};
 ghost use Rattle.mn_bgp_wire.specs.declared.message.BgpMessage.{BgpMessage as Message};
 ghost use Rattle.mn_bgp_session.specs.declared.table.BgpReply.{BgpReply as Reply};
 ghost use Rattle.mn_bgp_session.specs.Table as table;
-ghost use Rattle.mn_ledger.specs.Places.{loopback};
-ghost use Rattle.mn_pe.specs.Edge.{after_message};
-ghost use Rattle.mn_pe.specs.Held.{exports_of};
-ghost use Rattle.mn_routing_laws.specs.Whole.{opened, update_of};
-ghost use Rattle.mn_routing_laws.specs.Routed.{working};
-ghost use Rattle.mn_routing_laws.specs.Doing.{HasEdge, AreSayable, AreLabelledIn, Puts, edge_at, with_edge, with_end, cut as between_cut, open_to, forgotten, next_on, taken, channel_from, MayTurn, Opens, Ends, IsAnswered, MayHear, CanHear, Hears, answers_in};
+ghost use Rattle.mn_routing_laws.specs.Doing.{cut as between_cut};
 
 use crate::flying::{channel_to, cut, loopback_of, send, tell};
 use crate::routes::Routes;

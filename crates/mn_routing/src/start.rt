@@ -1,11 +1,7 @@
 //! The routes of a network at its start.
 ghost use Rattle.std.specs.Prelude.{◌≡◌, ◌<◌, [], None, length, map, replicate, option_map, IfOk};
-ghost use Rattle.mn_topo.specs.Network.{Network};
-ghost use Rattle.mn_ledger.specs.Ledger.{first_config, start as first_world};
-ghost use Rattle.mn_frame_laws.specs.Numbers.{labels_of};
-ghost use Rattle.mn_routing_laws.specs.Routed.{IsRoutes, working};
-ghost use Rattle.mn_routing_laws.specs.Standing.{edge_in};
-ghost use Rattle.mn_routing_laws.specs.Whole.{edge_or_none, routes_in};
+ghost use Rattle.mn_routing.specs.Prelude.{Network, first_config, labels_of, IsRoutes, working, edge_in, edge_or_none, routes_in};
+ghost use Rattle.mn_ledger.specs.Ledger.{start as first_world};
 
 use crate::flying::Messages;
 use crate::routes::Routes;

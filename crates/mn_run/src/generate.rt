@@ -1,11 +1,8 @@
 //! The runs that the generator makes.
 ghost use Rattle.std.specs.Prelude.{◌≡◌, ◌≢◌, ◌≤◌, IfOk, Some, length, string_bytes};
 ghost use Rattle.std.specs.Option.{ForSome};
-ghost use Rattle.mn_base.specs.Limits.{most_script_lines};
-ghost use Rattle.mn_script.specs.Script.{AllFit};
-ghost use Rattle.mn_join_run.specs.Memory.{packets_at};
+ghost use Rattle.mn_run.specs.Prelude.{most_script_lines, AllFit, packets_at, OutcomeIs, TextIs, SinkCausedBy, IsSound};
 ghost use Rattle.mn_run.specs.Answer.{generated_line, generated_done, generated};
-ghost use Rattle.mn_answer.specs.Endings.{OutcomeIs, TextIs, SinkCausedBy};
 ghost use Rattle.mn_run.specs.Headline.{IsGenerated};
 
 use crate::parse::parse_capture;
@@ -26,7 +23,6 @@ pub(crate) struct Made {
     pub capture: MemoryCapture,
 }
 
-ghost use Rattle.mn_answer.specs.Inputs.{IsSound};
 ghost use Rattle.mn_run.specs.Jobs.{MadeIs, MadeOverIs};
 
 /// Makes the inputs of a number, and plays them. No file is written; its number is put, and what all came to.

@@ -1,7 +1,7 @@
 //! The inputs of a run from their files.
 ghost use Rattle.std.specs.Prelude.{◌≡◌, List, ℕ, IfOk};
 ghost use Rattle.std.specs.Option.{ForSome};
-ghost use Rattle.mn_edge.specs.Faults.{CountedUnless};
+ghost use Rattle.mn_run.specs.Prelude.{CountedUnless, HasNone, IsSound};
 
 use mn_answer::{Outcome, load_capture, load_lines, load_topology};
 use mn_capture::Capture;
@@ -18,8 +18,6 @@ pub(crate) struct Inputs {
     pub capture: Capture,
 }
 
-ghost use Rattle.mn_answer.specs.Endings.{HasNone};
-ghost use Rattle.mn_answer.specs.Inputs.{IsSound};
 ghost use Rattle.mn_run.specs.Answer.{answer_over, run_over};
 ghost use Rattle.mn_run.specs.Jobs.{OverIs, LoadedIs, InputsFit};
 

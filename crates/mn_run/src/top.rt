@@ -1,12 +1,7 @@
 //! The one call that does all that the program does.
 ghost use Rattle.std.specs.Prelude.{◌≡◌, ◌≢◌, ℕ, ◌≤◌, true, false, length, Some, IsSome};
 ghost use Rattle.std.specs.Option.{ForSome};
-ghost use Rattle.mn_base.specs.Limits.{most_script_lines};
-ghost use Rattle.mn_edge.specs.Files.{file};
-ghost use Rattle.mn_edge.specs.Written.{texts};
-ghost use Rattle.mn_join_run.specs.Inside.{is_inside};
-ghost use Rattle.mn_script.specs.Script.{AllFit};
-ghost use Rattle.mn_answer.specs.Endings.{Answers, OutcomeIs, FilesAre, TextIs, CausedBy, SinkCausedBy, HasNone, UsageIff, Completes, EndsSoundly, IsLate, IsUnread};
+ghost use Rattle.mn_run.specs.Prelude.{most_script_lines, file, texts, is_inside, AllFit, Answers, OutcomeIs, FilesAre, TextIs, CausedBy, SinkCausedBy, HasNone, UsageIff, Completes, EndsSoundly, IsLate, IsUnread};
 ghost use Rattle.mn_run.specs.Words.{is_run, is_check, is_flood, is_reflect, is_join, is_command, generator_number, job_of};
 ghost use Rattle.mn_run.specs.Answer.{answer_of, job_answer, checked};
 ghost use Rattle.mn_run.specs.Headline.{IsGenerated, HeadlineIs, Ends};

@@ -1,12 +1,7 @@
 ghost use Rattle.std.specs.Prelude.{◌≡◌, ◌≤◌, ◌+◌, ◌^◌, max, ℕ, List, true, false, IfSome, OnOk, OnErr, Some, None};
 ghost use Rattle.std.specs.Option.{ForSome};
-ghost use Rattle.mn_ledger.specs.Ledger.{injects};
-ghost use Rattle.mn_topo.specs.Steps.{fits};
-ghost use Rattle.mn_course_laws.specs.Coming.{earlier, delivery, next_arrival, ever};
-ghost use Rattle.mn_course_laws.specs.Course.{as_due, deliver, ends, one_by_one, is_journal_full};
+ghost use Rattle.mn_sched.specs.Prelude.{injects, fits, earlier, delivery, next_arrival, ever, as_due, deliver, ends, one_by_one, is_journal_full, IsOpen, StandsFor};
 ghost use Rattle.mn_course_laws.specs.declared.coming.Ending.TheVariants as ending;
-ghost use Rattle.mn_ledger_laws.specs.Flight.{IsOpen};
-ghost use Rattle.mn_net.specs.Now.{StandsFor};
 ghost use Rattle.mn_sched.specs.Watching.{Together};
 ghost use Rattle.mn_sched.specs.Playing.{past_of, IsDelivery, Arrives, After, Caused, GoesTo, IsGone, IsFirstPart, IsOneLonger, IsPaced, limit_of};
 ghost use Rattle.mn_sched.specs.Arriving.{ArrivesNext};

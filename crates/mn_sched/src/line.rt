@@ -1,17 +1,10 @@
 ghost use Rattle.std.specs.Prelude.{◌≡◌, ◌≢◌, ◌≤◌, ◌<◌, ◌+◌, ◌^◌, ℕ, List, [], true, false, None, Some, IfOk, IfErr, OnOk, OnErr};
 ghost use Rattle.std.specs.Option.{ForSome};
-ghost use Rattle.mn_entry.specs.Damages.{damage_fits};
-ghost use Rattle.mn_script.specs.Lines.{command_fits};
-ghost use Rattle.mn_course_laws.specs.Coming.{delivery, next_arrival};
-ghost use Rattle.mn_course_laws.specs.Course.{ends, one_by_one, is_journal_full, deliver, played, stepped, all, most_of, inputs_of};
-ghost use Rattle.mn_ledger.specs.Ledger.{injects};
-ghost use Rattle.mn_topo.specs.Steps.{fits};
+ghost use Rattle.mn_sched.specs.Prelude.{damage_fits, command_fits, delivery, next_arrival, ends, one_by_one, is_journal_full, deliver, played, stepped, all, most_of, inputs_of, IsOpen, StandsFor};
+ghost use Rattle.mn_ledger.specs.Prelude.{injects, fits, SiteNo};
 ghost use Rattle.mn_course_laws.specs.declared.coming.Ending.TheVariants as ending;
-ghost use Rattle.mn_ledger_laws.specs.Flight.{IsOpen};
-ghost use Rattle.mn_net.specs.Now.{StandsFor};
 ghost use Rattle.mn_sched.specs.Draining.{DrainsBy};
 ghost use Rattle.mn_sched.specs.Watching.{Together, Stood, MadeLast, LastFits};
-ghost use Rattle.mn_base.specs.declared.numbers.SiteNo.{SiteNo};
 ghost use Rattle.mn_sched.specs.declared.line.Stopped.TheVariants as stopped;
 
 use crate::arrivals::{delivery, next_arrival, set_clock};

@@ -22,24 +22,11 @@
 #![tactic(auto)]
 
 ghost use Rattle.std.specs.Prelude.{Option};
-ghost use Rattle.mn_topo.specs.declared.steps.Damaged.{Damaged};
+ghost use Rattle.mn_ledger.specs.Prelude.{Damaged, Network, IsLawful, JournalEntry, world_of, packets_of, next_of, IsLawfulJournal, IsSettled, IsSteady, route, SiteNo, Inject, ttl_of, home_of, edges, HeldRoute, held, best, eligible, injections};
 ghost use Rattle.std.specs.Prelude.{ℕ, List, ◌≡◌, ◌<◌, ◌≤◌, ◌+◌, [], ◌∷◌, ◌++◌, length};
-ghost use Rattle.mn_topo.specs.Network.{Network};
-ghost use Rattle.mn_topo.specs.Lawful.{IsLawful};
-ghost use Rattle.mn_topo.specs.declared.steps.JournalEntry.{JournalEntry};
-ghost use Rattle.mn_ledger.specs.Ledger.{world_of, packets_of, next_of};
-ghost use Rattle.mn_ledger.specs.Lawful.{IsLawfulJournal};
-ghost use Rattle.mn_ledger.specs.Settled.{IsSettled, IsSteady, route};
 ghost use Rattle.mn_settled_laws.specs.Offers.{SaysItsOffers};
-ghost use Rattle.mn_base.specs.declared.numbers.SiteNo.{SiteNo};
-ghost use Rattle.mn_topo.specs.declared.steps.Step.TheVariants.{Inject};
-ghost use Rattle.mn_ipv4.specs.Header.{ttl_of};
 ghost use Rattle.std.specs.List.{Contains};
-ghost use Rattle.mn_ledger.specs.Places.{home_of, edges};
 ghost use Rattle.mn_settled_laws.specs.Routes.{TellTheirExports, HoldsItsRoutes, routes_of, eligible_of};
-ghost use Rattle.mn_ledger.specs.Held.{HeldRoute, held, best};
-ghost use Rattle.mn_ledger.specs.Eligible.{eligible};
-ghost use Rattle.mn_ledger.specs.Verdicts.{injections};
 ghost use Rattle.mn_settled_laws.specs.Ways.{AreUpWhereOdd, KnowTheWays, Reaches};
 ghost use Rattle.mn_settled_laws.specs.TwoLinks.{TwoLinksCarryAPacket};
 ghost use Rattle.mn_settled_laws.specs.Arrival.{IsLeastWay, left_after, IsAddressed, route_to, HasArrived};

@@ -1,15 +1,6 @@
 //! Laws of the definitions, each the contract of a function that does nothing.
 ghost use Rattle.std.specs.Prelude.{◌≡◌, ℕ, true, false};
-ghost use Rattle.mn_topo.specs.Network.{Network, wiring_of};
-ghost use Rattle.mn_topo.specs.Lawful.{IsLawful};
-ghost use Rattle.mn_topo.specs.Steps.{fits};
-ghost use Rattle.mn_topo.specs.declared.steps.Step.{Step};
-ghost use Rattle.mn_node.specs.Machine.{fresh_node};
-ghost use Rattle.mn_ledger.specs.World.{World};
-ghost use Rattle.mn_ledger.specs.Packets.{Packets};
-ghost use Rattle.mn_ledger.specs.Ledger.{start};
-ghost use Rattle.mn_ledger.specs.Refusal.{is_unchanged, is_empty};
-ghost use Rattle.mn_ledger.specs.Turns.{IsInTurn};
+ghost use Rattle.mn_ledger.specs.Prelude.{Network, wiring_of, IsLawful, fits, Step, fresh_node, World, Packets, start, is_unchanged, is_empty, IsInTurn};
 ghost use Rattle.mn_slice_laws.specs.Slice.{node_at};
 ghost use Rattle.mn_slice_laws.specs.Steps.{IsByNodes};
 

@@ -1,8 +1,6 @@
 //! The BGP sessions of pairs of edges (RFC 4271, section 8.2.2).
 ghost use Rattle.std.specs.Prelude.{◌≡◌};
-ghost use Rattle.mn_ledger.specs.World.{World};
-ghost use Rattle.mn_ledger.specs.Bgp.{bgp_state_of};
-ghost use Rattle.mn_output_laws.specs.Tables.{bgp_line, bgp_name};
+ghost use Rattle.mn_tables.specs.Prelude.{World, bgp_state_of, bgp_line, bgp_name};
 ghost use Rattle.mn_tables.specs.Telling.{standing, Tells};
 
 use crate::pieces::put_pieces;

@@ -1,10 +1,6 @@
 //! What is in flight.
 ghost use Rattle.std.specs.Prelude.{◌≡◌, ◌<◌, ◌∷◌, [], List, codes, decimal, length};
-ghost use Rattle.mn_edge.specs.Faults.{Counted};
-ghost use Rattle.mn_ledger.specs.Items.{Item, Frames, items_on};
-ghost use Rattle.mn_course_laws.specs.declared.coming.Kind.TheVariants.{Notice, Message};
-ghost use Rattle.mn_lines.specs.Lines.{text};
-ghost use Rattle.mn_output_laws.specs.Tables.{frames_line};
+ghost use Rattle.mn_tables.specs.Prelude.{Counted, Item, Frames, items_on, Notice, Message, text, frames_line};
 ghost use Rattle.mn_tables.specs.Telling.{standing, Tells};
 
 use crate::names::{digits, end_names};

@@ -1,9 +1,6 @@
 //! The LDP sessions of links (RFC 5036, section 2.5.4).
 ghost use Rattle.std.specs.Prelude.{◌≡◌, ◌<◌, length};
-ghost use Rattle.mn_wiring.specs.Wiring.{sender};
-ghost use Rattle.mn_wiring.specs.declared.links.Dir.TheVariants.{Forth, Back};
-ghost use Rattle.mn_topo.specs.Network.{wiring_of};
-ghost use Rattle.mn_ledger.specs.World.{World};
+ghost use Rattle.mn_ledger.specs.Prelude.{sender, Forth, Back, wiring_of, World};
 ghost use Rattle.mn_output_laws.specs.Tables.{ldp_line};
 ghost use Rattle.mn_tables.specs.Telling.{standing, Tells};
 ghost use Rattle.mn_tables.specs.States.{state_at, state_name};

@@ -1,8 +1,7 @@
 //! The links, up or down.
 ghost use Rattle.std.specs.Prelude.{◌≡◌, ◌<◌, length};
 ghost use Rattle.mn_wiring.specs.Wiring.{link as link_at};
-ghost use Rattle.mn_topo.specs.Network.{wiring_of};
-ghost use Rattle.mn_ledger.specs.World.{World};
+ghost use Rattle.mn_ledger.specs.Prelude.{wiring_of, World};
 ghost use Rattle.mn_output_laws.specs.Tables.{link_line, up_or_down};
 ghost use Rattle.mn_tables.specs.Telling.{standing, Tells};
 

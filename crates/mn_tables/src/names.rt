@@ -1,9 +1,6 @@
 //! The ends of a link and VRFs by their names, and numbers by their digits.
 ghost use Rattle.std.specs.Prelude.{◌≡◌, ◌<◌, length};
-ghost use Rattle.mn_wiring.specs.Wiring.{receiver, sender};
-ghost use Rattle.mn_topo.specs.Network.{wiring_of};
-ghost use Rattle.mn_output_laws.specs.Files.{node_name};
-ghost use Rattle.mn_output_laws.specs.Tables.{vrf_name};
+ghost use Rattle.mn_tables.specs.Prelude.{receiver, sender, wiring_of, node_name, vrf_name};
 
 use itoa::{Buffer, Integer};
 use mn_base::{LinkNo, NodeNo, VrfNo};

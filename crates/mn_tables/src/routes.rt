@@ -1,9 +1,6 @@
 //! The routes of a VRF (RFC 4364, section 3).
 ghost use Rattle.std.specs.Prelude.{◌≡◌, ℕ, Bool};
-ghost use Rattle.mn_text.specs.Addresses.{prefix_text};
-ghost use Rattle.mn_ledger.specs.Held.{HeldRoute, Own, Near, Far};
-ghost use Rattle.mn_frame_laws.specs.Given.{Labelling, label_at};
-ghost use Rattle.mn_output_laws.specs.Tables.{mark_text, marked_line, route_line};
+ghost use Rattle.mn_tables.specs.Prelude.{prefix_text, HeldRoute, Own, Near, Far, Labelling, label_at, mark_text, marked_line, route_line};
 ghost use Rattle.mn_tables.specs.Telling.{standing, Tells};
 
 use crate::names::{digits, vrf_name};

@@ -1,9 +1,7 @@
 //! The least walks from a node to the others.
 ghost use Rattle.std.specs.Prelude.{◌≡◌, ◌⊎◌};
-ghost use Rattle.mn_wiring.specs.Paths.{dist_in, dists_to, next};
-ghost use Rattle.mn_wiring.specs.Wiring.{View};
+ghost use Rattle.mn_ledger.specs.Prelude.{dist_in, dists_to, next, View, wiring_of};
 ghost use Rattle.mn_linkdb.specs.Trees.{hop_alone};
-ghost use Rattle.mn_topo.specs.Network.{wiring_of};
 ghost use Rattle.mn_output_laws.specs.Tables.{tree_line};
 ghost use Rattle.mn_tables.specs.Telling.{standing, Tells};
 

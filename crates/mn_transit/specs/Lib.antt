@@ -1,3 +1,4 @@
+pub mod Prelude
 pub mod Moving
 pub mod Stands
 pub mod Entering

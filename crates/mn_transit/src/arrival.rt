@@ -1,21 +1,11 @@
 //! A frame comes to a node, which forwards it by its table.
 ghost use Rattle.std.specs.Prelude.{◌≡◌, ◌≢◌, ◌<◌, ◌≤◌, ◌+◌, ◌*◌, ◌^◌, ℕ, List, true, length, slice_get, is_some, IfSome};
 ghost use Rattle.std.specs.List.{All};
-ghost use Rattle.mn_wiring.specs.Wiring.{receiver};
-ghost use Rattle.mn_wiring.specs.declared.links.Dir.{Dir};
-ghost use Rattle.mn_flight.specs.Flying.{on_channel, without};
-ghost use Rattle.mn_lfib.specs.Hop.{carried_ttl};
-ghost use Rattle.mn_topo.specs.Links.{are_joined};
-ghost use Rattle.mn_topo.specs.Network.{Leads, wiring_of};
+ghost use Rattle.mn_ledger.specs.Prelude.{receiver, Dir, are_joined, Leads, wiring_of, channel, Token, Packets, arrive, packets_after, World};
+ghost use Rattle.mn_transit.specs.Prelude.{on_channel, without, carried_ttl, sent, Labelling, AreMapped, TableStands, path_of};
 ghost use Rattle.mn_topo.specs.declared.steps.Step.TheVariants as Step;
-ghost use Rattle.mn_ledger.specs.Packets.{channel, Token, Packets, arrive, packets_after};
-ghost use Rattle.mn_ledger.specs.World.{World};
-ghost use Rattle.mn_frame_laws.specs.Arrivals.{sent};
-ghost use Rattle.mn_frame_laws.specs.Given.{Labelling};
-ghost use Rattle.mn_frame_laws.specs.Tables.{AreMapped, TableStands};
 ghost use Rattle.mn_transit.specs.Moving.{bytes_in, HoldsHops, CountsOn};
 ghost use Rattle.mn_transit.specs.Stands.{IsFlown, StandsFor, Makes};
-ghost use Rattle.mn_paths.specs.Visits.{path_of};
 
 use crate::flown::Flown;
 use crate::transit::Transit;

@@ -1,25 +1,13 @@
 //! A packet enters.
 ghost use Rattle.std.specs.Prelude.{◌≡◌, ◌≢◌, ◌<◌, ◌≤◌, ◌+◌, ◌*◌, ◌^◌, ℕ, List, true, length, max, IsTrue, IfOk, OnOk, OnErr, IsErr};
 ghost use Rattle.std.specs.List.{All};
-ghost use Rattle.mn_base.specs.Limits.{most_steps};
-ghost use Rattle.mn_ipv4.specs.Header.{ttl_of};
-ghost use Rattle.mn_stack.specs.Grammar.{is_packet};
-ghost use Rattle.mn_lfib.specs.Hop.{carried_ttl};
+ghost use Rattle.mn_ledger.specs.Prelude.{most_steps, ttl_of, Packets, bound, hop_on, packets_after, home_of, HeldRoute, World};
+ghost use Rattle.mn_transit.specs.Prelude.{is_packet, carried_ttl, with_outer, IsPushed, outer_for, Labelling, AreMapped, IsItsFate, path_of};
 ghost use Rattle.mn_drops.specs.declared.drops.Rule.TheVariants as Rule;
 ghost use Rattle.mn_topo.specs.declared.steps.Step.TheVariants as Step;
-ghost use Rattle.mn_ledger.specs.Packets.{Packets, bound, hop_on, packets_after};
-ghost use Rattle.mn_ledger.specs.Places.{home_of};
-ghost use Rattle.mn_ledger.specs.Held.{HeldRoute};
-ghost use Rattle.mn_ledger.specs.World.{World};
-ghost use Rattle.mn_frame_laws.specs.Departures.{with_outer};
-ghost use Rattle.mn_frame_laws.specs.Entries.{IsPushed, outer_for};
-ghost use Rattle.mn_frame_laws.specs.Given.{Labelling};
-ghost use Rattle.mn_frame_laws.specs.Tables.{AreMapped};
-ghost use Rattle.mn_pe.specs.Entries.{IsItsFate};
 ghost use Rattle.mn_transit.specs.Entering.{IsWayOut, HasRoom, IsLabel, OuterFits, IfTunnel, size_of};
 ghost use Rattle.mn_transit.specs.Moving.{bytes_in, HoldsHops, CountsOn};
 ghost use Rattle.mn_transit.specs.Stands.{StandsFor, Makes};
-ghost use Rattle.mn_paths.specs.Visits.{path_of};
 
 use crate::flown::Flown;
 use crate::transit::Transit;

@@ -1,11 +1,7 @@
 //! As time goes on, frames that are too old end.
 ghost use Rattle.std.specs.Prelude.{◌≡◌, ◌<◌, ◌≤◌, ◌^◌, ℕ, not, filter, length, IfSome};
-ghost use Rattle.mn_wiring.specs.Wiring.{channel};
-ghost use Rattle.mn_flight.specs.Flying.{IsFlight, on_channel, without};
-ghost use Rattle.mn_ledger.specs.Packets.{Packets};
-ghost use Rattle.mn_ledger.specs.Time.{expire, expire_on};
-ghost use Rattle.mn_frame_laws.specs.Given.{Labelling};
-ghost use Rattle.mn_timetable_laws.specs.Keys.{key_of, keys_in, is_past, keys_in_time, FlyInOrder};
+ghost use Rattle.mn_transit.specs.Prelude.{channel, IsFlight, on_channel, without, Labelling, key_of, keys_in, is_past, keys_in_time, FlyInOrder};
+ghost use Rattle.mn_ledger.specs.Prelude.{Packets, expire, expire_on};
 ghost use Rattle.mn_transit.specs.Aging.{DueAsSent, limit_on, first_before, ends_on};
 ghost use Rattle.mn_transit.specs.Moving.{CountsOn};
 ghost use Rattle.mn_transit.specs.Stands.{StandsFor};

@@ -1,10 +1,8 @@
 //! A frame is lost, and all on a link are cut off.
 ghost use Rattle.std.specs.Prelude.{◌≡◌, ◌<◌, ℕ, List, length, slice_get};
 ghost use Rattle.mn_flight.specs.Flying.{on_channel, off_channel, without};
-ghost use Rattle.mn_wiring.specs.declared.links.Dir.TheVariants.{Forth, Back};
+ghost use Rattle.mn_ledger.specs.Prelude.{Forth, Back, channel, Packets, cut, packets_after, World};
 ghost use Rattle.mn_topo.specs.declared.steps.Step.TheVariants as Step;
-ghost use Rattle.mn_ledger.specs.Packets.{channel, Packets, cut, packets_after};
-ghost use Rattle.mn_ledger.specs.World.{World};
 ghost use Rattle.mn_frame_laws.specs.Given.{Labelling};
 ghost use Rattle.mn_transit.specs.Moving.{CountsOn};
 ghost use Rattle.mn_transit.specs.Stands.{StandsFor};

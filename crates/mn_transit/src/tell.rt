@@ -1,17 +1,11 @@
 //! What became of each packet, and what flies.
 ghost use Rattle.std.specs.Prelude.{◌≡◌, ◌<◌, ◌*◌, ◌^◌, ◌==◌, [], length, map, find, option_map, slice_get, slice_index_or, Some};
 ghost use Rattle.std.specs.Option.{option_copied};
-ghost use Rattle.mn_flight.specs.Earliest.{earliest};
-ghost use Rattle.mn_flight.specs.Flying.{IsFlight, on_channel};
-ghost use Rattle.mn_topo.specs.Network.{Network};
-ghost use Rattle.mn_ledger.specs.Packets.{channel, Packets, flying_on};
-ghost use Rattle.mn_ledger.specs.Refusal.{bytes_flying};
-ghost use Rattle.mn_ledger.specs.Verdicts.{verdict_on};
-ghost use Rattle.mn_frame_laws.specs.Given.{Labelling};
+ghost use Rattle.mn_transit.specs.Prelude.{earliest, IsFlight, on_channel, Labelling, path_of};
+ghost use Rattle.mn_ledger.specs.Prelude.{Network, channel, Packets, flying_on, bytes_flying, verdict_on};
 ghost use Rattle.mn_transit.specs.Moving.{bytes_in};
 ghost use Rattle.mn_transit.specs.Landed.{site_as, IsLast, HasLanded};
 ghost use Rattle.mn_transit.specs.Stands.{StandsFor};
-ghost use Rattle.mn_paths.specs.Visits.{path_of};
 
 use crate::flown::Flown;
 use crate::transit::Transit;

@@ -1,21 +1,13 @@
 //! What is kept of the packets, and one call for each thing that may become of one.
 ghost use Rattle.std.specs.Prelude.{◌≡◌, ◌≢◌, ◌<◌, ◌≤◌, ◌+◌, ◌*◌, ◌^◌, ◌∷◌, ◌++◌, [], ℕ, List, true, false, Some, None, length, slice_get, slice_set, IfOk, IfSome, IsSome, OnOk, OnErr};
 ghost use Rattle.std.specs.List.{All};
-ghost use Rattle.mn_base.specs.Limits.{most_steps};
+ghost use Rattle.mn_ledger.specs.Prelude.{most_steps, Network, wiring_of, Step, no_packets, Packets, channel, packets_after, is_moving, World};
 ghost use Rattle.mn_wiring.specs.Wiring.{link as link_of};
 ghost use Rattle.mn_drops.specs.declared.drops.Rule.TheVariants as Rule;
-ghost use Rattle.mn_flight.specs.Flying.{IsFlight, on_channel, off_channel, without};
-ghost use Rattle.mn_topo.specs.Network.{Network, wiring_of};
-ghost use Rattle.mn_topo.specs.declared.steps.Step.{Step};
+ghost use Rattle.mn_transit.specs.Prelude.{IsFlight, on_channel, off_channel, without, Labelling, path_of, further};
 ghost use Rattle.mn_ledger.specs.declared.verdict.Verdict.TheVariants as verdict;
-ghost use Rattle.mn_ledger.specs.Ledger.{no_packets};
-ghost use Rattle.mn_ledger.specs.Packets.{Packets, channel, packets_after};
-ghost use Rattle.mn_ledger.specs.Parts.{is_moving};
-ghost use Rattle.mn_ledger.specs.World.{World};
-ghost use Rattle.mn_frame_laws.specs.Given.{Labelling};
 ghost use Rattle.mn_transit.specs.Moving.{bytes_in, HoldsHops};
 ghost use Rattle.mn_transit.specs.Stands.{StandsFor};
-ghost use Rattle.mn_paths.specs.Visits.{path_of, further};
 
 use crate::flown::Flown;
 use mn_base::{LinkNo, NodeNo, SiteNo};

@@ -1,13 +1,9 @@
 //! Notices and PDUs in flight.
 ghost use Rattle.std.specs.Prelude.{◌≡◌, ◌<◌, ◌≤◌, ◌+◌, ◌*◌, ◌^◌, ◌++◌, ◌∷◌, [], length, map, IfOk, OnOk};
 ghost use Rattle.std.specs.List.{All, AllByRecursion};
-ghost use Rattle.mn_wiring.specs.Wiring.{nodes_of, link as link_of};
-ghost use Rattle.mn_flight.specs.Flying.{IsFlight};
-ghost use Rattle.mn_lsr.specs.Said.{pdu_of};
-ghost use Rattle.mn_topo.specs.Network.{wiring_of};
-ghost use Rattle.mn_ledger.specs.Packets.{channel};
-ghost use Rattle.mn_timetable_laws.specs.Keys.{channel_from};
-ghost use Rattle.mn_transport_laws.specs.Sending.{notices_to, put_pdus, off_link};
+ghost use Rattle.mn_ledger.specs.Prelude.{nodes_of, wiring_of, channel};
+ghost use Rattle.mn_wiring.specs.Wiring.{link as link_of};
+ghost use Rattle.mn_transport.specs.Prelude.{IsFlight, pdu_of, channel_from, notices_to, put_pdus, off_link};
 
 use mn_base::{LinkNo, ListOf, NodeNo};
 use mn_flight::{Clock, Flight};

@@ -1,22 +1,11 @@
 //! The labels of attachments, and the transport of a network at its start.
 ghost use Rattle.std.specs.Prelude.{◌≡◌, ◌<◌, ◌+◌, ◌^◌, if◌then◌else◌, ℕ, List, [], true, false, length, map, slice_get, IfOk, OnOk, IsErrOf, Err, Some, ◌↔◌};
 ghost use Rattle.std.specs.List.{range_with_len};
-ghost use Rattle.mn_base.specs.Limits.{most_labels};
-ghost use Rattle.mn_labels.specs.Labels.{greatest, attachments_in};
+ghost use Rattle.mn_ledger.specs.Prelude.{most_labels, is_end, links_at, wiring_of, JournalEntry, world_of, home_of};
+ghost use Rattle.mn_transport.specs.Prelude.{greatest, attachments_in, longest_life, given, label_at, pushed, Standing, IsTransport, first_label, AreFirst, HasTurn, MayDo};
 ghost use Rattle.mn_labels.specs.declared.refusal.LabelBad.TheVariants as bad;
-ghost use Rattle.mn_wiring.specs.Wiring.{link as link_of, is_end, links_at};
-ghost use Rattle.mn_topo.specs.Network.{wiring_of};
+ghost use Rattle.mn_wiring.specs.Wiring.{link as link_of};
 ghost use Rattle.mn_topo.specs.declared.steps.Step.TheVariants as step;
-ghost use Rattle.mn_topo.specs.declared.steps.JournalEntry.{JournalEntry};
-ghost use Rattle.mn_ledger.specs.Ledger.{world_of};
-ghost use Rattle.mn_ledger.specs.Places.{home_of};
-ghost use Rattle.mn_reuse_laws.specs.Labels.{longest_life};
-ghost use Rattle.mn_frame_laws.specs.Given.{given, label_at};
-ghost use Rattle.mn_timetable_laws.specs.Steps.{pushed};
-ghost use Rattle.mn_lsr.specs.Standing.{Standing};
-ghost use Rattle.mn_transport_laws.specs.Stands.{IsTransport};
-ghost use Rattle.mn_transport_laws.specs.Starting.{first_label, AreFirst};
-ghost use Rattle.mn_transport_laws.specs.Steps.{HasTurn, MayDo};
 
 use crate::flying::{Messages, Notices};
 use crate::transport::{Transport, labels_fit};

@@ -1,17 +1,10 @@
 //! One call for each step of the transport.
 ghost use Rattle.std.specs.Prelude.{◌≡◌, ◌≢◌, ◌<◌, ◌≤◌, ◌+◌, ◌*◌, ◌-◌, ◌^◌, ℕ, Bool, true, false, length, slice_get, slice_index, slice_set, IfOk, OnOk, OnErr, IsErr};
 ghost use Rattle.std.specs.List.{All};
-ghost use Rattle.mn_wiring.specs.Wiring.{link as link_of, sender, receiver, is_end};
-ghost use Rattle.mn_wiring.specs.declared.links.Dir.TheVariants.{Forth, Back};
-ghost use Rattle.mn_flight.specs.Flying.{IsFlight};
-ghost use Rattle.mn_linkdb.specs.Changes.{is_odd, is_link_up};
-ghost use Rattle.mn_node.specs.Machine.{Event, Learns, Opens, Closes};
-ghost use Rattle.mn_topo.specs.Network.{wiring_of};
+ghost use Rattle.mn_ledger.specs.Prelude.{sender, receiver, is_end, Forth, Back, Event, Learns, Opens, Closes, wiring_of, channel};
+ghost use Rattle.mn_wiring.specs.Wiring.{link as link_of};
+ghost use Rattle.mn_transport.specs.Prelude.{IsFlight, is_odd, is_link_up, turned_by, MayAct, MayHear, Acts, TurnsEnds, MayBoth, MayTurn, TurnsLink, MaySwitch, Switches, LearnsNext, CanHear, HearsNext, MayDo, Did};
 ghost use Rattle.mn_topo.specs.declared.steps.Step.TheVariants as step;
-ghost use Rattle.mn_ledger.specs.Packets.{channel};
-ghost use Rattle.mn_transport_laws.specs.Acting.{turned_by, MayAct, MayHear, Acts};
-ghost use Rattle.mn_transport_laws.specs.Doing.{TurnsEnds, MayBoth, MayTurn, TurnsLink, MaySwitch, Switches, LearnsNext, CanHear, HearsNext};
-ghost use Rattle.mn_transport_laws.specs.Steps.{MayDo, Did};
 
 use crate::flying::{cut, send, tell_all};
 use crate::transport::{Transport, labels_fit};

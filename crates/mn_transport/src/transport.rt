@@ -1,15 +1,7 @@
 //! The transport, and what its nodes and sessions are.
 ghost use Rattle.std.specs.Prelude.{◌≡◌, ◌≢◌, ◌<◌, ◌^◌, List, length, slice_get, slice_index, Some};
-ghost use Rattle.mn_labels.specs.Labels.{greatest};
-ghost use Rattle.mn_linkdb.specs.Changes.{is_link_up};
-ghost use Rattle.mn_topo.specs.declared.steps.JournalEntry.{JournalEntry};
-ghost use Rattle.mn_ledger.specs.Ledger.{world_of};
-ghost use Rattle.mn_topo.specs.Network.{wiring_of};
-ghost use Rattle.mn_ledger.specs.Transport.{known, offers};
-ghost use Rattle.mn_frame_laws.specs.Entries.{outer_for, AreWays};
-ghost use Rattle.mn_frame_laws.specs.Given.{given};
-ghost use Rattle.mn_lsr.specs.Standing.{FitsOuter};
-ghost use Rattle.mn_transport_laws.specs.Stands.{IsTransport};
+ghost use Rattle.mn_transport.specs.Prelude.{greatest, is_link_up, outer_for, AreWays, given, FitsOuter, IsTransport};
+ghost use Rattle.mn_ledger.specs.Prelude.{JournalEntry, world_of, wiring_of, known, offers};
 
 use crate::flying::{Messages, Notices};
 use mn_base::{LinkNo, NodeNo};

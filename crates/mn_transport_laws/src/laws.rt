@@ -1,9 +1,6 @@
 //! Laws of the definitions, each the contract of a function that does nothing.
 ghost use Rattle.std.specs.Prelude.{◌≡◌, ℕ, List, false};
-ghost use Rattle.mn_topo.specs.Lawful.{IsLawful};
-ghost use Rattle.mn_topo.specs.Network.{Network};
-ghost use Rattle.mn_topo.specs.declared.steps.Step.{Step};
-ghost use Rattle.mn_topo.specs.declared.steps.JournalEntry.{JournalEntry};
+ghost use Rattle.mn_ledger.specs.Prelude.{IsLawful, Network, Step, JournalEntry};
 ghost use Rattle.mn_timetable_laws.specs.Steps.{pushed};
 ghost use Rattle.mn_transport_laws.specs.Carried.{Carried};
 ghost use Rattle.mn_transport_laws.specs.Stands.{IsTransport};

@@ -1,11 +1,8 @@
 // The routes that a VRF holds: the sources of each prefix in a table, and the prefixes in order.
 ghost use Rattle.std.specs.Prelude.{◌≡◌, ◌+◌, ℕ, [], Some, IsSome, OnOk, OnErr, slice_get, option_map, ◌≢◌, ◌≤◌, filter};
-ghost use Rattle.mn_prefix.specs.Prefix.{AddressBlock, IsPrefix};
-ghost use Rattle.mn_prefix.specs.Table.{longest_match, value_at, ChangesOnly, first_of};
-ghost use Rattle.mn_base.specs.Ordered.{with_one, without_one};
+ghost use Rattle.mn_vrf.specs.Prelude.{AddressBlock, IsPrefix, longest_match, value_at, ChangesOnly, first_of, with_one, without_one, prefix_at};
 ghost use Rattle.mn_vrf.specs.Routes.{route_before, is_held, sources_of, unless_empty, is_open, open_among, found_among};
 ghost use Rattle.mn_vrf.specs.Vrf.{heads, IsHeldAt};
-ghost use Rattle.mn_lpm.specs.Levels.{prefix_at};
 
 use crate::{Source, Sources};
 use mn_lpm::LengthTable;

@@ -1,10 +1,7 @@
 // One VRF, as it is told.
 ghost use Rattle.std.specs.Prelude.{◌≡◌, ◌+◌, ℕ, [], true, false, None, Some, OnOk, OnErr, IfOk, slice_get, filter, if◌then◌else◌, option_map};
 ghost use Rattle.std.specs.Map.Iter.{ShowsInOrder, deref};
-ghost use Rattle.mn_prefix.specs.Prefix.{AddressBlock};
-ghost use Rattle.mn_prefix.specs.Table.{longest_match, value_at, first_of};
-ghost use Rattle.mn_base.specs.Ordered.{with_one, without_one, one_at};
-ghost use Rattle.mn_targets.specs.Targets.{target_set, has_target};
+ghost use Rattle.mn_vrf.specs.Prelude.{AddressBlock, longest_match, value_at, first_of, with_one, without_one, one_at, target_set, has_target};
 ghost use Rattle.mn_vrf.specs.Routes.{route_before, without_route, sources_of, unless_empty, is_open, found_among};
 ghost use Rattle.mn_vrf.specs.Vrf.{Static, Holding, with_static, without_static, with_imports, with_exports, add_refused, del_refused, set_refused, refusal_of, static_of, heads, IsHeldAt};
 

@@ -1,0 +1,10 @@
+-- The words of other crates that most clauses here cite, passed on from one place. Declares nothing.
+pub use Rattle.mn_ledger.specs.Ledger.{packets_of}
+pub use Rattle.mn_ledger.specs.Verdicts.{verdict_on}
+pub use Rattle.mn_leg_laws.specs.Pairing.{Pairing, Both, travel, packets_in, network}
+pub use Rattle.mn_net_laws.specs.Now.{StandsFor}
+pub use Rattle.mn_option_a.specs.Pairs.{PairStands, net_of}
+pub use Rattle.mn_lines.specs.Lines.{text}
+pub use Rattle.mn_lines.specs.Names.{names_of, name_at, ends_at, pairs_of, sender_of, hearer_of}
+pub use Rattle.mn_tables.specs.Telling.{standing, Tells}
+pub use Rattle.mn_report.specs.Shown.{sending_of}
