@@ -1,6 +1,5 @@
 -- The words of other crates that most clauses here cite, passed on from one place. Declares nothing.
-pub use Rattle.mn_ledger.specs.Ledger.{packets_of}
-pub use Rattle.mn_ledger.specs.Verdicts.{verdict_on}
+pub use Rattle.mn_ledger.specs.Prelude.{packets_of, verdict_on}
 pub use Rattle.mn_leg_laws.specs.Pairing.{Pairing, Both, travel, packets_in, network}
 pub use Rattle.mn_net_laws.specs.Now.{StandsFor}
 pub use Rattle.mn_option_a.specs.Pairs.{PairStands, net_of}

@@ -3,8 +3,7 @@ pub use Rattle.mn_linkdb.specs.Trees.{IsTree}
 pub use Rattle.mn_labels.specs.Labels.{IsTold}
 pub use Rattle.mn_stack.specs.Labelled.{frame_bytes}
 pub use Rattle.mn_vrf.specs.Vrf.{IsHeldAt}
-pub use Rattle.mn_ledger.specs.Items.{flight_of}
-pub use Rattle.mn_ledger.specs.Refusal.{refusal}
+pub use Rattle.mn_ledger.specs.Prelude.{flight_of, refusal}
 pub use Rattle.mn_damage.specs.Damages.{damage_fits, hearing}
 pub use Rattle.mn_damage.specs.Refusals.{damage_refusal}
 pub use Rattle.mn_ledger_laws.specs.Flight.{IsOpen}

@@ -1,6 +1,6 @@
 -- The words of other crates that most clauses here cite, passed on from one place. Declares nothing.
 pub use Rattle.mn_vrf.specs.Vrf.{VrfState}
-pub use Rattle.mn_topo.specs.declared.steps.JournalEntry.{JournalEntry}
+pub use Rattle.mn_ledger.specs.Prelude.{JournalEntry}
 pub use Rattle.mn_timetable_laws.specs.Keys.{key_of, keys_in}
 pub use Rattle.mn_transit.specs.Moving.{Moving}
 pub use Rattle.mn_transport_laws.specs.Carried.{Carried}

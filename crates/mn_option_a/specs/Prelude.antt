@@ -1,8 +1,7 @@
 -- The words of other crates that most clauses here cite, passed on from one place. Declares nothing.
-pub use Rattle.mn_topo.specs.Steps.{fits}
+pub use Rattle.mn_ledger.specs.Prelude.{fits, injects, packets_of}
 pub use Rattle.mn_entry.specs.Damages.{damage_fits}
 pub use Rattle.mn_script.specs.Lines.{command_fits}
-pub use Rattle.mn_ledger.specs.Ledger.{injects, packets_of}
 pub use Rattle.mn_damage.specs.Refusals.{damage_refusal}
 pub use Rattle.mn_course_laws.specs.Course.{all, most_of}
 pub use Rattle.mn_leg_laws.specs.Course.{refusal_on, handed_on, tried, stepped, deliver, played}

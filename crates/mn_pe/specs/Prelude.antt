@@ -1,6 +1,6 @@
 -- The words of other crates that most clauses here cite, passed on from one place. Declares nothing.
 pub use Rattle.mn_base.specs.Ordered.{Ascends}
-pub use Rattle.mn_prefix.specs.Table.{longest_match, first_of}
+pub use Rattle.mn_ledger.specs.Prelude.{longest_match, first_of}
 pub use Rattle.mn_targets.specs.Targets.{target_set, has_target}
 pub use Rattle.mn_bgp_wire.specs.Grammar.{IsBgp}
 pub use Rattle.mn_bgp_wire.specs.Says.{Says}

@@ -3,9 +3,8 @@ pub use Rattle.mn_edge.specs.Files.{Absent, Files}
 pub use Rattle.mn_edge.specs.Kept.{Framed, Lacking}
 pub use Rattle.mn_edge.specs.Laid.{named}
 pub use Rattle.mn_edge.specs.Written.{laid, PartWritten}
-pub use Rattle.mn_base.specs.Limits.{most_script_lines}
+pub use Rattle.mn_ledger.specs.Prelude.{most_script_lines, Network}
 pub use Rattle.mn_pcap.specs.Reading.{end_of}
-pub use Rattle.mn_topo.specs.Network.{Network}
 pub use Rattle.mn_script.specs.Lines.{command_fits}
 pub use Rattle.mn_script.specs.Script.{AllFit}
 pub use Rattle.mn_course_laws.specs.Course.{inputs_of}

@@ -6,12 +6,10 @@ pub use Rattle.mn_edge.specs.Laid.{named}
 pub use Rattle.mn_edge.specs.Memory.{all_differ}
 pub use Rattle.mn_edge.specs.Written.{laid, PartWritten, texts}
 pub use Rattle.mn_pcap.specs.Format.{header, record_of}
-pub use Rattle.mn_topo.specs.Network.{Network}
-pub use Rattle.mn_topo.specs.declared.steps.JournalEntry.{JournalEntry}
+pub use Rattle.mn_ledger.specs.Prelude.{Network, JournalEntry, packets_of}
 pub use Rattle.mn_entry.specs.Entries.{entry_fits}
 pub use Rattle.mn_script.specs.Lines.{command_fits}
 pub use Rattle.mn_journal.specs.Lines.{line_of}
-pub use Rattle.mn_ledger.specs.Ledger.{packets_of}
 pub use Rattle.mn_frame_laws.specs.Given.{given}
 pub use Rattle.mn_course_laws.specs.Course.{inputs_of, played}
 pub use Rattle.mn_net_laws.specs.Now.{StandsFor}

@@ -1,10 +1,8 @@
 -- The words of other crates that most clauses here cite, passed on from one place. Declares nothing.
-pub use Rattle.mn_base.specs.Limits.{most_targets}
+pub use Rattle.mn_ledger.specs.Prelude.{most_targets, edge_of, home_of, vrf_at, loopback, agree}
 pub use Rattle.mn_states.specs.declared.states.BgpState.TheVariants.{OpenSent}
 pub use Rattle.mn_vrf.specs.Vrf.{VrfState, add_refused, del_refused, set_refused, refusal_of, IsHeldAt}
 pub use Rattle.mn_mail.specs.Mail.{first_from_to}
-pub use Rattle.mn_ledger.specs.Places.{edge_of, home_of, vrf_at, loopback}
-pub use Rattle.mn_ledger.specs.Refusal.{agree}
 pub use Rattle.mn_settled_laws.specs.Routes.{routes_of}
 pub use Rattle.mn_pe.specs.Edge.{vrf_of_site, after_attach, after_detach, after_update}
 pub use Rattle.mn_pe.specs.Exports.{exports_at, exports_over, export_of}

@@ -1,10 +1,8 @@
 -- The words of other crates that most clauses here cite, passed on from one place. Declares nothing.
 pub use Rattle.mn_edge.specs.Faults.{Counted, CountedUnless}
 pub use Rattle.mn_edge.specs.Files.{Absent, file}
-pub use Rattle.mn_base.specs.Limits.{most_script_lines}
+pub use Rattle.mn_ledger.specs.Prelude.{most_script_lines, IsLawful, Network}
 pub use Rattle.mn_text.specs.Addresses.{prefix_text}
-pub use Rattle.mn_topo.specs.Lawful.{IsLawful}
-pub use Rattle.mn_topo.specs.Network.{Network}
 pub use Rattle.mn_script.specs.Words.{texts}
 pub use Rattle.mn_reflection_laws.specs.Picks.{is_reflector}
 pub use Rattle.mn_reflection_laws.specs.World.{world_of}

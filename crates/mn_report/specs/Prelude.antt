@@ -1,10 +1,9 @@
 -- The words of other crates that most clauses here cite, passed on from one place. Declares nothing.
 pub use Rattle.mn_edge.specs.Faults.{Counted}
 pub use Rattle.mn_edge.specs.declared.device.DeviceBad.TheVariants.{NoMemory}
-pub use Rattle.mn_base.specs.Limits.{most_steps}
+pub use Rattle.mn_ledger.specs.Prelude.{most_steps, packets_of, world_of}
 pub use Rattle.mn_text.specs.Addresses.{prefix_text}
 pub use Rattle.mn_script.specs.Lines.{command_fits, show_fits}
-pub use Rattle.mn_ledger.specs.Ledger.{packets_of, world_of}
 pub use Rattle.mn_frame_laws.specs.Entries.{AreWays}
 pub use Rattle.mn_frame_laws.specs.Given.{Labelling, given}
 pub use Rattle.mn_pe.specs.Entries.{source_of}

@@ -4,9 +4,7 @@ pub use Rattle.mn_flight.specs.declared.Item.{Item}
 pub use Rattle.mn_bgp_wire.specs.Grammar.{IsBgp}
 pub use Rattle.mn_bgp_wire.specs.declared.refusal.BgpWireBad.TheVariants.{NoMemory}
 pub use Rattle.mn_vrf.specs.Vrf.{VrfState, add_refused, del_refused, set_refused, refusal_of}
-pub use Rattle.mn_topo.specs.Network.{Network}
-pub use Rattle.mn_ledger.specs.Ledger.{first_config}
-pub use Rattle.mn_ledger.specs.Places.{home_of, edge_of, loopback}
+pub use Rattle.mn_ledger.specs.Prelude.{Network, first_config, home_of, edge_of, loopback}
 pub use Rattle.mn_frame_laws.specs.Entries.{AreWays}
 pub use Rattle.mn_frame_laws.specs.Given.{Labelling, given}
 pub use Rattle.mn_frame_laws.specs.Numbers.{labels_of}

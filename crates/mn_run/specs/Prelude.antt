@@ -2,7 +2,7 @@
 pub use Rattle.mn_edge.specs.Faults.{CountedUnless}
 pub use Rattle.mn_edge.specs.Files.{file}
 pub use Rattle.mn_edge.specs.Written.{texts}
-pub use Rattle.mn_base.specs.Limits.{most_script_lines}
+pub use Rattle.mn_ledger.specs.Prelude.{most_script_lines}
 pub use Rattle.mn_script.specs.Script.{AllFit}
 pub use Rattle.mn_answer.specs.Endings.{OutcomeIs, TextIs, SinkCausedBy, HasNone, Answers, FilesAre, CausedBy, UsageIff, Completes, EndsSoundly, IsLate, IsUnread}
 pub use Rattle.mn_answer.specs.Inputs.{IsSound}

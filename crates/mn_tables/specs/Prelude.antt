@@ -1,12 +1,9 @@
 -- The words of other crates that most clauses here cite, passed on from one place. Declares nothing.
 pub use Rattle.mn_edge.specs.Faults.{Counted}
-pub use Rattle.mn_wiring.specs.Wiring.{receiver, sender}
+pub use Rattle.mn_ledger.specs.Prelude.{receiver, sender, wiring_of, bgp_state_of, HeldRoute, Far, Frames, items_on, World}
 pub use Rattle.mn_text.specs.Addresses.{prefix_text}
-pub use Rattle.mn_topo.specs.Network.{wiring_of}
-pub use Rattle.mn_ledger.specs.Bgp.{bgp_state_of}
-pub use Rattle.mn_ledger.specs.Held.{HeldRoute, Own, Near, Far}
-pub use Rattle.mn_ledger.specs.Items.{Item, Frames, items_on}
-pub use Rattle.mn_ledger.specs.World.{World}
+pub use Rattle.mn_ledger.specs.Held.{Own, Near}
+pub use Rattle.mn_ledger.specs.Items.{Item}
 pub use Rattle.mn_frame_laws.specs.Given.{Labelling, label_at}
 pub use Rattle.mn_course_laws.specs.declared.coming.Kind.TheVariants.{Notice, Message}
 pub use Rattle.mn_lines.specs.Lines.{text}
