@@ -1,29 +1,29 @@
 -- As time goes on the frames that are overdue end, and the others fly on in their order.
-use Rattle.std.proofs.Common.{ℕ, zero, suc, ◌≡◌, ◌≢◌, ◌+◌, ◌<◌, ◌≤◌, inl, inr, Bool, true, false, cond, List, [], ◌∷◌, ◌++◌, map, filter, length, refl, arith}
+use Rattle.std.proofs.Common.{ℕ, ◌≡◌, ◌≢◌, ◌+◌, ◌<◌, ◌≤◌, inl, inr, Bool, true, false, cond, List, [], ◌∷◌, ◌++◌, map, filter, length, refl, arith}
 use Rattle.std.proofs.Common.{sym, ◌∙◌, ap, subst}
 use Rattle.std.specs.Prelude.{◌==◌, ◌&&◌, not, nat_lt, Option, Some, None, slice_get}
-use Rattle.std.proofs.lemmas.Bool.Decides.{eqb_tells, leb_tells}
+use Rattle.std.proofs.lemmas.Bool.Decides.{eqb_tells}
 use Rattle.std.proofs.lemmas.List.{append_assoc, length-append}
 use Rattle.mn_drops.specs.declared.drops.Rule.{Rule}
 use Rattle.mn_drops.specs.declared.drops.Rule.TheVariants as rule
 use Rattle.mn_topo.specs.Dir.{Dir}
 use Rattle.mn_topo.specs.Dir.TheVariants.{Forth, Back}
 use Rattle.mn_topo.specs.Wiring.{links_of, sender}
-use Rattle.mn_base.proofs.Bools.{two_ways, clash, same_numbers, less_tells, not_less_tells}
+use Rattle.mn_base.proofs.Bools.{two_ways, same_numbers, less_tells, not_less_tells}
 use Rattle.mn_base.proofs.Members.{In, range_in, in_range}
 use Rattle.mn_topo.specs.Network.{Network, wiring_of}
 use Rattle.mn_topo.specs.declared.steps.Step.{Step}
-use Rattle.mn_topo.specs.declared.steps.Step.TheVariants.{Tick, Carry, Lose}
+use Rattle.mn_topo.specs.declared.steps.Step.TheVariants.{Tick}
 use Rattle.mn_ledger.specs.Tables.{put}
 use Rattle.mn_ledger.specs.Packets.{Token, Packets, channel, flying_on, taken, fall, without_place}
 use Rattle.mn_ledger.specs.Time.{is_overdue, expire_from, expire_on, expire_over, expire, timed_by}
+use Rattle.mn_ledger.proofs.Channels.{same_chan}
 use Rattle.mn_ledger.proofs.GoingBy.{put_here, put_off}
 use Rattle.mn_ledger.specs.World.{World}
 use Rattle.mn_ledger.specs.Refusal.{is_empty}
-use Rattle.mn_ledger.specs.Items.{Channel, Notices, Messages, Routes, Frames, Load, Notice, Says, Tells, Carries, Item, Flight, same_channel, items_on, loads_on}
+use Rattle.mn_ledger.specs.Items.{Channel, Notices, Messages, Routes, Frames, Load, Carries, Item, Flight, same_channel, items_on, loads_on}
 use Rattle.mn_ledger.specs.Items.{is_late, in_time_by}
-use Rattle.mn_ledger.specs.InFlight.{is_in_order, AreLastOf, IsInFlight}
-use Rattle.std.specs.List.{Contains}
+use Rattle.mn_ledger.specs.InFlight.{is_in_order, IsInFlight}
 use Rattle.mn_base.proofs.Members.{in_filter, in_contained, contained_in}
 use Rattle.mn_ledger.proofs.Directions.{one_channel}
 
@@ -192,19 +192,11 @@ left_there t clock l d w = elim (two_ways (nat_lt l (length t.links))) [
 -- items
 
 not_frame : (on c : Channel) (load : Load) (t : Network) (clock : ℕ) → is_in_order on ≡ true → same_channel on c ≡ true → is_late t clock c load ≡ false
-not_frame (Notices l n) (Notices k m) load t clock i h = refl
-not_frame (Notices l n) (Messages k m) load t clock i h = refl
-not_frame (Notices l n) (Routes k m) load t clock i h = refl
-not_frame (Notices l n) (Frames k d) load t clock i h = cc
-not_frame (Messages l n) (Notices k m) load t clock i h = refl
-not_frame (Messages l n) (Messages k m) load t clock i h = refl
-not_frame (Messages l n) (Routes k m) load t clock i h = refl
-not_frame (Messages l n) (Frames k d) load t clock i h = cc
-not_frame (Routes l n) (Notices k m) load t clock i h = refl
-not_frame (Routes l n) (Messages k m) load t clock i h = refl
-not_frame (Routes l n) (Routes k m) load t clock i h = refl
-not_frame (Routes l n) (Frames k d) load t clock i h = cc
-not_frame (Frames l e) c load t clock i h = cc
+not_frame on c load t clock i h = ap (λ x. is_late t clock x load) (same_chan on c i h) ∙ never on load i
+  where
+    never : (on : Channel) (load : Load) → is_in_order on ≡ true → is_late t clock on load ≡ false
+    never (Frames l e) load i = cc
+    never _ load i = refl
 
 abbrev in_time_test : Network → ℕ → Item → Bool
 in_time_test t clock item = not (is_late t clock item.on item.load)

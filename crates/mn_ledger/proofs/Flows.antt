@@ -17,10 +17,10 @@ use Rattle.mn_topo.specs.declared.steps.Step.TheVariants.{LinkUp, LinkDown, Lear
 use Rattle.mn_topo.specs.declared.steps.Step.TheVariants.{Export, Attach, Detach, Inject, Carry, Lose, Tick}
 use Rattle.mn_topo.specs.declared.steps.JournalEntry.{JournalEntry}
 use Rattle.mn_ledger.specs.Tables.{put, put_pair}
-use Rattle.mn_ledger.specs.World.{World, Message, Telling, Sessions, Peerings, Views}
-use Rattle.mn_ledger.specs.Transport.{Said, is_transport, said_in, messages_of, ldp_counted, ldp_restarted, sessions_after}
+use Rattle.mn_ledger.specs.World.{World, Sessions, Peerings, Views}
+use Rattle.mn_ledger.specs.Transport.{Said, is_transport, said_in, ldp_counted, ldp_restarted, sessions_after}
 use Rattle.mn_ledger.specs.Bgp as ledger_bgp
-use Rattle.mn_ledger.specs.Bgp.{Told, tellings_of, peerings_after}
+use Rattle.mn_ledger.specs.Bgp.{Told, peerings_after}
 use Rattle.mn_ledger.specs.Packets.{Token, Packets, packets_after}
 use Rattle.mn_ledger.specs.Time.{clock_after, timed}
 use Rattle.mn_ledger.specs.Items.{in_time, in_time_by}
@@ -148,51 +148,48 @@ no_routes on h t w v s =
     let told : List Told = ledger_bgp.told_in t w.config w.peerings v.config (ledger_bgp.bgp_counted w.peerings s) s in
     if_none on (ledger_bgp.is_routing s) (map route_of told) (none_of on route_of h told)
 
-made_notices : (t : Network) (w v : World) (p q : Packets) (s : Step) (l node : ℕ) →
-    loads_in (Notices l node) (made_in t w v p q s) ≡ loads_in (Notices l node) (notices_in t s)
-made_notices t w v p q s l node =
-    parts (Notices l node) (notices_in t s) (messages_in t w v s) (routes_in t w v s) (frames_in p q s)
-    ∙ ap (λ r. loads_in (Notices l node) (notices_in t s) ++
-    (r ++ (loads_in (Notices l node) (routes_in t w v s) ++ loads_in (Notices l node) (frames_in p q s))))
-    (no_messages (Notices l node) (λ x. refl) t w v s)
-    ∙ ap (λ r. loads_in (Notices l node) (notices_in t s) ++ (r ++ loads_in (Notices l node) (frames_in p q s)))
-    (no_routes (Notices l node) (λ x. refl) t w v s)
-    ∙ ap (λ r. loads_in (Notices l node) (notices_in t s) ++ r) (frames_none (Notices l node) refl p q s)
-    ∙ append-nil (loads_in (Notices l node) (notices_in t s))
+-- a notice flies on no other channel
+no_notices_on : (on : Channel) → ((l n : ℕ) → same_channel on (Notices l n) ≡ false) → (t : Network) (s : Step) → loads_in on (notices_in t s) ≡ []
+no_notices_on on h t (LinkUp at) = none_of on (λ n. (Notices at.0 n, Notice)) (h at.0) (nodes_of (wiring_of t))
+no_notices_on on h t (LinkDown at) = none_of on (λ n. (Notices at.0 n, Notice)) (h at.0) (nodes_of (wiring_of t))
+no_notices_on on h t _ = refl
 
 pub no_notices : (t : Network) (s : Step) (l node : ℕ) → loads_in (Messages l node) (notices_in t s) ≡ []
-no_notices t (LinkUp at) l node = none_of (Messages l node) (λ n. (Notices at.0 n, Notice)) (λ n. refl) (nodes_of (wiring_of t))
-no_notices t (LinkDown at) l node = none_of (Messages l node) (λ n. (Notices at.0 n, Notice)) (λ n. refl) (nodes_of (wiring_of t))
-no_notices t _ l node = refl
+no_notices t s l node = no_notices_on (Messages l node) (λ k n. refl) t s
 
-made_messages : (t : Network) (w v : World) (p q : Packets) (s : Step) (l node : ℕ) →
-    loads_in (Messages l node) (made_in t w v p q s) ≡ loads_in (Messages l node) (messages_in t w v s)
-made_messages t w v p q s l node =
-    parts (Messages l node) (notices_in t s) (messages_in t w v s) (routes_in t w v s) (frames_in p q s)
-    ∙ ap (λ r. r ++
-    (loads_in (Messages l node) (messages_in t w v s) ++
-    (loads_in (Messages l node) (routes_in t w v s) ++ loads_in (Messages l node) (frames_in p q s)))) (no_notices t s l node)
-    ∙ ap (λ r. loads_in (Messages l node) (messages_in t w v s) ++ (r ++ loads_in (Messages l node) (frames_in p q s)))
-    (no_routes (Messages l node) (λ x. refl) t w v s)
-    ∙ ap (λ r. loads_in (Messages l node) (messages_in t w v s) ++ r) (frames_none (Messages l node) refl p q s)
-    ∙ append-nil (loads_in (Messages l node) (messages_in t w v s))
+-- one part in four has all
+first_alone : (a : List Load) {b c d : List Load} → b ≡ [] → c ≡ [] → d ≡ [] → a ++ (b ++ (c ++ d)) ≡ a
+first_alone a p q r = rw (p, q, r) (append-nil a)
 
-no_route_notices : (t : Network) (s : Step) (edge peer : ℕ) → loads_in (Routes edge peer) (notices_in t s) ≡ []
-no_route_notices t (LinkUp at) edge peer = none_of (Routes edge peer) (λ n. (Notices at.0 n, Notice)) (λ n. refl) (nodes_of (wiring_of t))
-no_route_notices t (LinkDown at) edge peer = none_of (Routes edge peer) (λ n. (Notices at.0 n, Notice)) (λ n. refl) (nodes_of (wiring_of t))
-no_route_notices t _ edge peer = refl
+second_alone : {a : List Load} (b : List Load) {c d : List Load} → a ≡ [] → c ≡ [] → d ≡ [] → a ++ (b ++ (c ++ d)) ≡ b
+second_alone b p q r = rw (p, q, r) (append-nil b)
 
-made_routes : (t : Network) (w v : World) (p q : Packets) (s : Step) (edge peer : ℕ) →
-    loads_in (Routes edge peer) (made_in t w v p q s) ≡ loads_in (Routes edge peer) (routes_in t w v s)
-made_routes t w v p q s edge peer =
-    parts (Routes edge peer) (notices_in t s) (messages_in t w v s) (routes_in t w v s) (frames_in p q s)
-    ∙ ap (λ r. r ++
-    (loads_in (Routes edge peer) (messages_in t w v s) ++
-    (loads_in (Routes edge peer) (routes_in t w v s) ++ loads_in (Routes edge peer) (frames_in p q s)))) (no_route_notices t s edge peer)
-    ∙ ap (λ r. r ++ (loads_in (Routes edge peer) (routes_in t w v s) ++ loads_in (Routes edge peer) (frames_in p q s)))
-    (no_messages (Routes edge peer) (λ x. refl) t w v s)
-    ∙ ap (λ r. loads_in (Routes edge peer) (routes_in t w v s) ++ r) (frames_none (Routes edge peer) refl p q s)
-    ∙ append-nil (loads_in (Routes edge peer) (routes_in t w v s))
+third_alone : {a b : List Load} (c : List Load) {d : List Load} → a ≡ [] → b ≡ [] → d ≡ [] → a ++ (b ++ (c ++ d)) ≡ c
+third_alone c p q r = rw (p, q, r) (append-nil c)
+
+fourth_alone : {a b c : List Load} (d : List Load) → a ≡ [] → b ≡ [] → c ≡ [] → a ++ (b ++ (c ++ d)) ≡ d
+fourth_alone d p q r = rw (p, q, r) refl
+
+-- the part of what a step makes that is for channels of this kind
+abbrev part_for : Channel → Network → World → World → Packets → Packets → Step → List (Channel × Load)
+part_for (Notices l node) t w v p q s = notices_in t s
+part_for (Messages l node) t w v p q s = messages_in t w v s
+part_for (Routes edge peer) t w v p q s = routes_in t w v s
+part_for (Frames l d) t w v p q s = frames_in p q s
+
+made_for : (on : Channel) (t : Network) (w v : World) (p q : Packets) (s : Step) → loads_in on (made_in t w v p q s) ≡ loads_in on (part_for on t w v p q s)
+made_for on t w v p q s = parts on (notices_in t s) (messages_in t w v s) (routes_in t w v s) (frames_in p q s) ∙ alone on
+  where
+    alone : (on : Channel) → loads_in on (notices_in t s) ++ (loads_in on (messages_in t w v s) ++ (loads_in on (routes_in t w v s) ++ loads_in on (frames_in p q s)))
+        ≡ loads_in on (part_for on t w v p q s)
+    alone (Notices l node) = let on : Channel = Notices l node in
+        first_alone (loads_in on (notices_in t s)) (no_messages on (λ x. refl) t w v s) (no_routes on (λ x. refl) t w v s) (frames_none on refl p q s)
+    alone (Messages l node) = let on : Channel = Messages l node in
+        second_alone (loads_in on (messages_in t w v s)) (no_notices t s l node) (no_routes on (λ x. refl) t w v s) (frames_none on refl p q s)
+    alone (Routes edge peer) = let on : Channel = Routes edge peer in
+        third_alone (loads_in on (routes_in t w v s)) (no_notices_on on (λ k n. refl) t s) (no_messages on (λ x. refl) t w v s) (frames_none on refl p q s)
+    alone (Frames l d) = let on : Channel = Frames l d in
+        fourth_alone (loads_in on (frames_in p q s)) (no_notices_on on (λ k n. refl) t s) (no_messages on (λ x. refl) t w v s) (no_routes on (λ x. refl) t w v s)
 
 abbrev later_items : Network → World → Packets → Packets → Step → ℕ → ℕ → List Item → List Item
 later_items t w p q s tick n items = left_in_flight t s items ++ numbered t tick n (made_in t w (after t w s) p q s)
@@ -207,6 +204,22 @@ loads_kept : (t : Network) (s : Step) (on : Channel) → is_in_order on ≡ true
     (items : List Item) → loads_on on (left_in_flight t s items) ≡ loads_on on items
 loads_kept t s on i h items = ap (map (λ (item : Item). item.load)) (untouched t s on i h items)
 
+-- what is said or told comes after what isn't heard yet
+comes_after : {A : Type 0} (load : A → Load) (t : Network) (w : World) (p q : Packets) (s : Step) (tick n : ℕ) (items : List Item) (on : Channel)
+    (h : ℕ) (old new : List A) → loads_on on (left_in_flight t s items) ≡ map load (drop h old) → h ≤ length old →
+    loads_in on (part_for on t w (after t w s) p q s) ≡ map load new → loads_on on (later_items t w p q s tick n items) ≡ map load (drop h (old ++ new))
+comes_after load t w p q s tick n items on h old new left few made =
+    later_loads t w p q s tick n items on ∙ ap (λ r. r ++ loads_in on (made_in t w (after t w s) p q s)) left
+    ∙ ap (λ r. map load (drop h old) ++ r) (made_for on t w (after t w s) p q s ∙ made)
+    ∙ sym (map-append load (drop h old) new) ∙ ap (map load) (sym (drop-append-le h old new few))
+
+-- a pair of numbers is this one, or differs in one of the two
+pair_ways : {P : Type 0} (x a y b : ℕ) → ((x ≢ a) ⊎ (y ≢ b) → P) → (x ≡ a → y ≡ b → P) → P
+pair_ways x a y b other here = elim (eqb_tells x a) [
+  | inr p ↦ other (inl p.1)
+  | inl p ↦ elim (eqb_tells y b) [ inr r ↦ other (inr r.1) | inl r ↦ here p.1 r.1 ]
+]
+
 -- 4. Notices
 
 count_later : (t : Network) (w : World) (p q : Packets) (s : Step) (tick n : ℕ) (items : List Item) (l node : ℕ)
@@ -214,7 +227,7 @@ count_later : (t : Network) (w : World) (p q : Packets) (s : Step) (tick n : ℕ
     (loads_in (Notices l node) (notices_in t s))
 count_later t w p q s tick n items l node =
     ap length (later_loads t w p q s tick n items (Notices l node)
-    ∙ ap (λ r. loads_on (Notices l node) (left_in_flight t s items) ++ r) (made_notices t w (after t w s) p q s l node))
+    ∙ ap (λ r. loads_on (Notices l node) (left_in_flight t s items) ++ r) (made_for (Notices l node) t w (after t w s) p q s))
     ∙ length-append (loads_on (Notices l node) (left_in_flight t s items)) (loads_in (Notices l node) (notices_in t s))
 
 -- the link comes up or goes down
@@ -268,19 +281,13 @@ learns_all t v who at items left l node is less off h =
       ap length
           (off (both (l == at) (node == who) (elim d [ inl p ↦ inr (other_test node who p) | inr p ↦ inl (other_test l at p) ]))),
     ) in
-    elim (eqb_tells node who) [
-      | inr p ↦ other (inl p.1)
-      | inl p ↦ elim (eqb_tells l at) [
-        | inr q ↦ other (inr q.1)
-        | inl q ↦
-            subst (λ j. put_pair v.learned who at (v.learned who at + 1) j l + length (loads_on (Notices l j) left) ≡ v.changes l) (sym p.1)
-            (subst (λ j. put_pair v.learned who at (v.learned who at + 1) who j + length (loads_on (Notices j who) left) ≡ v.changes j) (sym q.1)
-            (subst (λ r. put_pair v.learned who at (v.learned who at + 1) who at + length (loads_on (Notices at who) r) ≡ v.changes at) (sym is)
-            (learns v who at items less
-            (subst (λ j. v.learned who j + length (loads_on (Notices j who) items) ≡ v.changes j) q.1
-            (subst (λ j. v.learned j l + length (loads_on (Notices l j) items) ≡ v.changes l) p.1 h)))))
-      ]
-    ]
+    pair_ways node who l at other
+    (λ p q. subst (λ j. put_pair v.learned who at (v.learned who at + 1) j l + length (loads_on (Notices l j) left) ≡ v.changes l) (sym p)
+    (subst (λ j. put_pair v.learned who at (v.learned who at + 1) who j + length (loads_on (Notices j who) left) ≡ v.changes j) (sym q)
+    (subst (λ r. put_pair v.learned who at (v.learned who at + 1) who at + length (loads_on (Notices at who) r) ≡ v.changes at) (sym is)
+    (learns v who at items less
+    (subst (λ j. v.learned who j + length (loads_on (Notices j who) items) ≡ v.changes j) q
+    (subst (λ j. v.learned j l + length (loads_on (Notices l j) items) ≡ v.changes l) p h))))))
 
 abbrev NoticesGo : Network → World → Packets → Packets → Step → ℕ → ℕ → List Item → ℕ → ℕ → Type 0
 NoticesGo t w p q s tick n items l node =
@@ -320,18 +327,6 @@ abbrev MessagesGo : Network → World → Packets → Packets → Step → ℕ �
 MessagesGo t w p q s tick n items l node =
     loads_on (Messages l node) (later_items t w p q s tick n items) ≡ map (λ message. Says message)
     (drop ((after t w s).sessions.heard l (across (wiring_of t) l node)) ((after t w s).sessions.said l node))
-
--- what is said comes after what isn't heard yet
-speaks : (t : Network) (w : World) (p q : Packets) (s : Step) (tick n : ℕ) (items : List Item) (l node : ℕ) (h : ℕ) (old : List Message) (xs : List Said)
-    → loads_on (Messages l node) (left_in_flight t s items) ≡ map (λ message. Says message) (drop h old) → h ≤ length old
-    → loads_in (Messages l node) (messages_in t w (after t w s) s) ≡ map (λ message. Says message) (messages_of l node xs)
-    → loads_on (Messages l node) (later_items t w p q s tick n items) ≡ map (λ message. Says message) (drop h (old ++ messages_of l node xs))
-speaks t w p q s tick n items l node h old xs left few new =
-    later_loads t w p q s tick n items (Messages l node)
-    ∙ ap (λ r. r ++ loads_in (Messages l node) (made_in t w (after t w s) p q s)) left
-    ∙ ap (λ r. map (λ message. Says message) (drop h old) ++ r) (made_messages t w (after t w s) p q s l node ∙ new)
-    ∙ sym (map-append (λ message. Says message) (drop h old) (messages_of l node xs))
-    ∙ ap (map (λ message. Says message)) (sym (drop-append-le h old (messages_of l node xs) few))
 
 -- the life of a link's session ends or begins
 renewed : (s : Sessions) (at l node other : ℕ) (left items : List Item) → (l ≡ at → loads_on (Messages l node) left ≡ []) →
@@ -384,13 +379,7 @@ hears s wiring at who far l node left items differ at_end here there less is off
     let same : next l (across wiring l node) ≡ s.heard l (across wiring l node) =
     pair_off s.heard at who (s.heard at who + 1) l (across wiring l node) (far_off d) in
     (off (apart_pair d) ∙ h ∙ ap (λ m. map (λ message. Says message) (drop m (s.said l node))) (sym same), omega (arith, same, few)) in
-    elim (eqb_tells l at) [
-      | inr p ↦ other (inl p.1)
-      | inl p ↦ elim (eqb_tells node far) [
-        | inr r ↦ other (inr r.1)
-        | inl r ↦ both_here p.1 r.1
-      ]
-    ]
+    pair_ways l at node far other both_here
   where
     apart_pair : (l ≢ at) ⊎ (node ≢ far) → ((l == at) && (node == far)) ≡ false
     apart_pair d = both (l == at) (node == far) (elim d [ inl p ↦ inl (other_test l at p) | inr p ↦ inr (other_test node far p) ])
@@ -448,19 +437,19 @@ messages_go t w p q (LinkUp at) tick n items l node differ inside below at_end f
     let new = renewed w.sessions at.0 l node (across (wiring_of t) l node) (left_in_flight t (LinkUp at) items) items
     (λ e. emptied (Messages l node) (is_session_of at.0) refl (same_is l at.0 e) items)
     (λ d. loads_kept t (LinkUp at) (Messages l node) refl (other_test at.0 l (λ e. d (sym e))) items) few h in
-    speaks t w p q (LinkUp at) tick n items l node _ _ _ new.0 new.1 (in_messages l node _)
+    comes_after (λ message. Says message) t w p q (LinkUp at) tick n items (Messages l node) _ _ _ new.0 new.1 (in_messages l node _)
 messages_go t w p q (LinkDown at) tick n items l node differ inside below at_end full few h =
     let new = renewed w.sessions at.0 l node (across (wiring_of t) l node) (left_in_flight t (LinkDown at) items) items
     (λ e. emptied (Messages l node) (λ c. is_session_of at.0 c || is_over at.0 c) refl (ap (λ b. b || false) (same_is l at.0 e)) items)
     (λ d. loads_kept t (LinkDown at) (Messages l node) refl (ap (λ b. b || false) (other_test at.0 l (λ e. d (sym e)))) items) few h in
-    speaks t w p q (LinkDown at) tick n items l node _ _ _ new.0 new.1 (in_messages l node _)
+    comes_after (λ message. Says message) t w p q (LinkDown at) tick n items (Messages l node) _ _ _ new.0 new.1 (in_messages l node _)
 messages_go t w p q (LdpAdmin at on) tick n items l node differ inside below at_end full few h =
     let new = renewed w.sessions at.0 l node (across (wiring_of t) l node) (left_in_flight t (LdpAdmin at on) items) items
     (λ e. emptied (Messages l node) (is_session_of at.0) refl (same_is l at.0 e) items)
     (λ d. loads_kept t (LdpAdmin at on) (Messages l node) refl (other_test at.0 l (λ e. d (sym e))) items) few h in
-    speaks t w p q (LdpAdmin at on) tick n items l node _ _ _ new.0 new.1 (in_messages l node _)
+    comes_after (λ message. Says message) t w p q (LdpAdmin at on) tick n items (Messages l node) _ _ _ new.0 new.1 (in_messages l node _)
 messages_go t w p q (Learn who at) tick n items l node differ inside below at_end full few h =
-    speaks t w p q (Learn who at) tick n items l node _ _ _ (loads_kept t (Learn who at) (Messages l node) refl refl items ∙ h) few (in_messages l node _)
+    comes_after (λ message. Says message) t w p q (Learn who at) tick n items (Messages l node) _ _ _ (loads_kept t (Learn who at) (Messages l node) refl refl items ∙ h) few (in_messages l node _)
 messages_go t w p q (HearLdp at dir) tick n items l node differ inside below at_end full few h =
     let ends = dir_ends (wiring_of t) at.0 dir (differ at.0 inside) in
     let back = ap (across (wiring_of t) at.0) (sym ends.1) ∙ (across-end (wiring_of t) at.0 (receiver (wiring_of t) at.0 dir) (differ at.0 inside) ends.0).1 in
@@ -468,9 +457,9 @@ messages_go t w p q (HearLdp at dir) tick n items l node differ inside below at_
     hears w.sessions (wiring_of t) at.0 (receiver (wiring_of t) at.0 dir) (sender (wiring_of t) at.0 dir) l node
     (left_in_flight t (HearLdp at dir) items) items (differ l below) at_end ends.1 back
     (above _ _ (or_both _ _ full).1) refl (λ e. loads_kept t (HearLdp at dir) (Messages l node) refl e items) few h in
-    speaks t w p q (HearLdp at dir) tick n items l node _ _ _ new.0 new.1 (in_messages l node _)
+    comes_after (λ message. Says message) t w p q (HearLdp at dir) tick n items (Messages l node) _ _ _ new.0 new.1 (in_messages l node _)
 messages_go t w p q s tick n items l node differ inside below at_end full few h =
-    quiet t w p q s tick n items (Messages l node) refl refl (made_messages t w (after t w s) p q s l node) ∙ h
+    quiet t w p q s tick n items (Messages l node) refl refl (made_for (Messages l node) t w (after t w s) p q s) ∙ h
 
 -- 6. Messages of BGP
 
@@ -478,17 +467,6 @@ abbrev RoutesGo : Network → World → Packets → Packets → Step → ℕ →
 RoutesGo t w p q s tick n items edge peer =
     loads_on (Routes edge peer) (later_items t w p q s tick n items) ≡ map (λ telling. Tells telling)
     (drop ((after t w s).peerings.heard peer edge) ((after t w s).peerings.told edge peer))
-
-tells : (t : Network) (w : World) (p q : Packets) (s : Step) (tick n : ℕ) (items : List Item) (edge peer : ℕ) (h : ℕ) (old : List Telling) (xs : List Told)
-    → loads_on (Routes edge peer) (left_in_flight t s items) ≡ map (λ telling. Tells telling) (drop h old) → h ≤ length old
-    → loads_in (Routes edge peer) (routes_in t w (after t w s) s) ≡ map (λ telling. Tells telling) (tellings_of edge peer xs)
-    → loads_on (Routes edge peer) (later_items t w p q s tick n items) ≡ map (λ telling. Tells telling) (drop h (old ++ tellings_of edge peer xs))
-tells t w p q s tick n items edge peer h old xs left few new =
-    later_loads t w p q s tick n items (Routes edge peer)
-    ∙ ap (λ r. r ++ loads_in (Routes edge peer) (made_in t w (after t w s) p q s)) left
-    ∙ ap (λ r. map (λ telling. Tells telling) (drop h old) ++ r) (made_routes t w (after t w s) p q s edge peer ∙ new)
-    ∙ sym (map-append (λ telling. Tells telling) (drop h old) (tellings_of edge peer xs))
-    ∙ ap (map (λ telling. Tells telling)) (sym (drop-append-le h old (tellings_of edge peer xs) few))
 
 abbrev Unheard : Peerings → ℕ → ℕ → List Item → Type 0
 Unheard k edge peer items =
@@ -558,13 +536,7 @@ heeds k a b edge peer left items less is off u =
     all_left k new edge peer left items
     (off (both (edge == a) (peer == b) (elim d [ inl p ↦ inl (other_test edge a p) | inr p ↦ inr (other_test peer b p) ]))) refl
     (pair_off k.heard b a (k.heard b a + 1) peer edge (swap d)) u in
-    elim (eqb_tells edge a) [
-      | inr p ↦ other (inl p.1)
-      | inl p ↦ elim (eqb_tells peer b) [
-        | inr r ↦ other (inr r.1)
-        | inl r ↦ here p.1 r.1
-      ]
-    ]
+    pair_ways edge a peer b other here
   where
     here : edge ≡ a → peer ≡ b → Unheard (record k { heard = put_pair k.heard b a (k.heard b a + 1) }) edge peer left
     here e d =
@@ -589,37 +561,37 @@ routes_go t w p q (BgpUp a b) tick n items edge peer order full u =
     let new =
     begun w.peerings a.0 b.0 edge peer (left_in_flight t (BgpUp a b) items) items (other_than a.0 b.0 order)
     (λ e. emptied (Routes edge peer) (is_between a.0 b.0) refl e items) (λ e. loads_kept t (BgpUp a b) (Routes edge peer) refl e items) u in
-    tells t w p q (BgpUp a b) tick n items edge peer _ _ (told_by t w (BgpUp a b)) new.0 new.1 (in_routes edge peer (told_by t w (BgpUp a b)))
+    comes_after (λ telling. Tells telling) t w p q (BgpUp a b) tick n items (Routes edge peer) _ _ _ new.0 new.1 (in_routes edge peer (told_by t w (BgpUp a b)))
 routes_go t w p q (BgpDown a b) tick n items edge peer order full u =
     let new =
     begun w.peerings a.0 b.0 edge peer (left_in_flight t (BgpDown a b) items) items (other_than a.0 b.0 order)
     (λ e. emptied (Routes edge peer) (is_between a.0 b.0) refl e items) (λ e. loads_kept t (BgpDown a b) (Routes edge peer) refl e items) u in
-    tells t w p q (BgpDown a b) tick n items edge peer _ _ (told_by t w (BgpDown a b)) new.0 new.1 (in_routes edge peer (told_by t w (BgpDown a b)))
+    comes_after (λ telling. Tells telling) t w p q (BgpDown a b) tick n items (Routes edge peer) _ _ _ new.0 new.1 (in_routes edge peer (told_by t w (BgpDown a b)))
 routes_go t w p q (HearBgp a b) tick n items edge peer order full u =
     let new =
     heeds w.peerings a.0 b.0 edge peer (left_in_flight t (HearBgp a b) items) items (above _ _ (or_both _ _ full).1) refl
     (λ e. loads_kept t (HearBgp a b) (Routes edge peer) refl e items) u in
-    tells t w p q (HearBgp a b) tick n items edge peer _ _ (told_by t w (HearBgp a b)) new.0 new.1 (in_routes edge peer (told_by t w (HearBgp a b)))
+    comes_after (λ telling. Tells telling) t w p q (HearBgp a b) tick n items (Routes edge peer) _ _ _ new.0 new.1 (in_routes edge peer (told_by t w (HearBgp a b)))
 routes_go t w p q (AddRoute a b) tick n items edge peer order full u =
-    tells t w p q (AddRoute a b) tick n items edge peer _ _ (told_by t w (AddRoute a b)) (loads_kept t (AddRoute a b) (Routes edge peer) refl refl items
+    comes_after (λ telling. Tells telling) t w p q (AddRoute a b) tick n items (Routes edge peer) _ _ _ (loads_kept t (AddRoute a b) (Routes edge peer) refl refl items
     ∙ u.0) u.1 (in_routes edge peer (told_by t w (AddRoute a b)))
 routes_go t w p q (DelRoute a b) tick n items edge peer order full u =
-    tells t w p q (DelRoute a b) tick n items edge peer _ _ (told_by t w (DelRoute a b)) (loads_kept t (DelRoute a b) (Routes edge peer) refl refl items
+    comes_after (λ telling. Tells telling) t w p q (DelRoute a b) tick n items (Routes edge peer) _ _ _ (loads_kept t (DelRoute a b) (Routes edge peer) refl refl items
     ∙ u.0) u.1 (in_routes edge peer (told_by t w (DelRoute a b)))
 routes_go t w p q (Import v on x) tick n items edge peer order full u =
-    tells t w p q (Import v on x) tick n items edge peer _ _ (told_by t w (Import v on x)) (loads_kept t (Import v on x) (Routes edge peer) refl refl items
+    comes_after (λ telling. Tells telling) t w p q (Import v on x) tick n items (Routes edge peer) _ _ _ (loads_kept t (Import v on x) (Routes edge peer) refl refl items
     ∙ u.0) u.1 (in_routes edge peer (told_by t w (Import v on x)))
 routes_go t w p q (Export v on x) tick n items edge peer order full u =
-    tells t w p q (Export v on x) tick n items edge peer _ _ (told_by t w (Export v on x)) (loads_kept t (Export v on x) (Routes edge peer) refl refl items
+    comes_after (λ telling. Tells telling) t w p q (Export v on x) tick n items (Routes edge peer) _ _ _ (loads_kept t (Export v on x) (Routes edge peer) refl refl items
     ∙ u.0) u.1 (in_routes edge peer (told_by t w (Export v on x)))
 routes_go t w p q (Attach a) tick n items edge peer order full u =
-    tells t w p q (Attach a) tick n items edge peer _ _ (told_by t w (Attach a)) (loads_kept t (Attach a) (Routes edge peer) refl refl items ∙ u.0) u.1
+    comes_after (λ telling. Tells telling) t w p q (Attach a) tick n items (Routes edge peer) _ _ _ (loads_kept t (Attach a) (Routes edge peer) refl refl items ∙ u.0) u.1
     (in_routes edge peer (told_by t w (Attach a)))
 routes_go t w p q (Detach a) tick n items edge peer order full u =
-    tells t w p q (Detach a) tick n items edge peer _ _ (told_by t w (Detach a)) (loads_kept t (Detach a) (Routes edge peer) refl refl items ∙ u.0) u.1
+    comes_after (λ telling. Tells telling) t w p q (Detach a) tick n items (Routes edge peer) _ _ _ (loads_kept t (Detach a) (Routes edge peer) refl refl items ∙ u.0) u.1
     (in_routes edge peer (told_by t w (Detach a)))
 routes_go t w p q s tick n items edge peer order full u =
-    quiet t w p q s tick n items (Routes edge peer) refl refl (made_routes t w (after t w s) p q s edge peer) ∙ u.0
+    quiet t w p q s tick n items (Routes edge peer) refl refl (made_for (Routes edge peer) t w (after t w s) p q s) ∙ u.0
 
 -- 7. Numbers
 
@@ -709,20 +681,6 @@ among_go t s items made new h x c = elim (in_append (left_in_flight t s items) n
   | inr i ↦ contained_in (made ++ new) x (in_rest made new x i)
 ]
 
-made_frames : (t : Network) (w v : World) (p q : Packets) (s : Step) (l : ℕ) (d : Dir) →
-    loads_in (Frames l d) (made_in t w v p q s) ≡ loads_in (Frames l d) (frames_in p q s)
-made_frames t w v p q s l d =
-    parts (Frames l d) (notices_in t s) (messages_in t w v s) (routes_in t w v s) (frames_in p q s)
-    ∙ ap (λ r. r ++ (loads_in (Frames l d) (messages_in t w v s) ++ (loads_in (Frames l d) (routes_in t w v s) ++ loads_in (Frames l d) (frames_in p q s))))
-    (no_frame_notices s)
-    ∙ ap (λ r. r ++ (loads_in (Frames l d) (routes_in t w v s) ++ loads_in (Frames l d) (frames_in p q s))) (no_messages (Frames l d) (λ x. refl) t w v s)
-    ∙ ap (λ r. r ++ loads_in (Frames l d) (frames_in p q s)) (no_routes (Frames l d) (λ x. refl) t w v s)
-  where
-    no_frame_notices : (s : Step) → loads_in (Frames l d) (notices_in t s) ≡ []
-    no_frame_notices (LinkUp at) = none_of (Frames l d) (λ n. (Notices at.0 n, Notice)) (λ n. refl) (nodes_of (wiring_of t))
-    no_frame_notices (LinkDown at) = none_of (Frames l d) (λ n. (Notices at.0 n, Notice)) (λ n. refl) (nodes_of (wiring_of t))
-    no_frame_notices _ = refl
-
 flows_step : (t : Network) → EndsDiffer (wiring_of t) → (w : World) (p : Packets) (s : Step) (b : List ℕ) (tick count : ℕ) → fits t s ≡ true →
     is_empty t w p s ≡ false → IsInTurn t w → AreInOnePlace p count → (made : List Item) (flight : Flight) → IsInFlight t w p made flight
     → (let later : Packets = packets_after t (after t w s) p s b in
@@ -746,7 +704,7 @@ flows_step t differ w p s b tick count fit full g one made flight f =
           (f.routes edge peer d, (g.bgp peer edge (λ e. d (sym e))).heard);
       frames = λ l dir.
           later_loads t w p q s tick flight.made flight.items (Frames l dir)
-          ∙ ap (λ r. loads_on (Frames l dir) (left_in_flight t s flight.items) ++ r) (made_frames t w (after t w s) p q s l dir)
+          ∙ ap (λ r. loads_on (Frames l dir) (left_in_flight t s flight.items) ++ r) (made_for (Frames l dir) t w (after t w s) p q s)
           ∙ frames_go t (after t w s) p s b flight.items count l dir one f.frames;
     }
 

@@ -20,7 +20,7 @@ use Rattle.mn_ledger.specs.Tables.{put}
 use Rattle.mn_ledger.specs.Places.{home_of, vrf_of}
 use Rattle.mn_ledger.specs.World.{World}
 use Rattle.mn_ledger.specs.Transport.{usable}
-use Rattle.mn_ledger.specs.Held.{HeldRoute, best, held}
+use Rattle.mn_ledger.specs.Held.{HeldRoute, best}
 use Rattle.mn_ledger.specs.Packets.{Token, Packets, channel, flying_on, away_from, judged, drop_at, visited, deliver, hop_over, entry_rules, bound, stamped}
 use Rattle.mn_ledger.specs.Eligible.{eligible}
 use Rattle.mn_ledger.specs.Packets.{route_by, enter_by, one_more, without_place, taken, is_attachment, leave, arrive, carry, lose, cut_each, before_step}
@@ -31,7 +31,8 @@ use Rattle.mn_ledger.specs.Items.{frame_after, frames_in, is_session_of, is_over
 use Rattle.mn_ledger.proofs.Peers.{same_numbers, same_test, other_test}
 use Rattle.mn_ledger.proofs.GoingBy.{put_here, put_off}
 use Rattle.mn_ledger.proofs.OnePlace.{arms, judged_on, loosen, fresh, unmarked}
-use Rattle.mn_ledger.proofs.Channels.{kept, gone, off, loads_in}
+use Rattle.mn_ledger.proofs.Channels.{same_chan, kept, gone, off, loads_in}
+use Rattle.mn_ledger.specs.InFlight.{is_in_order}
 
 -- the packets that fly on a channel, as loads
 carried_on : Packets → ℕ → List Load
@@ -235,23 +236,13 @@ only_frames l d P h (Notices o f) q = absurd (no q)
 only_frames l d P h (Messages o f) q = absurd (no q)
 only_frames l d P h (Routes o f) q = absurd (no q)
 
-no_notice : (l : ℕ) (d : Dir) (k n : ℕ) (c : Channel) → same_channel (Notices k n) c ≡ true → same_channel (Frames l d) c ≡ false
-no_notice l d k n (Notices o f) q = refl
-no_notice l d k n (Messages o f) q = refl
-no_notice l d k n (Routes o f) q = refl
-no_notice l d k n (Frames o f) q = absurd (no q)
-
-no_message : (l : ℕ) (d : Dir) (k n : ℕ) (c : Channel) → same_channel (Messages k n) c ≡ true → same_channel (Frames l d) c ≡ false
-no_message l d k n (Notices o f) q = refl
-no_message l d k n (Messages o f) q = refl
-no_message l d k n (Routes o f) q = refl
-no_message l d k n (Frames o f) q = absurd (no q)
-
-no_route : (l : ℕ) (d : Dir) (k n : ℕ) (c : Channel) → same_channel (Routes k n) c ≡ true → same_channel (Frames l d) c ≡ false
-no_route l d k n (Notices o f) q = refl
-no_route l d k n (Messages o f) q = refl
-no_route l d k n (Routes o f) q = refl
-no_route l d k n (Frames o f) q = absurd (no q)
+-- what is on a channel that hands over in order is no frame
+no_frame_on : (l : ℕ) (d : Dir) (on : Channel) → is_in_order on ≡ true → (c : Channel) → same_channel on c ≡ true → same_channel (Frames l d) c ≡ false
+no_frame_on l d on i c q = ap (same_channel (Frames l d)) (same_chan on c i q) ∙ none on i
+  where
+    none : (on : Channel) → is_in_order on ≡ true → same_channel (Frames l d) on ≡ false
+    none (Frames k e) i = absurd (no i)
+    none _ i = refl
 
 carry_goes : (t : Network) (v : World) (w : Packets) (k : ℕ) (e : Dir) (n count y : ℕ) (items : List Item) (l : ℕ) (d : Dir) (o : Option Token) →
     slice_get (w.flying (channel k e)) n ≡ o → AreInOnePlace w count → AsCarried w items
@@ -333,11 +324,11 @@ frames_go t v w (BgpDown x y) b items count l d one h =
     (kept (Frames l d) (is_between x.0 y.0) (only_frames l d (λ c. is_between x.0 y.0 c ≡ false) (λ o f. refl)) items) ∙ h l d
 frames_go t v w (Learn n k) b items count l d one h =
     append-nil (loads_on (Frames l d) (left_in_flight t (Learn n k) items))
-    ∙ ap (map (λ (item : Item). item.load)) (off (Frames l d) (Notices k.0 n.0) (no_notice l d k.0 n.0) 0 items) ∙ h l d
+    ∙ ap (map (λ (item : Item). item.load)) (off (Frames l d) (Notices k.0 n.0) (no_frame_on l d (Notices k.0 n.0) refl) 0 items) ∙ h l d
 frames_go t v w (HearLdp k e) b items count l d one h =
     append-nil (loads_on (Frames l d) (left_in_flight t (HearLdp k e) items))
-    ∙ ap (map (λ (item : Item). item.load)) (off (Frames l d) (Messages k.0 _) (no_message l d k.0 _) 0 items) ∙ h l d
+    ∙ ap (map (λ (item : Item). item.load)) (off (Frames l d) (Messages k.0 _) (no_frame_on l d (Messages k.0 _) refl) 0 items) ∙ h l d
 frames_go t v w (HearBgp x y) b items count l d one h =
     append-nil (loads_on (Frames l d) (left_in_flight t (HearBgp x y) items))
-    ∙ ap (map (λ (item : Item). item.load)) (off (Frames l d) (Routes x.0 y.0) (no_route l d x.0 y.0) 0 items) ∙ h l d
+    ∙ ap (map (λ (item : Item). item.load)) (off (Frames l d) (Routes x.0 y.0) (no_frame_on l d (Routes x.0 y.0) refl) 0 items) ∙ h l d
 frames_go t v w s b items count l d one h = append-nil (loads_on (Frames l d) items) ∙ h l d

@@ -1,4 +1,5 @@
 pub mod Deciding
+pub mod Running
 pub mod TwoLinks
 pub mod MoreRuns
 pub mod OnePlace

@@ -56,11 +56,9 @@ pairs before (x ∷ xs) h (suc i) (suc j) d low high = pairs before xs h.1 i j d
 
 pub each_filter : {A : Type 0} (before : A → A → Type 0) (p : A → Bool) (xs : List A) → EachBefore before xs → EachBefore before (filter p xs)
 each_filter before p [] h = tt
-each_filter before p (x ∷ xs) h = split (p x) (each_filter before p xs h.1)
-  where
-    split : (b : Bool) → EachBefore before (filter p xs) → EachBefore before (cond b (x ∷ filter p xs) (filter p xs))
-    split true g = (λ y i. h.0 y (in_filter p xs y i).0, g)
-    split false g = g
+each_filter before p (x ∷ xs) h =
+    let rest = each_filter before p xs h.1 in
+    elim (p x) as (λ b. EachBefore before (cond b (x ∷ filter p xs) (filter p xs))) [ true ↦ (λ y i. h.0 y (in_filter p xs y i).0, rest) | false ↦ rest ]
 
 pub each_map : {A B : Type 0} (before : A → A → Type 0) (later : B → B → Type 0) (f : A → B) (xs : List A) →
     ((x y : A) → In xs x → In xs y → before x y → later (f x) (f y)) → EachBefore before xs → EachBefore later (map f xs)

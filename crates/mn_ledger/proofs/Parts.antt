@@ -1,4 +1,5 @@
 -- A step leaves the parts that it isn't of, and the last step that names a thing decides it.
+use Rattle.std.proofs.Common.{subst}
 use Rattle.std.proofs.Common.{◌≡◌, ◌≢◌, ◌⊎◌, ℕ, ◌+◌, ◌==◌, ◌++◌, filter, Bool, true, false, cond, List, [], ◌∷◌, Option, Some, None, refl, sym, ◌∙◌, ap}
 use Rattle.std.proofs.Common.{arith, inl, inr}
 use Rattle.std.specs.Prelude.{unwrap_or, if◌then◌else◌, is_some, not, ◌&&◌, ◌||◌, nat_lt}
@@ -6,14 +7,14 @@ use Rattle.std.proofs.lemmas.Bool.Decides.{eqb_tells}
 use Rattle.mn_base.proofs.Bools.{clash, and_left, and_right, other_test, same_numbers, same_test, two_ways}
 use Rattle.mn_topo.specs.Network.{Network, wiring_of}
 use Rattle.mn_topo.specs.declared.steps.Step.{Step}
-use Rattle.mn_topo.specs.declared.steps.Step.TheVariants.{LinkUp, LinkDown, Learn, LdpAdmin, HearLdp, BgpUp, BgpDown, HearBgp, AddRoute, DelRoute, Import}
+use Rattle.mn_topo.specs.declared.steps.Step.TheVariants.{LinkUp, LinkDown, Learn, LdpAdmin, BgpUp, BgpDown, AddRoute, DelRoute, Import}
 use Rattle.mn_topo.specs.declared.steps.Step.TheVariants.{Export, Attach, Detach, Inject, Carry, Lose, Tick}
 use Rattle.mn_topo.specs.declared.steps.JournalEntry.{JournalEntry}
-use Rattle.mn_ledger.specs.World.{World}
+use Rattle.mn_ledger.specs.World.{World, Config, Peerings}
 use Rattle.mn_ledger.specs.Packets.{Packets, packets_after, before_step}
 use Rattle.mn_ledger.specs.Transport.{is_transport, knowledge_of, usable_by, sessions_after}
 use Rattle.mn_ledger.specs.Exports.{exports_of}
-use Rattle.mn_ledger.specs.Bgp.{is_routing, peerings_after}
+use Rattle.mn_ledger.specs.Bgp.{is_routing, peerings_after, told_all}
 use Rattle.mn_ledger.specs.Held.{held}
 use Rattle.mn_ledger.specs.Ledger.{after, start, world_from, with_target, is_static}
 use Rattle.mn_topo.specs.Prefix.{AddressBlock}
@@ -24,24 +25,8 @@ use Rattle.mn_ledger.specs.Parts.{is_configuring, is_viewing, is_moving, KeepsOt
 use Rattle.mn_ledger.specs.Parts.{teaches, attaches_site, makes_attached, imports_target, exports_target, routes_prefix, IsByLastSteps}
 
 config_kept : (t : Network) (w : World) (s : Step) → is_configuring s ≡ false → (after t w s).config ≡ w.config
-config_kept t w (Learn n l) h = refl
-config_kept t w (HearLdp l d) h = refl
-config_kept t w (HearBgp a b) h = refl
-config_kept t w (Inject s n) h = refl
-config_kept t w (Carry l d n) h = refl
-config_kept t w (Lose l d n) h = refl
 config_kept t w (Tick n) h = refl
-config_kept t w (LinkUp l) h = cc
-config_kept t w (LinkDown l) h = cc
-config_kept t w (LdpAdmin l on) h = cc
-config_kept t w (BgpUp a b) h = cc
-config_kept t w (BgpDown a b) h = cc
-config_kept t w (AddRoute s p) h = cc
-config_kept t w (DelRoute s p) h = cc
-config_kept t w (Import v on x) h = cc
-config_kept t w (Export v on x) h = cc
-config_kept t w (Attach s) h = cc
-config_kept t w (Detach s) h = cc
+config_kept t w _ h = cc
 
 views_kept : (t : Network) (w : World) (s : Step) → is_viewing s ≡ false → (after t w s).views ≡ w.views
 views_kept t w (LinkUp l) h = cc
@@ -51,25 +36,28 @@ views_kept t w _ h = refl
 
 sessions_kept : (t : Network) (w : World) (s : Step) → is_transport s ≡ false → (after t w s).sessions ≡ w.sessions
 unfolding sessions_after
-sessions_kept t w (LinkUp l) h = cc
-sessions_kept t w (LinkDown l) h = cc
-sessions_kept t w (LdpAdmin l on) h = cc
-sessions_kept t w (Learn n l) h = cc
-sessions_kept t w (HearLdp l d) h = cc
-sessions_kept t w _ h = refl
+sessions_kept t w (Tick n) h = refl
+sessions_kept t w _ h = cc
+
+none_told : (t : Network) (c new : Config) (p : Peerings) (s : Step) → is_routing s ≡ false → peerings_after t c new p s ≡ p
+unfolding peerings_after
+none_told t c new p (Tick n) h = refl
+none_told t c new p _ h = cc
 
 peerings_kept : (t : Network) (w : World) (s : Step) → is_routing s ≡ false → (after t w s).peerings ≡ w.peerings
+peerings_kept t w s h = none_told t w.config (after t w s).config w.peerings s h
+
+-- a step of routes or BGP makes edges tell, and what is so once all is told, and of what was told before, is so after any step
+all_told : (t : Network) (c new : Config) (p : Peerings) (s : Step) → is_routing s ≡ true → peerings_after t c new p s ≡ told_all t c new p s
 unfolding peerings_after
-peerings_kept t w (BgpUp a b) h = cc
-peerings_kept t w (BgpDown a b) h = cc
-peerings_kept t w (HearBgp a b) h = cc
-peerings_kept t w (AddRoute s p) h = cc
-peerings_kept t w (DelRoute s p) h = cc
-peerings_kept t w (Import v on x) h = cc
-peerings_kept t w (Export v on x) h = cc
-peerings_kept t w (Attach s) h = cc
-peerings_kept t w (Detach s) h = cc
-peerings_kept t w _ h = refl
+all_told t c new p (Tick n) h = cc
+all_told t c new p _ h = cc
+
+pub peerings_go : (P : Peerings → Type 0) (t : Network) (c new : Config) (p : Peerings) (s : Step) → P (told_all t c new p s) → P p → P (peerings_after t c new p s)
+peerings_go P t c new p s told still = elim (two_ways (is_routing s)) [
+  | inl is ↦ subst P (sym (all_told t c new p s is)) told
+  | inr none ↦ subst P (sym (none_told t c new p s none)) still
+]
 
 packets_kept : (t : Network) (v : World) (k : Packets) (s : Step) (b : List ℕ) → is_moving s ≡ false → packets_after t v k s b ≡ before_step k
 unfolding packets_after
@@ -84,38 +72,18 @@ pub knowledge_kept : (t : Network) (w : World) (s : Step) (node : ℕ) → is_tr
     knowledge_of (wiring_of t) (after t w s).config (after t w s).views (after t w s).sessions node ≡ knowledge_of
     (wiring_of t) w.config w.views w.sessions node
 unfolding knowledge_of sessions_after
-knowledge_kept t w (LinkUp l) node h = cc
-knowledge_kept t w (LinkDown l) node h = cc
-knowledge_kept t w (Learn n l) node h = cc
-knowledge_kept t w (LdpAdmin l on) node h = cc
-knowledge_kept t w (HearLdp l d) node h = cc
-knowledge_kept t w _ node h = refl
+knowledge_kept t w (Tick n) node h = refl
+knowledge_kept t w _ node h = cc
 
 pub held_kept : (t : Network) (w : World) (s : Step) (edge v : ℕ) → is_routing s ≡ false →
     held t (after t w s).config (after t w s).peerings edge v ≡ held t w.config w.peerings edge v
 unfolding held peerings_after
-held_kept t w (BgpUp a b) edge v h = cc
-held_kept t w (BgpDown a b) edge v h = cc
-held_kept t w (HearBgp a b) edge v h = cc
-held_kept t w (AddRoute s p) edge v h = cc
-held_kept t w (DelRoute s p) edge v h = cc
-held_kept t w (Import x on r) edge v h = cc
-held_kept t w (Export x on r) edge v h = cc
-held_kept t w (Attach s) edge v h = cc
-held_kept t w (Detach s) edge v h = cc
-held_kept t w _ edge v h = refl
+held_kept t w (Tick n) edge v h = refl
+held_kept t w _ edge v h = cc
 
 pub exports_kept : (t : Network) (w : World) (s : Step) (edge : ℕ) → is_routing s ≡ false → exports_of t (after t w s).config edge ≡ exports_of t w.config edge
-exports_kept t w (BgpUp a b) edge h = cc
-exports_kept t w (BgpDown a b) edge h = cc
-exports_kept t w (HearBgp a b) edge h = cc
-exports_kept t w (AddRoute s p) edge h = cc
-exports_kept t w (DelRoute s p) edge h = cc
-exports_kept t w (Import x on r) edge h = cc
-exports_kept t w (Export x on r) edge h = cc
-exports_kept t w (Attach s) edge h = cc
-exports_kept t w (Detach s) edge h = cc
-exports_kept t w _ edge h = refl
+exports_kept t w (Tick n) edge h = refl
+exports_kept t w _ edge h = cc
 
 pub other_parts_kept : (t : Network) (w : World) (k : Packets) (s : Step) (b : List ℕ) → KeepsOtherParts t w k s b
 other_parts_kept t w k s b = record {
@@ -209,6 +177,13 @@ attach_counts : (t : Network) (s : ℕ) → IsCounted t (λ w. w.config.attaches
 attach_counts t s w (Attach r) = put_counts w.config.attaches r.0 s
 attach_counts t s w _ = none _
 
+-- what is put to a value by `or`, before a new value or after it
+beyond : (a b c : Bool) → (a || unwrap_or (cond b (Some true) None) c) ≡ unwrap_or (cond b (Some true) None) (a || c)
+beyond true true c = refl
+beyond true false c = refl
+beyond false true c = refl
+beyond false false c = refl
+
 -- a set after a change of one target
 set_says : (set : List ℕ) (y : ℕ) (on : Bool) (x : ℕ) → has_target (with_target y on set) x ≡ unwrap_or (cond (x == y) (Some on) None) (has_target set x)
 set_says [] y true x = elim (eqb_tells x y) [ inl p ↦ rw (p.0, p.1, same_test y) refl | inr p ↦ rw (p.0, other_test y x (λ e. p.1 (sym e))) refl ]
@@ -218,12 +193,6 @@ set_says (z ∷ zs) y true x = put_in (nat_lt y z) refl (set_says zs y true x)
         has_target (cond less (y ∷ z ∷ zs) (z ∷ with_target y true zs)) x ≡ unwrap_or (cond (x == y) (Some true) None) (has_target (z ∷ zs) x)
     put_in true h rest = elim (eqb_tells x y) [ inl p ↦ rw (p.0, p.1, same_test y) refl | inr p ↦ rw (p.0, other_test y x (λ e. p.1 (sym e))) refl ]
     put_in false h rest = ap (λ b. (z == x) || b) rest ∙ beyond (z == x) (x == y) (has_target zs x)
-      where
-        beyond : (a b c : Bool) → (a || unwrap_or (cond b (Some true) None) c) ≡ unwrap_or (cond b (Some true) None) (a || c)
-        beyond true true c = refl
-        beyond true false c = refl
-        beyond false true c = refl
-        beyond false false c = refl
 set_says [] y false x = elim (eqb_tells x y) [ inl p ↦ rw p.0 refl | inr p ↦ rw p.0 refl ]
 set_says (z ∷ zs) y false x = elim (eqb_tells y z) [
   | inl p ↦ ap (λ b. has_target (cond (not b) (z ∷ filter (λ other. not (y == other)) zs) (filter (λ other. not (y == other)) zs)) x) p.0
@@ -317,12 +286,6 @@ added_says s prefix [] x = one (is_static s prefix x)
     one false = refl
 added_says s prefix (y ∷ ys) x =
     ap (λ b. is_static s prefix y || b) (added_says s prefix ys x) ∙ beyond (is_static s prefix y) (is_static s prefix x) (list_any (is_static s prefix) ys)
-  where
-    beyond : (a b c : Bool) → (a || unwrap_or (cond b (Some true) None) c) ≡ unwrap_or (cond b (Some true) None) (a || c)
-    beyond true true c = refl
-    beyond true false c = refl
-    beyond false true c = refl
-    beyond false false c = refl
 
 removed_says : (s : ℕ) (prefix : AddressBlock) (r : ℕ) (other : AddressBlock) (xs : List SiteRoute)
     → list_any (is_static s prefix) (filter (λ static. not (is_static r other static)) xs) ≡ unwrap_or

@@ -4,20 +4,16 @@ use Rattle.std.specs.Prelude.{◌≡◌, refl, true, false, [], ◌∷◌, lengt
 use Rattle.mn_topo.specs.Wiring.{View}
 use Rattle.mn_topo.specs.Paths.{IsLeast, next}
 use Rattle.mn_topo.proofs.Dist.{dists_are_least}
-use Rattle.mn_ipv4.specs.Header.{is_not_ipv4, is_malformed, is_truncated, has_bad_checksum, good, checksum_for, with_ttl, aged}
 use Rattle.mn_topo.specs.Network.{wiring_of}
 use Rattle.mn_topo.specs.Steps.{fits}
 use Rattle.mn_topo.specs.declared.steps.Step.{Step}
 use Rattle.mn_topo.specs.declared.steps.Step.TheVariants.{LinkDown}
-use Rattle.mn_ledger.specs.Transport.{knowledge_of, news, sessions_after}
-use Rattle.mn_ledger.specs.Bgp.{peerings_after}
-use Rattle.mn_ledger.specs.Held.{held}
-use Rattle.mn_ledger.specs.Packets.{packets_after}
 use Rattle.mn_ledger.specs.Quiet.{known_after}
 use Rattle.mn_ledger.specs.Transport.{known}
-use Rattle.mn_ledger.specs.Refusal.{is_unchanged, in_flight, bytes_flying}
+use Rattle.mn_ledger.specs.Refusal.{is_unchanged}
 use Rattle.mn_ledger.specs.Verdicts.{injections}
 use Rattle.mn_ledger.proofs.TwoLinks.{link_no, two_links, the_topology_is_lawful, settled_world, packet, across_both}
+use Rattle.mn_ledger.proofs.Running.{a_run}
 
 -- 1. A node that learns nothing
 
@@ -29,13 +25,11 @@ pub the_step_fits : fits two_links far_link_down ≡ true
 the_step_fits = refl
 
 pub the_link_is_not_down_yet : is_unchanged settled_world.config far_link_down ≡ false
-unfolding next knowledge_of news sessions_after peerings_after held packets_after is_not_ipv4 is_malformed is_truncated has_bad_checksum good checksum_for
-    with_ttl aged in_flight bytes_flying
+unfolding a_run
 the_link_is_not_down_yet = refl
 
 pub the_near_edge_learns_nothing : known two_links settled_world 0 ≡ known_after two_links settled_world far_link_down 0
-unfolding next knowledge_of news sessions_after peerings_after held packets_after is_not_ipv4 is_malformed is_truncated has_bad_checksum good checksum_for
-    with_ttl aged in_flight bytes_flying
+unfolding a_run
 the_near_edge_learns_nothing = refl
 
 -- 2. A next hop, and a least cost

@@ -18,12 +18,12 @@ use Rattle.mn_topo.specs.declared.steps.Step.{Step}
 use Rattle.mn_topo.specs.declared.steps.Step.TheVariants as step
 use Rattle.mn_topo.specs.declared.steps.JournalEntry.{JournalEntry}
 use Rattle.mn_ledger.specs.Tables.{put}
-use Rattle.mn_ledger.specs.World.{World, Config, Views, Sessions, Message, Initialization, KeepAlive, Address, Mapping, Withdraw, Release}
+use Rattle.mn_ledger.specs.World.{World, Config, Views, Sessions, Message, Initialization, KeepAlive, Address, Withdraw}
 use Rattle.mn_ledger.specs.Transport.{Said, Knowledge, knowledge_of, lives, ldp_state_of, spoken, is_by, messages_of, said_on, answer, mention, mentioned_on}
 use Rattle.mn_ledger.specs.Transport.{mentioned_from, offers, offered, by_neighbour, is_operational, news, opening, ldp_replies, ends_first, speakers}
 use Rattle.mn_ledger.specs.Transport.{ldp_counted}
 use Rattle.mn_ledger.specs.Transport.{ldp_restarted, sessions_after}
-use Rattle.mn_ledger.specs.Packets.{Packets, packets_after}
+use Rattle.mn_ledger.specs.Packets.{Packets}
 use Rattle.mn_ledger.specs.Time.{clock_after}
 use Rattle.mn_ledger.specs.Ledger.{packets_by, after, start, no_packets, next_of, left_by, world_from, world_of}
 use Rattle.mn_ledger.specs.Lawful.{IsLawfulFrom, IsLawfulJournal}
@@ -117,14 +117,14 @@ module _ (before after : Knowledge) (l n : ℕ) where
       either true = omega (arith, few-said l n j n (mention (is_operational before j && was) is q), one-mention (is_operational before j && was) is q)
       either false = omega arith
 
-  other-link : (q : ℕ) (was is : Bool) (j : ℕ) → j ≢ l → messages_of l n (mentioned_on before after n q was is j) ≡ []
+  pub other-link : (q : ℕ) (was is : Bool) (j : ℕ) → j ≢ l → messages_of l n (mentioned_on before after n q was is j) ≡ []
   other-link q was is j d = either (is_operational after j)
     where
       either : (on : Bool) → messages_of l n (if on then said_on j n (mention (is_operational before j && was) is q) else []) ≡ []
       either true = said-other l n j n (mention (is_operational before j && was) is q) (inl d)
       either false = refl
 
-  no-link : (q : ℕ) (was is : Bool) (ks : List ℕ) → (In ks l → ⊥) → messages_of l n (flat_map (mentioned_on before after n q was is) ks) ≡ []
+  pub no-link : (q : ℕ) (was is : Bool) (ks : List ℕ) → (In ks l → ⊥) → messages_of l n (flat_map (mentioned_on before after n q was is) ks) ≡ []
   no-link q was is [] out = refl
   no-link q was is (j ∷ ks) out =
       messages-append l n (mentioned_on before after n q was is j) (flat_map (mentioned_on before after n q was is) ks)
@@ -195,7 +195,7 @@ news-others w before after l n m d = others-say before after l n m (by_neighbour
 -- 3. Each node speaks once
 
 module _ (w : Wiring) (before after : ℕ → Knowledge) (l n : ℕ) where
-  nobody : (ms : List ℕ) → (In ms n → ⊥) → messages_of l n (flat_map (λ m. news w (before m) (after m) m) ms) ≡ []
+  pub nobody : (ms : List ℕ) → (In ms n → ⊥) → messages_of l n (flat_map (λ m. news w (before m) (after m) m) ms) ≡ []
   nobody [] out = refl
   nobody (m ∷ ms) out =
       messages-append l n (news w (before m) (after m) m) (flat_map (λ x. news w (before x) (after x) x) ms)
@@ -242,7 +242,7 @@ once-first w l n d = (
     ends_too : (link w l).b.0 ≡ n → is_end w l n ≡ true
     ends_too e = ap (is_end w l) (sym e) ∙ is_end-b w l
 
-once-speaker : (t : Network) (s : Step) (n : ℕ) → EndsDiffer (wiring_of t) → fits t s ≡ true → IsOnce n (speakers (wiring_of t) s)
+pub once-speaker : (t : Network) (s : Step) (n : ℕ) → EndsDiffer (wiring_of t) → fits t s ≡ true → IsOnce n (speakers (wiring_of t) s)
 once-speaker t (step.LinkUp l) n differ fit = once-first (wiring_of t) l.0 n (differ l.0 (less_tells l.0 (length t.links) fit))
 once-speaker t (step.LinkDown l) n differ fit = once-first (wiring_of t) l.0 n (differ l.0 (less_tells l.0 (length t.links) fit))
 once-speaker t (step.LdpAdmin l on) n differ fit = once-first (wiring_of t) l.0 n (differ l.0 (less_tells l.0 (length t.links) fit))
@@ -250,31 +250,12 @@ once-speaker t _ n differ fit = once-range n 0 (length t.loopbacks)
 
 -- 4. What the step itself makes an end say
 
-few-answers : (state : LdpState) (message : Message) → length (answer state message) ≤ 2
+pub few-answers : (state : LdpState) (message : Message) → length (answer state message) ≤ 2
 few-answers ldp.Initialized Initialization = omega arith
-few-answers ldp.Initialized KeepAlive = omega arith
-few-answers ldp.Initialized Address = omega arith
-few-answers ldp.Initialized (Mapping fec) = omega arith
-few-answers ldp.Initialized (Withdraw fec) = omega arith
-few-answers ldp.Initialized (Release fec) = omega arith
 few-answers ldp.OpenSent Initialization = omega arith
-few-answers ldp.OpenSent KeepAlive = omega arith
-few-answers ldp.OpenSent Address = omega arith
-few-answers ldp.OpenSent (Mapping fec) = omega arith
-few-answers ldp.OpenSent (Withdraw fec) = omega arith
-few-answers ldp.OpenSent (Release fec) = omega arith
-few-answers ldp.OpenRec Initialization = omega arith
 few-answers ldp.OpenRec KeepAlive = omega arith
-few-answers ldp.OpenRec Address = omega arith
-few-answers ldp.OpenRec (Mapping fec) = omega arith
-few-answers ldp.OpenRec (Withdraw fec) = omega arith
-few-answers ldp.OpenRec (Release fec) = omega arith
-few-answers ldp.Operational Initialization = omega arith
-few-answers ldp.Operational KeepAlive = omega arith
-few-answers ldp.Operational Address = omega arith
-few-answers ldp.Operational (Mapping fec) = omega arith
-few-answers ldp.Operational (Withdraw fec) = omega arith
-few-answers ldp.Operational (Release fec) = omega arith
+few-answers _ (Withdraw fec) = omega arith
+few-answers _ _ = omega arith
 
 few-opening : (t : Network) (c : Config) (k l n : ℕ) → length (messages_of l n (opening t c k)) ≤ 2
 few-opening t c k l n = either (lives c k)

@@ -1,7 +1,7 @@
 -- After every lawful journal no two statics of one VRF have one prefix, and each prefix is of its form.
-use Rattle.std.proofs.Common.{ℕ, zero, suc, ◌≡◌, ◌+◌, ◌<◌, inl, inr, Bool, true, false, cond, List, [], ◌∷◌, ◌++◌, map, length, refl, arith, sym, ◌∙◌, ap}
+use Rattle.std.proofs.Common.{ℕ, suc, ◌≡◌, ◌+◌, ◌<◌, inl, inr, Bool, true, false, cond, List, [], ◌∷◌, ◌++◌, map, length, refl, arith, sym, ◌∙◌, ap}
 use Rattle.std.proofs.Common.{subst, Option, Some, None}
-use Rattle.std.proofs.lemmas.List.{map-append}
+use Rattle.std.proofs.lemmas.List.{get_or_default, map-append}
 use Rattle.std.specs.Prelude.{◌==◌, ◌&&◌, not, slice_index_or}
 use Rattle.std.specs.List.{IsDistinct, AllByRecursion, list_all}
 use Rattle.mn_base.proofs.Bools.{clash, and_parts}
@@ -90,17 +90,9 @@ keyed_statics t k (site ∷ sites) h =
     next : (i : ℕ) → k + suc i ≡ k + 1 + i
     next i = omega arith
 
-get_same : {A : Type 0} (xs : List A) (i : ℕ) (d e : A) → i < length xs → slice_index_or xs i d ≡ slice_index_or xs i e
-get_same [] i d e h = absurd (none i h)
-  where
-    none : (i : ℕ) → i < 0 → ⊥
-    none i h = omega (arith, h)
-get_same (x ∷ xs) zero d e h = refl
-get_same (x ∷ xs) (suc i) d e h = get_same xs i d e (omega (arith, h))
-
 all_keyed : (t : Network) → map (keyed t) (statics_from 0 t.sites) ≡ statics_of t.sites
 unfolding AreFrom
-all_keyed t = keyed_statics t 0 t.sites (λ i d below. get_same t.sites i d _ below ∙ ap (site_at t) (from_none i))
+all_keyed t = keyed_statics t 0 t.sites (λ i d below. get_or_default t.sites i d _ below ∙ ap (site_at t) (from_none i))
   where
     from_none : (i : ℕ) → i ≡ 0 + i
     from_none i = omega arith
@@ -125,11 +117,11 @@ first_forms t lawful = record {
 
 -- 3. A step
 
-not_taken : (o : Option ℕ) (count : ℕ) → prefix_refusal o count ≡ None → o ≡ None
+pub not_taken : (o : Option ℕ) (count : ℕ) → prefix_refusal o count ≡ None → o ≡ None
 not_taken None count h = refl
 not_taken (Some s) count h = cc
 
-none_taken : (t : Network) (v : ℕ) (p : AddressBlock) (xs : List SiteRoute) → taken_by t v p xs ≡ None →
+pub none_taken : (t : Network) (v : ℕ) (p : AddressBlock) (xs : List SiteRoute) → taken_by t v p xs ≡ None →
     (x : SiteRoute) → In xs x → vrf_of t x.site ≡ v → x.prefix ≡ p → ⊥
 none_taken t v p [] h x i e f = absurd i
 none_taken t v p (y ∷ ys) h x i e f = split ((vrf_of t y.site == v) && same_prefix y.prefix p) refl (λ g j. none_taken t v p ys g x j e f) h

@@ -15,8 +15,9 @@ use Rattle.mn_ledger.specs.World.{SiteRoute, Config, Export, Telling, Open, BgpK
 use Rattle.mn_ledger.specs.Exports.{comes_before, placed, in_order, is_present, export_of, present_with, exports_with, exports_of}
 use Rattle.mn_ledger.specs.Bgp.{Told, is_from_to}
 use Rattle.mn_ledger.specs.Bgp.{tellings_of, told_to, reply, bgp_replies, is_for, same_export, withdrawn, announced, changed, steady_peers, route_news, told_in}
-use Rattle.mn_ledger.specs.Bgp.{bgp_counted, peerings_after}
+use Rattle.mn_ledger.specs.Bgp.{bgp_counted}
 use Rattle.mn_ledger.specs.Ledger.{config_after, after}
+use Rattle.mn_ledger.proofs.Parts.{peerings_go}
 use Rattle.mn_ledger.proofs.GoingBy.{pair_here, pair_off}
 use Rattle.mn_ledger.proofs.Members.{In, in_append, in_map, in_filter, in_flat_map, in_range}
 use Rattle.mn_ledger.proofs.Statics.{HasForms}
@@ -74,62 +75,81 @@ good_export t c edge h e i =
 
 -- 2. What is told
 
+-- An edge tells OPEN, KEEPALIVE, that what it exports has gone, and what it exports now: so what is so of these is so of all that is told.
+module _ (G : ℕ → Telling → Type 0) (opens : (edge : ℕ) → G edge Open) (keeps : (edge : ℕ) → G edge BgpKeepAlive) (t : Network) where
+  -- of all that the edge exports
+  abbrev pub Announces : Config → ℕ → Type 0
+  Announces c edge = (e : Export) → In (exports_of t c edge) e → G edge (Announcement e)
+
+  abbrev pub Withdraws : Config → ℕ → Type 0
+  Withdraws c edge = (e : Export) → In (exports_of t c edge) e → G edge (Withdrawal e.vrf e.prefix)
+
+  abbrev AreTold : List Told → Type 0
+  AreTold xs = (x : Told) → In xs x → G x.teller x.telling
+
+  one_is : (edge : ℕ) (m : Telling) → G edge m → (x : Telling) → In (m ∷ []) x → G edge x
+  one_is edge m g x i = elim i [ inl e ↦ subst (G edge) e g | inr j ↦ absurd j ]
+
+  announced_are : (edge : ℕ) (es : List Export) → ((e : Export) → In es e → G edge (Announcement e)) →
+      (m : Telling) → In (map (λ export. Announcement export) es) m → G edge m
+  announced_are edge es h m i = let f = in_map (λ export. Announcement export) es m i in subst (G edge) f.2 (h f.0 f.1)
+
+  reply_is : (edge : ℕ) (state : BgpState) (m : Telling) (c : Config) → Announces c edge → (x : Telling) → In (reply state m (exports_of t c edge)) x → G edge x
+  reply_is edge OpenSent Open c h x i = one_is edge BgpKeepAlive (keeps edge) x i
+  reply_is edge OpenConfirm BgpKeepAlive c h x i = announced_are edge (exports_of t c edge) h x i
+  reply_is edge _ _ c h x i = absurd i
+
+  told_to_are : (a b : ℕ) (ms : List Telling) → ((m : Telling) → In ms m → G a m) → AreTold (told_to a b ms)
+  told_to_are a b ms h x i = let f = in_map (λ telling. record { teller = a; peer = b; telling = telling }) ms x i in
+      subst (λ (y : Told). G y.teller y.telling) f.2 (h f.0 f.1)
+
+  join_told : (xs ys : List Told) → AreTold xs → AreTold ys → AreTold (xs ++ ys)
+  join_told xs ys h g x i = elim (in_append xs ys x i) [ inl j ↦ h x j | inr j ↦ g x j ]
+
+  replies_are : (c : Config) (k : Peerings) (s : Step) → ((edge : ℕ) → Announces c edge) → AreTold (bgp_replies t c k s)
+  replies_are c k (step.BgpUp a b) h =
+      join_told (told_to a.0 b.0 (Open ∷ [])) (told_to b.0 a.0 (Open ∷ [])) (told_to_are a.0 b.0 (Open ∷ []) (one_is a.0 Open (opens a.0)))
+      (told_to_are b.0 a.0 (Open ∷ []) (one_is b.0 Open (opens b.0)))
+  replies_are c k (step.HearBgp a b) h = told_to_are b.0 a.0 (reply _ _ (exports_of t c b.0)) (reply_is b.0 _ _ c (h b.0))
+  replies_are c k _ h = λ x i. absurd i
+
+  changed_are : (edge : ℕ) (c new : Config) → Withdraws c edge → Announces new edge →
+      (m : Telling) → In (changed (exports_of t c edge) (exports_of t new edge)) m → G edge m
+  changed_are edge c new g h m i =
+      let before : List Export = exports_of t c edge in
+      let now : List Export = exports_of t new edge in
+      elim (in_append (withdrawn before now) (announced before now) m i) [
+        | inl j ↦
+            let f = in_map (λ (export : Export). Withdrawal export.vrf export.prefix)
+            (filter (λ export. not (list_any (is_for export.vrf export.prefix) now)) before) m j in
+            subst (G edge) f.2 (g f.0 (in_filter (λ (export : Export). not (list_any (is_for export.vrf export.prefix) now)) before f.0 f.1).0)
+        | inr j ↦ announced_are edge (filter (λ export. not (list_any (same_export export) before)) now)
+            (λ e k. h e (in_filter (λ export. not (list_any (same_export export) before)) now e k).0) m j
+      ]
+
+  news_are : (c : Config) (p : Peerings) (new : Config) (k : Peerings) (edge : ℕ) → Withdraws c edge → Announces new edge → AreTold (route_news t c p new k edge)
+  news_are c p new k edge g h x i =
+      let f = in_flat_map (λ telling. map (λ peer. record { teller = edge; peer = peer; telling = telling }) (steady_peers t c p new k edge))
+      (changed (exports_of t c edge) (exports_of t new edge)) x i in
+      let m = in_map (λ peer. record { teller = edge; peer = peer; telling = f.0 }) (steady_peers t c p new k edge) x f.2 in
+      subst (λ (y : Told). G y.teller y.telling) m.2 (changed_are edge c new g h f.0 f.1)
+
+  pub told_are : (c : Config) (p : Peerings) (new : Config) (k : Peerings) (s : Step) → ((edge : ℕ) → Withdraws c edge) → ((edge : ℕ) → Announces new edge) →
+      (x : Told) → In (told_in t c p new k s) x → G x.teller x.telling
+  told_are c p new k s g h =
+      join_told (bgp_replies t new p s) (flat_map (route_news t c p new k) (edges t)) (replies_are new p s h)
+      (λ x i. let f = in_flat_map (route_news t c p new k) (edges t) x i in news_are c p new k f.0 (g f.0) (h f.0) x f.2)
+
 abbrev pub IsGood : Network → Telling → Type 0
 IsGood t (Announcement e) = IsGoodExport t e
 IsGood t _ = ⊤
 
-abbrev AreGood : Network → List Telling → Type 0
-AreGood t ms = (m : Telling) → In ms m → IsGood t m
-
 abbrev AllTold : Network → List Told → Type 0
 AllTold t xs = (x : Told) → In xs x → IsGood t x.telling
 
-pub good_announced : (t : Network) (es : List Export) → ((e : Export) → In es e → IsGoodExport t e) → AreGood t (map (λ export. Announcement export) es)
-good_announced t es h m i = let f = in_map (λ export. Announcement export) es m i in subst (IsGood t) f.2 (h f.0 f.1)
-
-pub one_good : (t : Network) (m : Telling) → IsGood t m → AreGood t (m ∷ [])
-one_good t m g x i = elim i [ inl e ↦ subst (IsGood t) e g | inr j ↦ absurd j ]
-
-pub good_reply : (t : Network) (state : BgpState) (m : Telling) (es : List Export) → ((e : Export) → In es e → IsGoodExport t e) → AreGood t (reply state m es)
-good_reply t OpenSent Open es h = one_good t BgpKeepAlive tt
-good_reply t OpenConfirm BgpKeepAlive es h = good_announced t es h
-good_reply t _ _ es h = λ x i. absurd i
-
-pub good_told_to : (t : Network) (a b : ℕ) (ms : List Telling) → AreGood t ms → AllTold t (told_to a b ms)
-good_told_to t a b ms h x i = let f = in_map (λ telling. record { teller = a; peer = b; telling = telling }) ms x i in
-    subst (λ (y : Told). IsGood t y.telling) f.2 (h f.0 f.1)
-
-pub join_told : (t : Network) (xs ys : List Told) → AllTold t xs → AllTold t ys → AllTold t (xs ++ ys)
-join_told t xs ys h g x i = elim (in_append xs ys x i) [ inl j ↦ h x j | inr j ↦ g x j ]
-
-good_replies : (t : Network) (c : Config) (k : Peerings) (s : Step) → HasForms c.statics → AllTold t (bgp_replies t c k s)
-good_replies t c k (step.BgpUp a b) h =
-    join_told t (told_to a.0 b.0 (Open ∷ [])) (told_to b.0 a.0 (Open ∷ [])) (good_told_to t a.0 b.0 (Open ∷ []) (one_good t Open tt))
-    (good_told_to t b.0 a.0 (Open ∷ []) (one_good t Open tt))
-good_replies t c k (step.HearBgp a b) h =
-    good_told_to t b.0 a.0 (reply _ _ (exports_of t c b.0)) (good_reply t _ _ (exports_of t c b.0) (good_export t c b.0 h))
-good_replies t c k _ h = λ x i. absurd i
-
-good_changed : (t : Network) (before now : List Export) → ((e : Export) → In now e → IsGoodExport t e) → AreGood t (changed before now)
-good_changed t before now h m i = elim (in_append (withdrawn before now) (announced before now) m i) [
-  | inl j ↦ let f =
-      in_map (λ (export : Export). Withdrawal export.vrf export.prefix) (filter (λ export. not (list_any (is_for export.vrf export.prefix) now)) before) m j in
-      subst (IsGood t) f.2 tt
-  | inr j ↦ good_announced t (filter (λ export. not (list_any (same_export export) before)) now)
-      (λ e k. h e (in_filter (λ export. not (list_any (same_export export) before)) now e k).0) m j
-]
-
-good_news : (t : Network) (c : Config) (p : Peerings) (new : Config) (k : Peerings) (edge : ℕ) → HasForms new.statics → AllTold t (route_news t c p new k edge)
-good_news t c p new k edge h x i =
-    let f = in_flat_map (λ telling. map (λ peer. record { teller = edge; peer = peer; telling = telling }) (steady_peers t c p new k edge))
-    (changed (exports_of t c edge) (exports_of t new edge)) x i in
-    let g = in_map (λ peer. record { teller = edge; peer = peer; telling = f.0 }) (steady_peers t c p new k edge) x f.2 in
-    subst (λ (y : Told). IsGood t y.telling) g.2 (good_changed t (exports_of t c edge) (exports_of t new edge) (good_export t new edge h) f.0 f.1)
-
 good_told : (t : Network) (c : Config) (p : Peerings) (new : Config) (k : Peerings) (s : Step) → HasForms new.statics → AllTold t (told_in t c p new k s)
 good_told t c p new k s h =
-    join_told t (bgp_replies t new p s) (flat_map (route_news t c p new k) (edges t)) (good_replies t new p s h)
-    (λ x i. let f = in_flat_map (route_news t c p new k) (edges t) x i in good_news t c p new k f.0 h x f.2)
+    told_are (λ edge m. IsGood t m) (λ edge. tt) (λ edge. tt) t c p new k s (λ edge e i. tt) (λ edge e i. good_export t new edge h e i)
 
 -- 3. A step
 
@@ -150,12 +170,17 @@ in_cleared f a b edge peer m i = elim (eqb_tells edge a) [
   ]
 ]
 
+-- what is so of all that was told is so of what a session that begins anew leaves of it
+pub still_told : (P : ℕ → ℕ → Telling → Type 0) (p : Peerings) (s : Step) → ((edge peer : ℕ) (m : Telling) → In (p.told edge peer) m → P edge peer m)
+    → (edge peer : ℕ) (m : Telling) → In ((bgp_counted p s).told edge peer) m → P edge peer m
+still_told P p (step.BgpUp a b) h edge peer m i =
+    h edge peer m (in_cleared p.told a.0 b.0 edge peer m (in_cleared (put_pair p.told a.0 b.0 []) b.0 a.0 edge peer m i))
+still_told P p (step.BgpDown a b) h edge peer m i =
+    h edge peer m (in_cleared p.told a.0 b.0 edge peer m (in_cleared (put_pair p.told a.0 b.0 []) b.0 a.0 edge peer m i))
+still_told P p _ h edge peer m i = h edge peer m i
+
 pub still_good : (t : Network) (p : Peerings) (s : Step) → AllGood t p → AllGood t (bgp_counted p s)
-still_good t p (step.BgpUp a b) h =
-    λ edge peer m i. h edge peer m (in_cleared p.told a.0 b.0 edge peer m (in_cleared (put_pair p.told a.0 b.0 []) b.0 a.0 edge peer m i))
-still_good t p (step.BgpDown a b) h =
-    λ edge peer m i. h edge peer m (in_cleared p.told a.0 b.0 edge peer m (in_cleared (put_pair p.told a.0 b.0 []) b.0 a.0 edge peer m i))
-still_good t p _ h = h
+still_good t p s h = still_told (λ edge peer m. IsGood t m) p s h
 
 more_good : (t : Network) (k : Peerings) (xs : List Told) → AllGood t k → AllTold t xs →
     (edge peer : ℕ) (m : Telling) → In (k.told edge peer ++ tellings_of edge peer xs) m → IsGood t m
@@ -170,14 +195,6 @@ told_go_on t c new p s h g =
     more_good t (bgp_counted p s) (told_in t c p new (bgp_counted p s) s) (still_good t p s g) (good_told t c p new (bgp_counted p s) s h)
 
 pub tellings_go : (t : Network) (w : World) (s : Step) → HasForms (config_after w.config s).statics → AllGood t w.peerings → AllGood t (after t w s).peerings
-unfolding peerings_after
-tellings_go t w (step.BgpUp a b) h g = told_go_on t w.config (config_after w.config (step.BgpUp a b)) w.peerings (step.BgpUp a b) h g
-tellings_go t w (step.BgpDown a b) h g = told_go_on t w.config (config_after w.config (step.BgpDown a b)) w.peerings (step.BgpDown a b) h g
-tellings_go t w (step.HearBgp a b) h g = told_go_on t w.config (config_after w.config (step.HearBgp a b)) w.peerings (step.HearBgp a b) h g
-tellings_go t w (step.AddRoute a b) h g = told_go_on t w.config (config_after w.config (step.AddRoute a b)) w.peerings (step.AddRoute a b) h g
-tellings_go t w (step.DelRoute a b) h g = told_go_on t w.config (config_after w.config (step.DelRoute a b)) w.peerings (step.DelRoute a b) h g
-tellings_go t w (step.Import v on x) h g = told_go_on t w.config (config_after w.config (step.Import v on x)) w.peerings (step.Import v on x) h g
-tellings_go t w (step.Export v on x) h g = told_go_on t w.config (config_after w.config (step.Export v on x)) w.peerings (step.Export v on x) h g
-tellings_go t w (step.Attach a) h g = told_go_on t w.config (config_after w.config (step.Attach a)) w.peerings (step.Attach a) h g
-tellings_go t w (step.Detach a) h g = told_go_on t w.config (config_after w.config (step.Detach a)) w.peerings (step.Detach a) h g
-tellings_go t w s h g = g
+tellings_go t w s h g =
+    let new : Config = config_after w.config s in
+    peerings_go (AllGood t) t w.config new w.peerings s (told_go_on t w.config new w.peerings s h g) g

@@ -1,10 +1,10 @@
 -- Which part of the world a step may change, and what the last step that names a thing decides.
-use Rattle.std.specs.Prelude.{◌≡◌, ℕ, ◌+◌, ◌==◌, Bool, true, false, cond, if◌then◌else◌, List, [], ◌∷◌, Option, Some, None, unwrap_or, is_some}
+use Rattle.std.specs.Prelude.{◌≡◌, ℕ, ◌+◌, ◌==◌, Bool, true, false, cond, not, if◌then◌else◌, List, [], ◌∷◌, Option, Some, None, unwrap_or, is_some}
 use Rattle.std.specs.List.{list_any}
 use Rattle.mn_topo.specs.Network.{Network}
 use Rattle.mn_topo.specs.declared.steps.Step.{Step}
-use Rattle.mn_topo.specs.declared.steps.Step.TheVariants.{LinkUp, LinkDown, Learn, LdpAdmin, HearLdp, BgpUp, BgpDown, HearBgp, AddRoute, DelRoute, Import}
-use Rattle.mn_topo.specs.declared.steps.Step.TheVariants.{Export, Attach, Detach, Inject, Carry, Lose, Tick}
+use Rattle.mn_topo.specs.declared.steps.Step.TheVariants.{LinkUp, LinkDown, Learn, LdpAdmin, BgpUp, BgpDown, AddRoute, DelRoute, Import}
+use Rattle.mn_topo.specs.declared.steps.Step.TheVariants.{Export, Attach, Detach, Inject, Carry, Lose}
 use Rattle.mn_topo.specs.declared.steps.JournalEntry.{JournalEntry}
 use Rattle.mn_topo.specs.Prefix.{AddressBlock}
 use Rattle.mn_ledger.specs.World.{World}
@@ -13,18 +13,13 @@ use Rattle.mn_ledger.specs.Transport.{is_transport, known, usable}
 use Rattle.mn_ledger.specs.Exports.{has_target, exports_of}
 use Rattle.mn_ledger.specs.Bgp.{is_routing}
 use Rattle.mn_ledger.specs.Held.{held}
+use Rattle.mn_ledger.specs.Refusal.{takes_out}
 use Rattle.mn_ledger.specs.Ledger.{after, world_of, first_config, is_static}
 
--- the steps that configure
+-- the steps that configure: they send no packet, take nothing out of flight, and let no time go by
 abbrev pub is_configuring : Step → Bool
-is_configuring (Learn node l) = false
-is_configuring (HearLdp l dir) = false
-is_configuring (HearBgp a b) = false
 is_configuring (Inject s number) = false
-is_configuring (Carry l dir place) = false
-is_configuring (Lose l dir place) = false
-is_configuring (Tick ticks) = false
-is_configuring _ = true
+is_configuring step = not (takes_out step)
 
 -- the steps that change or learn of a link
 abbrev pub is_viewing : Step → Bool

@@ -1,39 +1,11 @@
 //! Laws of the definitions, each the contract of a function that does nothing.
-ghost use Rattle.std.specs.Prelude.{ℕ, List};
-ghost use Rattle.std.specs.Prelude.{◌≡◌};
-ghost use Rattle.mn_topo.specs.Network.{Network};
-ghost use Rattle.mn_topo.specs.Lawful.{IsLawful};
-ghost use Rattle.mn_topo.specs.declared.steps.Step.{Step};
-ghost use Rattle.mn_ledger.specs.World.{World};
-ghost use Rattle.mn_ledger.specs.Packets.{Packets};
-ghost use Rattle.mn_ledger.specs.Ledger.{world_of, packets_of};
-ghost use Rattle.mn_ledger.specs.Lawful.{IsLawfulJournal};
-ghost use Rattle.mn_ledger.specs.Verdicts.{injections, AreInOnePlace};
-ghost use Rattle.mn_ledger.specs.Parts.{KeepsOtherParts, IsByLastSteps};
-ghost use Rattle.mn_ledger.specs.Turns.{IsInTurn, HasRows};
-ghost use Rattle.std.specs.Prelude.{◌≢◌, ◌<◌, [], true, false, length, Some};
-ghost use Rattle.mn_topo.specs.Wiring.{View};
-ghost use Rattle.mn_topo.specs.Paths.{IsLeast, next};
-ghost use Rattle.mn_topo.specs.Network.{wiring_of};
-ghost use Rattle.mn_topo.specs.Steps.{fits};
-ghost use Rattle.mn_ledger.specs.Refusal.{is_unchanged};
-ghost use Rattle.mn_ledger.specs.Transport.{known};
-ghost use Rattle.mn_ledger.specs.Quiet.{known_after, said_by};
-ghost use Rattle.mn_ledger.specs.Nearer.{IsNearer};
-ghost use Rattle.mn_ledger.specs.Items.{made_by, flight_of};
-ghost use Rattle.mn_ledger.specs.InFlight.{IsInFlight};
-ghost use Rattle.mn_ledger.specs.Best.{NamesTheBest};
-ghost use Rattle.mn_ledger.specs.Eligible.{IsFairChoice};
-ghost use Rattle.mn_ledger.specs.Held.{held};
-ghost use Rattle.mn_ledger.specs.World.{Config};
-ghost use Rattle.mn_ledger.specs.Ledger.{config_after};
-ghost use Rattle.mn_ledger.specs.OneKind.{TellsOneKind};
-ghost use Rattle.mn_ledger.specs.OneMore.{GoesOnByOneStep};
-ghost use Rattle.mn_ledger.specs.Tidy.{IsTidy};
-ghost use Rattle.mn_ledger.specs.Bounds.{IsBounded};
-ghost use Rattle.mn_ledger.specs.Refusal.{refusal_at};
+ghost use Rattle.std.specs.Prelude.{ℕ, ◌≡◌, ◌≢◌, ◌<◌, true, false, List, [], length, Some};
 ghost use Rattle.mn_ledger.specs.declared.refused.Refused.TheVariants.{NoMemory};
-ghost use Rattle.mn_topo.specs.declared.steps.JournalEntry.{JournalEntry};
+ghost use Rattle.mn_ledger.specs.Prelude.{IsLeast, View, next, IsLawful, Network, wiring_of, fits, JournalEntry, Step};
+ghost use Rattle.mn_ledger.specs.Prelude.{Config, Packets, World, IsLawfulJournal, config_after, held, known, packets_of, world_of};
+ghost use Rattle.mn_ledger.specs.Prelude.{flight_of, made_by, is_unchanged, refusal_at, injections, known_after, said_by};
+ghost use Rattle.mn_ledger.specs.Prelude.{AreInOnePlace, GoesOnByOneStep, HasRows, IsBounded, IsByLastSteps, IsFairChoice, IsInFlight, IsInTurn, IsNearer};
+ghost use Rattle.mn_ledger.specs.Prelude.{IsTidy, KeepsOtherParts, NamesTheBest, TellsOneKind};
 
 /// Each packet that was injected has one verdict and one path, and flies in exactly one place where its verdict says so,
 /// and in none otherwise. It holds of every journal, lawful or not.
