@@ -21,15 +21,16 @@ use Rattle.mn_ledger.specs.declared.verdict.Verdict.{Verdict}
 use Rattle.mn_ledger.specs.declared.verdict.Verdict.TheVariants.{Flying}
 use Rattle.mn_ledger.specs.Places.{vrfs_at, edges, edge_of}
 use Rattle.mn_ledger.specs.World.{World, Config, Views, Sessions, Peerings, Export, SiteRoute, Telling, Open, BgpKeepAlive, Announcement, Withdrawal}
-use Rattle.mn_ledger.specs.World.{Message, Initialization, KeepAlive, Address, Mapping, Withdraw, Release}
+use Rattle.mn_ledger.specs.World.{Message, Initialization, Address}
 use Rattle.mn_ledger.specs.Transport as ledger_transport
 use Rattle.mn_ledger.specs.Transport.{Said, Knowledge, knowledge_of, lives, ldp_state_of, said_on, answer, mention, mentioned_on, mentioned_from, offered}
 use Rattle.mn_ledger.specs.Transport.{by_neighbour, offers, is_operational, news, opening, ldp_replies, ends_first, speakers, said_in, is_transport, ldp_counted}
-use Rattle.mn_ledger.specs.Exports.{exports_of, exports_with, present_with, in_order, placed, comes_before, export_of, is_present}
+use Rattle.mn_ledger.specs.Exports.{exports_of, exports_with, in_order, placed, comes_before, export_of, is_present}
 use Rattle.mn_ledger.specs.Bgp as ledger_bgp
 use Rattle.mn_ledger.specs.Bgp.{Told, told_to, reply, bgp_replies, withdrawn, announced, changed, steady_peers, route_news, told_in, is_routing, bgp_state_of}
 use Rattle.mn_ledger.specs.Packets.{Token, Packets, flying_on}
 use Rattle.mn_ledger.specs.Verdicts.{verdict_on}
+use Rattle.mn_ledger.proofs.Saying.{few-answers}
 use Rattle.mn_ledger.specs.Items.{Channel, Notices, Frames, Load, Notice, Carries, notices_in, message_of, messages_in, route_of, routes_in, last_of, frame_by, frame_after, frames_in, made_in}
 
 -- 1. Lists
@@ -107,30 +108,7 @@ few_notices t _ h = omega arith
 -- 3. Messages of LDP
 
 pub few_answers : (state : LdpState) (message : Message) → length (answer state message) ≤ 2
-few_answers ldp.Initialized Initialization = omega arith
-few_answers ldp.Initialized KeepAlive = omega arith
-few_answers ldp.Initialized Address = omega arith
-few_answers ldp.Initialized (Mapping fec) = omega arith
-few_answers ldp.Initialized (Withdraw fec) = omega arith
-few_answers ldp.Initialized (Release fec) = omega arith
-few_answers ldp.OpenSent Initialization = omega arith
-few_answers ldp.OpenSent KeepAlive = omega arith
-few_answers ldp.OpenSent Address = omega arith
-few_answers ldp.OpenSent (Mapping fec) = omega arith
-few_answers ldp.OpenSent (Withdraw fec) = omega arith
-few_answers ldp.OpenSent (Release fec) = omega arith
-few_answers ldp.OpenRec Initialization = omega arith
-few_answers ldp.OpenRec KeepAlive = omega arith
-few_answers ldp.OpenRec Address = omega arith
-few_answers ldp.OpenRec (Mapping fec) = omega arith
-few_answers ldp.OpenRec (Withdraw fec) = omega arith
-few_answers ldp.OpenRec (Release fec) = omega arith
-few_answers ldp.Operational Initialization = omega arith
-few_answers ldp.Operational KeepAlive = omega arith
-few_answers ldp.Operational Address = omega arith
-few_answers ldp.Operational (Mapping fec) = omega arith
-few_answers ldp.Operational (Withdraw fec) = omega arith
-few_answers ldp.Operational (Release fec) = omega arith
+few_answers state message = few-answers state message
 
 said_length : (l n : ℕ) (ms : List Message) → length (said_on l n ms) ≡ length ms
 said_length l n [] = refl
@@ -337,22 +315,9 @@ each_edge f g h (x ∷ xs) =
     omega (arith, length-append (f x) (flat_map f xs), length-append (g x) (flat_map g xs), h x, each_edge f g h xs)
 
 few_reply : (state : BgpState) (telling : Telling) (exports : List Export) → length (reply state telling exports) ≤ 1 + length exports
-few_reply bgp.Idle Open xs = omega arith
-few_reply bgp.Idle BgpKeepAlive xs = omega arith
-few_reply bgp.Idle (Announcement e) xs = omega arith
-few_reply bgp.Idle (Withdrawal v p) xs = omega arith
 few_reply bgp.OpenSent Open xs = omega arith
-few_reply bgp.OpenSent BgpKeepAlive xs = omega arith
-few_reply bgp.OpenSent (Announcement e) xs = omega arith
-few_reply bgp.OpenSent (Withdrawal v p) xs = omega arith
-few_reply bgp.OpenConfirm Open xs = omega arith
 few_reply bgp.OpenConfirm BgpKeepAlive xs = omega (arith, length-map xs (λ export. Announcement export))
-few_reply bgp.OpenConfirm (Announcement e) xs = omega arith
-few_reply bgp.OpenConfirm (Withdrawal v p) xs = omega arith
-few_reply bgp.Established Open xs = omega arith
-few_reply bgp.Established BgpKeepAlive xs = omega arith
-few_reply bgp.Established (Announcement e) xs = omega arith
-few_reply bgp.Established (Withdrawal v p) xs = omega arith
+few_reply _ _ xs = omega arith
 
 told_length : (a b : ℕ) (ts : List Telling) → length (told_to a b ts) ≡ length ts
 told_length a b [] = refl

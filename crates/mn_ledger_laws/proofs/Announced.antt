@@ -2,13 +2,11 @@
 use Rattle.std.proofs.Common.{ℕ, zero, suc, ◌≡◌, ◌+◌, ◌<◌, ◌≤◌, inl, inr, Bool, true, false, cond, List, [], ◌∷◌, ◌++◌, map, filter, length, take, refl}
 use Rattle.std.proofs.Common.{arith, sym, ◌∙◌, ap, subst, Option, Some, None}
 use Rattle.std.specs.Prelude.{◌==◌, not, nat_le, nat_lt, fold, slice_get, slice_index_or, unwrap_or, is_some}
-use Rattle.std.specs.List.{flat_map, list_any, range_with_len, AllByRecursion}
+use Rattle.std.specs.List.{range_with_len, AllByRecursion}
 use Rattle.std.proofs.lemmas.Bool.{and_parts, ltb-true}
 use Rattle.std.proofs.lemmas.Bool.Decides.{leb_tells}
 use Rattle.mn_base.proofs.Bools.{clash, none_below}
 use Rattle.mn_base.specs.declared.numbers.Rt.{Rt}
-use Rattle.mn_states.specs.declared.states.BgpState.{BgpState}
-use Rattle.mn_states.specs.declared.states.BgpState.TheVariants.{OpenSent, OpenConfirm}
 use Rattle.mn_prefix.specs.Prefix.{IsPrefix}
 use Rattle.mn_topo.specs.declared.sites.SiteDef.{SiteDef}
 use Rattle.mn_topo.specs.declared.vrfs.VrfDef.{VrfDef}
@@ -21,19 +19,20 @@ use Rattle.mn_topo.specs.SiteTable.{is_lawful_prefix}
 use Rattle.mn_topo.specs.Steps.{fits}
 use Rattle.mn_ledger.specs.declared.refused.Refused.{Refused}
 use Rattle.mn_ledger.specs.declared.refused.Refused.TheVariants as why
-use Rattle.mn_ledger.specs.Tables.{put, put_pair}
-use Rattle.mn_ledger.specs.Places.{vrf_at, vrf_of, edge_of, vrfs_at, edges}
+use Rattle.mn_ledger.specs.Tables.{put}
+use Rattle.mn_ledger.specs.Places.{vrf_at, vrf_of, edge_of, vrfs_at}
 use Rattle.mn_ledger.specs.World.{SiteRoute, Config, Export, Telling, Open, BgpKeepAlive, Announcement, Withdrawal, Peerings, World}
 use Rattle.mn_ledger.specs.Exports.{exports_with, exports_of}
-use Rattle.mn_ledger.specs.Bgp.{Told, is_from_to, tellings_of, told_to, reply, bgp_replies, is_for, same_export, withdrawn, announced}
-use Rattle.mn_ledger.specs.Bgp.{changed, steady_peers, route_news, told_in, bgp_counted, peerings_after}
+use Rattle.mn_ledger.specs.Bgp.{Told, is_from_to, tellings_of}
+use Rattle.mn_ledger.specs.Bgp.{told_in, bgp_counted}
 use Rattle.mn_ledger.specs.Packets.{Packets}
 use Rattle.mn_ledger.specs.Ledger.{with_target, statics_from, is_static, config_after, after, start}
 use Rattle.mn_ledger.specs.Refusal.{is_unchanged, is_empty, static_refusal, is_targets_full, is_spent, is_full, where_holds, first_cause, limits, refusal_at}
 use Rattle.mn_ledger.specs.Lawful.{IsLawfulJournal}
+use Rattle.mn_ledger.proofs.Parts.{peerings_go}
 use Rattle.mn_ledger.proofs.Members.{In, in_append, in_map, in_filter, in_flat_map, in_range}
 use Rattle.mn_ledger.proofs.Peers.{same_numbers}
-use Rattle.mn_ledger.proofs.Tellings.{Behind, exported, in_cleared}
+use Rattle.mn_ledger.proofs.Tellings.{still_told, told_are, Behind, exported}
 use Rattle.mn_ledger.proofs.Choice.{keeps}
 use Rattle.mn_ledger.proofs.Statics.{HasForms}
 use Rattle.mn_ledger.proofs.Tidy.{Rise, RiseAll, sets_rise}
@@ -281,71 +280,17 @@ names_export t c edge e h forms r i =
 
 -- 3. What is told in a step
 
-abbrev AllNamed : Network → Config → ℕ → List Telling → Type 0
-AllNamed t c edge ms = (m : Telling) → In ms m → NamesItsVrf t c edge m
-
 abbrev AllTold : Network → Config → List Told → Type 0
 AllTold t c xs = (x : Told) → In xs x → NamesItsVrf t c x.teller x.telling
 
 abbrev ExportsNamed : Network → Config → Type 0
 ExportsNamed t c = (edge : ℕ) (e : Export) → In (exports_of t c edge) e → NamesAnAttachment t c edge e
 
-named_announced : (t : Network) (c : Config) (edge : ℕ) (es : List Export) → ((e : Export) → In es e → NamesAnAttachment t c edge e)
-    → AllNamed t c edge (map (λ export. Announcement export) es)
-named_announced t c edge es h m i = let f = in_map (λ export. Announcement export) es m i in subst (NamesItsVrf t c edge) f.2 (h f.0 f.1)
-
-one_named : (t : Network) (c : Config) (edge : ℕ) (m : Telling) → NamesItsVrf t c edge m → AllNamed t c edge (m ∷ [])
-one_named t c edge m g x i = elim i [ inl e ↦ subst (NamesItsVrf t c edge) e g | inr j ↦ absurd j ]
-
-named_reply : (t : Network) (c : Config) (edge : ℕ) (state : BgpState) (m : Telling) → ExportsNamed t c
-    → AllNamed t c edge (reply state m (exports_of t c edge))
-named_reply t c edge OpenSent Open h = one_named t c edge BgpKeepAlive tt
-named_reply t c edge OpenConfirm BgpKeepAlive h = named_announced t c edge (exports_of t c edge) (h edge)
-named_reply t c edge _ _ h = λ x i. absurd i
-
-named_told_to : (t : Network) (c : Config) (a b : ℕ) (ms : List Telling) → AllNamed t c a ms → AllTold t c (told_to a b ms)
-named_told_to t c a b ms h x i = let f = in_map (λ telling. record { teller = a; peer = b; telling = telling }) ms x i in subst
-    (λ (y : Told). NamesItsVrf t c y.teller y.telling) f.2 (h f.0 f.1)
-
-join_told : (t : Network) (c : Config) (xs ys : List Told) → AllTold t c xs → AllTold t c ys → AllTold t c (xs ++ ys)
-join_told t c xs ys h g x i = elim (in_append xs ys x i) [ inl j ↦ h x j | inr j ↦ g x j ]
-
-named_replies : (t : Network) (c : Config) (k : Peerings) (s : Step) → ExportsNamed t c → AllTold t c (bgp_replies t c k s)
-named_replies t c k (step.BgpUp a b) h =
-    join_told t c (told_to a.0 b.0 (Open ∷ [])) (told_to b.0 a.0 (Open ∷ [])) (named_told_to t c a.0 b.0 (Open ∷ []) (one_named t c a.0 Open tt))
-    (named_told_to t c b.0 a.0 (Open ∷ []) (one_named t c b.0 Open tt))
-named_replies t c k (step.HearBgp a b) h = named_told_to t c b.0 a.0 (reply _ _ (exports_of t c b.0)) (named_reply t c b.0 _ _ h)
-named_replies t c k _ h = λ x i. absurd i
-
 -- what went was exported before
-named_changed : (t : Network) (old new : Config) (edge : ℕ) → ExportsNamed t old → ExportsNamed t new
-    → AllNamed t new edge (changed (exports_of t old edge) (exports_of t new edge))
-named_changed t old new edge h g m
-    i = elim (in_append (withdrawn (exports_of t old edge) (exports_of t new edge)) (announced (exports_of t old edge) (exports_of t new edge)) m i) [
-      | inl j ↦
-          let f = in_map (λ (export : Export). Withdrawal export.vrf export.prefix)
-          (filter (λ export. not (list_any (is_for export.vrf export.prefix) (exports_of t new edge))) (exports_of t old edge)) m j in
-          let e = h edge f.0
-          (in_filter (λ export. not (list_any (is_for export.vrf export.prefix) (exports_of t new edge))) (exports_of t old edge) f.0 f.1).0 in
-          subst (NamesItsVrf t new edge) f.2 (e.vrf, e.at_teller)
-      | inr j ↦
-          named_announced t new edge (filter (λ export. not (list_any (same_export export) (exports_of t old edge))) (exports_of t new edge))
-          (λ e k. g edge e (in_filter (λ export. not (list_any (same_export export) (exports_of t old edge))) (exports_of t new edge) e k).0) m j
-    ]
-
-named_news : (t : Network) (c : Config) (p : Peerings) (new : Config) (k : Peerings) (edge : ℕ) → ExportsNamed t c → ExportsNamed t new
-    → AllTold t new (route_news t c p new k edge)
-named_news t c p new k edge h g x i =
-    let f = in_flat_map (λ telling. map (λ peer. record { teller = edge; peer = peer; telling = telling }) (steady_peers t c p new k edge))
-    (changed (exports_of t c edge) (exports_of t new edge)) x i in
-    let r = in_map (λ peer. record { teller = edge; peer = peer; telling = f.0 }) (steady_peers t c p new k edge) x f.2 in
-    subst (λ (y : Told). NamesItsVrf t new y.teller y.telling) r.2 (named_changed t c new edge h g f.0 f.1)
-
 named_told : (t : Network) (c : Config) (p : Peerings) (new : Config) (k : Peerings) (s : Step) → ExportsNamed t c → ExportsNamed t new
     → AllTold t new (told_in t c p new k s)
 named_told t c p new k s h g =
-    join_told t new (bgp_replies t new p s) (flat_map (route_news t c p new k) (edges t)) (named_replies t new p s g)
-    (λ x i. let f = in_flat_map (route_news t c p new k) (edges t) x i in named_news t c p new k f.0 h g x f.2)
+    told_are (NamesItsVrf t new) (λ edge. tt) (λ edge. tt) t c p new k s (λ edge e i. let x = h edge e i in (x.vrf, x.at_teller)) g
 
 -- 4. What was told
 
@@ -359,11 +304,7 @@ in_tellings a b xs m i =
     (f.0, g.0, same_numbers f.0.teller a (and_parts (f.0.teller == a) (f.0.peer == b) g.1).0, f.2)
 
 still_named : (t : Network) (c : Config) (p : Peerings) (s : Step) → TellingsNamed t c p → TellingsNamed t c (bgp_counted p s)
-still_named t c p (step.BgpUp a b) h = λ edge peer m i. h edge peer m
-    (in_cleared p.told a.0 b.0 edge peer m (in_cleared (put_pair p.told a.0 b.0 []) b.0 a.0 edge peer m i))
-still_named t c p (step.BgpDown a b) h = λ edge peer m i. h edge peer m
-    (in_cleared p.told a.0 b.0 edge peer m (in_cleared (put_pair p.told a.0 b.0 []) b.0 a.0 edge peer m i))
-still_named t c p _ h = h
+still_named t c p s h = still_told (λ edge peer m. NamesItsVrf t c edge m) p s h
 
 -- what was named by an attachment is named by one later
 later_named : (t : Network) (c : Config) (s : Step) (edge : ℕ) (m : Telling) → NamesItsVrf t c edge m → NamesItsVrf t (config_after c s) edge m
@@ -397,17 +338,9 @@ told_go_on t c p s h g named edge peer m
 
 tellings_go : (t : Network) (w : World) (s : Step) → ExportsNamed t w.config → ExportsNamed t (config_after w.config s)
     → TellingsNamed t w.config w.peerings → TellingsNamed t (after t w s).config (after t w s).peerings
-unfolding peerings_after
-tellings_go t w (step.BgpUp a b) h g n = told_go_on t w.config w.peerings (step.BgpUp a b) h g n
-tellings_go t w (step.BgpDown a b) h g n = told_go_on t w.config w.peerings (step.BgpDown a b) h g n
-tellings_go t w (step.HearBgp a b) h g n = told_go_on t w.config w.peerings (step.HearBgp a b) h g n
-tellings_go t w (step.AddRoute a b) h g n = told_go_on t w.config w.peerings (step.AddRoute a b) h g n
-tellings_go t w (step.DelRoute a b) h g n = told_go_on t w.config w.peerings (step.DelRoute a b) h g n
-tellings_go t w (step.Import v on x) h g n = told_go_on t w.config w.peerings (step.Import v on x) h g n
-tellings_go t w (step.Export v on x) h g n = told_go_on t w.config w.peerings (step.Export v on x) h g n
-tellings_go t w (step.Attach a) h g n = told_go_on t w.config w.peerings (step.Attach a) h g n
-tellings_go t w (step.Detach a) h g n = told_go_on t w.config w.peerings (step.Detach a) h g n
-tellings_go t w s h g n = λ edge peer m i. later_named t w.config s edge m (n edge peer m i)
+tellings_go t w s h g n =
+    let new : Config = config_after w.config s in
+    peerings_go (TellingsNamed t new) t w.config new w.peerings s (told_go_on t w.config w.peerings s h g n) (λ edge peer m i. later_named t w.config s edge m (n edge peer m i))
 
 -- 5. After every step of a lawful journal
 

@@ -24,13 +24,14 @@ use Rattle.mn_ledger.specs.World.{World, Config, Views, Sessions, Peerings, Tell
 use Rattle.mn_ledger.specs.Transport.{lives, opening, ldp_replies, knowledge_of, speakers, said_in, ldp_counted, is_transport}
 use Rattle.mn_ledger.specs.Bgp as ledger_bgp
 use Rattle.mn_ledger.specs.Exports.{exports_of}
-use Rattle.mn_ledger.specs.Bgp.{peerings_after, Told, told_to, peers_live, is_established, steady_peers, is_routing, changed}
-use Rattle.mn_ledger.specs.Packets.{Token, Packets, flying_on, packets_after}
+use Rattle.mn_ledger.specs.Bgp.{Told, told_to, peers_live, is_established, steady_peers, is_routing, changed}
+use Rattle.mn_ledger.specs.Packets.{Token, Packets, flying_on}
 use Rattle.mn_ledger.specs.Ledger.{config_after, after, start, no_packets, next_of, left_by, world_from, world_of}
 use Rattle.mn_ledger.specs.Lawful.{IsLawfulFrom, IsLawfulJournal}
 use Rattle.mn_ledger.specs.Items.{Channel, Notices, Messages, Frames, Load, Notice, Says, Carries, Item, Flight, notices_in, message_of, messages_in}
 use Rattle.mn_ledger.specs.Items.{route_of, routes_in, frame_by, frame_after, frames_in, last_of, made_in, numbered, left_in_flight, with_made, flight_from}
 use Rattle.mn_ledger.specs.Items.{flight_of, in_time, in_time_by, is_late}
+use Rattle.mn_ledger.proofs.Parts.{peerings_go}
 use Rattle.mn_ledger.proofs.Members.{In, in_append, in_map, in_filter, in_flat_map, in_range, in_contained}
 use Rattle.mn_ledger.proofs.Turning.{opener, dir_ends}
 use Rattle.mn_ledger.proofs.GoingBy.{pair_here, pair_off}
@@ -322,17 +323,7 @@ none_go_on t w st fit joins h edge =
     (all-told t w.config w.peerings (config_after w.config st) (ledger_bgp.bgp_counted w.peerings st) st fit joins)
 
 none_go : (t : Network) (w : World) (st : Step) → fits t st ≡ true → JoinEdges t w.config → NoneToItself w.peerings → NoneToItself (after t w st).peerings
-unfolding peerings_after
-none_go t w (step.BgpUp a b) fit joins h = none_go_on t w (step.BgpUp a b) fit joins h
-none_go t w (step.BgpDown a b) fit joins h = none_go_on t w (step.BgpDown a b) fit joins h
-none_go t w (step.HearBgp a b) fit joins h = none_go_on t w (step.HearBgp a b) fit joins h
-none_go t w (step.AddRoute a b) fit joins h = none_go_on t w (step.AddRoute a b) fit joins h
-none_go t w (step.DelRoute a b) fit joins h = none_go_on t w (step.DelRoute a b) fit joins h
-none_go t w (step.Import v on x) fit joins h = none_go_on t w (step.Import v on x) fit joins h
-none_go t w (step.Export v on x) fit joins h = none_go_on t w (step.Export v on x) fit joins h
-none_go t w (step.Attach a) fit joins h = none_go_on t w (step.Attach a) fit joins h
-none_go t w (step.Detach a) fit joins h = none_go_on t w (step.Detach a) fit joins h
-none_go t w _ fit joins h = h
+none_go t w st fit joins h = peerings_go NoneToItself t w.config (config_after w.config st) w.peerings st (none_go_on t w st fit joins h) h
 
 none_from : (t : Network) (es : List JournalEntry) (tick : ℕ) (w : World) (k : Packets) (i : ℕ) (ps : List (List ℕ)) → IsLawfulFrom t tick w k i es ps
     → JoinEdges t w.config → NoneToItself w.peerings → NoneToItself (world_from t w es).peerings

@@ -5,28 +5,23 @@ use Rattle.std.proofs.lemmas.Bool.Decides.{leb_tells}
 use Rattle.std.proofs.lemmas.Option.{same_Some}
 use Rattle.std.specs.List.{list_all}
 use Rattle.std.specs.Prelude.{◌≡◌, refl, List, [], ◌∷◌, ◌++◌, length, map, slice_index, nat_lt, Some, true}
-use Rattle.mn_wiring.specs.Paths.{next}
 use Rattle.mn_wiring.specs.Wiring.{is_end}
 use Rattle.mn_wiring.specs.declared.links.Dir.TheVariants.{Forth, Back}
-use Rattle.mn_ipv4.specs.Header.{is_not_ipv4, is_malformed, is_truncated, has_bad_checksum, good, checksum_for, with_ttl, aged}
+use Rattle.mn_ipv4.specs.Header.{aged}
 use Rattle.mn_topo.specs.Lawful.{IsLawful}
 use Rattle.mn_topo.specs.Network.{wiring_of}
 use Rattle.mn_topo.specs.declared.steps.Step.TheVariants.{Inject, Carry}
 use Rattle.mn_topo.specs.declared.steps.JournalEntry.{JournalEntry}
 use Rattle.mn_topo.specs.declared.steps.Damaged.TheVariants.{Undamaged}
-use Rattle.mn_ledger.specs.Ldp.{Initialization, KeepAlive, Address, Mapping, news}
+use Rattle.mn_ledger.specs.Ldp.{Initialization, KeepAlive, Address, Mapping}
 use Rattle.mn_ledger.specs.Lawful.{IsLawfulJournal}
-use Rattle.mn_ledger.specs.Packets.{packets_after}
-use Rattle.mn_ledger.specs.Refusal.{in_flight, bytes_flying}
-use Rattle.mn_ledger.specs.Transport.{knowledge_of, sessions_after}
-use Rattle.mn_ledger.specs.Bgp.{peerings_after}
-use Rattle.mn_ledger.specs.Held.{held}
 use Rattle.mn_ledger.proofs.TwoLinks.{link_no, site_no, two_links, at_start, settling, packet, across_both, the_run_is_lawful, the_topology_is_lawful}
 use Rattle.mn_ledger_laws.specs.Accounts.{Sending, IsSent}
 use Rattle.mn_ledger_laws.specs.Deliveries.{deliveries_of}
 use Rattle.mn_ledger_laws.specs.Ids.{ids_of, frames_sent, frame_number}
 use Rattle.mn_ledger_laws.specs.Named.{AreBytes}
 use Rattle.mn_ledger_laws.proofs.There.{at_all}
+use Rattle.mn_ledger.proofs.Running.{a_run}
 pub use Rattle.mn_ledger.proofs.Premises.{as_many_packets as a_packet_each}
 
 -- 1. The premises: a lawful topology, a lawful journal, a packet for each injection, of bytes, and an end of a link
@@ -72,8 +67,7 @@ it_is_sent = record { entry = at_start (Inject (site_no 0) 1); number = 1; there
 
 -- it is the first delivery, cut to its total length, its TTL less by the three nodes of its path
 pub one_delivery : deliveries_of two_links across_both (packet ∷ []) ≡ record { tick = 0; bytes = aged packet 3 } ∷ []
-unfolding next knowledge_of news sessions_after peerings_after held packets_after is_not_ipv4 is_malformed is_truncated has_bad_checksum good
-    checksum_for with_ttl aged in_flight bytes_flying
+unfolding a_run
 one_delivery = refl
 
 -- each delivery bears the tick of its step
@@ -82,19 +76,16 @@ carried_later = settling ++ record { tick = 5; step = Inject (site_no 0) 1; dama
     record { tick = 9; step = Carry (link_no 1) Forth 0; damaged = Undamaged } ∷ []
 
 pub at_its_tick : deliveries_of two_links carried_later (packet ∷ []) ≡ record { tick = 9; bytes = aged packet 3 } ∷ []
-unfolding next knowledge_of news sessions_after peerings_after held packets_after is_not_ipv4 is_malformed is_truncated has_bad_checksum good
-    checksum_for with_ttl aged in_flight bytes_flying
+unfolding a_run
 at_its_tick = refl
 
 -- one frame was sent over each link, and none back
 pub one_frame_each : map (λ l. length (frames_sent two_links across_both (packet ∷ []) l Forth)) (0 ∷ 1 ∷ []) ≡ 1 ∷ 1 ∷ []
-unfolding next knowledge_of news sessions_after peerings_after held packets_after is_not_ipv4 is_malformed is_truncated has_bad_checksum good
-    checksum_for with_ttl aged in_flight bytes_flying
+unfolding a_run
 one_frame_each = refl
 
 pub none_back : frames_sent two_links across_both (packet ∷ []) 0 Back ≡ []
-unfolding next knowledge_of news sessions_after peerings_after held packets_after is_not_ipv4 is_malformed is_truncated has_bad_checksum good
-    checksum_for with_ttl aged in_flight bytes_flying
+unfolding a_run
 none_back = refl
 
 -- the second of two frames has the number 2, whichever flies on first
@@ -103,8 +94,7 @@ two_are_sent = settling ++ at_start (Inject (site_no 0) 1) ∷ at_start (Inject 
 
 pub frames_are_numbered : map (frame_number two_links two_are_sent (packet ∷ packet ∷ []) 0 Forth)
     (frames_sent two_links two_are_sent (packet ∷ packet ∷ []) 0 Forth) ≡ 1 ∷ 2 ∷ []
-unfolding next knowledge_of news sessions_after peerings_after held packets_after is_not_ipv4 is_malformed is_truncated has_bad_checksum good
-    checksum_for with_ttl aged in_flight bytes_flying
+unfolding a_run
 frames_are_numbered = refl
 
 -- a second life begins with the id 1 again
