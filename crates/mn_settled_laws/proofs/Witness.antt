@@ -1,13 +1,6 @@
 -- The network of two links meets what the laws of settled worlds and of arrival ask, and a packet goes there.
-use Rattle.std.proofs.Common.{rules, ℕ, zero, suc, ◌≡◌, [], ◌∷◌, ◌++◌, refl, arith}
-use Rattle.mn_wiring.specs.Paths.{next}
+use Rattle.std.proofs.Common.{ℕ, zero, suc, ◌≡◌, [], ◌∷◌, ◌++◌, refl, arith}
 use Rattle.mn_wiring.specs.declared.links.Dir.{Dir}
-use Rattle.mn_ipv4.specs.Header.{is_not_ipv4, is_malformed, is_truncated, has_bad_checksum, good, checksum_for, with_ttl, aged}
-use Rattle.mn_ledger.specs.Transport.{knowledge_of, news, sessions_after}
-use Rattle.mn_ledger.specs.Bgp.{peerings_after}
-use Rattle.mn_ledger.specs.Held.{held}
-use Rattle.mn_ledger.specs.Packets.{packets_after}
-use Rattle.mn_ledger.specs.Refusal.{in_flight, bytes_flying}
 use Rattle.mn_ledger.specs.Ledger.{packets_of}
 use Rattle.mn_ledger.specs.Verdicts.{injections, verdict_on}
 use Rattle.mn_ledger.specs.declared.verdict.Verdict.TheVariants.{Flying}
@@ -15,10 +8,10 @@ use Rattle.mn_ledger.proofs.OnePlace.{in_one_place}
 use Rattle.mn_ledger.proofs.TwoLinks.{two_links, settling, packet, the_world_is_settled, the_topology_is_lawful, the_run_is_lawful}
 use Rattle.mn_settled_laws.specs.TwoLinks.{injection, carrying, TwoLinksCarryAPacket}
 use Rattle.mn_settled_laws.proofs.Arrival.{nothing-flies, lawful_begins}
+use Rattle.mn_ledger.proofs.Running.{a_run}
 
 no_flight : (j l : ℕ) (d : Dir) → verdict_on (packets_of two_links (settling ++ injection ∷ carrying) (packet ∷ [])) j ≡ Flying (record { 0 = l }) d → ⊥
-unfolding next knowledge_of news sessions_after peerings_after held packets_after is_not_ipv4 is_malformed is_truncated has_bad_checksum good
-    checksum_for with_ttl aged in_flight bytes_flying
+unfolding a_run
 no_flight zero l d e = cc
 no_flight (suc j) l d e = cc
 
@@ -29,8 +22,7 @@ landed =
     (in_one_place two_links (settling ++ injection ∷ carrying) (packet ∷ [])) no_flight
 
 pub they_carry_a_packet : TwoLinksCarryAPacket
-unfolding next knowledge_of news sessions_after peerings_after held packets_after is_not_ipv4 is_malformed is_truncated has_bad_checksum good
-    checksum_for with_ttl aged in_flight bytes_flying
+unfolding a_run
 they_carry_a_packet = record {
   lawful = the_topology_is_lawful;
   journal = lawful_begins two_links settling (injection ∷ carrying) (packet ∷ []) the_run_is_lawful;
