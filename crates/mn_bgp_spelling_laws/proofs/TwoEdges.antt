@@ -1,24 +1,19 @@
 -- What the laws ask is met, and the messages are computed.
 use Rattle.std.proofs.Common.{rules, refl, arith}
-use Rattle.mn_ledger.specs.Bgp.{peerings_after}
-use Rattle.mn_ledger.specs.Held.{held}
-use Rattle.mn_ledger.specs.Transport.{knowledge_of, news, sessions_after}
-use Rattle.mn_ledger.specs.Packets.{packets_after}
-use Rattle.mn_ledger.specs.Refusal.{in_flight, bytes_flying}
 use Rattle.mn_ledger.specs.Lawful.{IsLawfulJournal}
-use Rattle.mn_wiring.specs.Paths.{next}
 use Rattle.mn_vpn_nlri.specs.Grammar.{nlri_of}
 use Rattle.std.specs.Prelude.{[]}
 use Rattle.mn_ledger.proofs.InTurn.{in_turn}
 use Rattle.mn_ledger.proofs.TwoLinks.{two_links, the_topology_is_lawful}
 use Rattle.mn_bgp_spelling_laws.specs.TwoEdges.{TwoEdgesTalk, opening}
+use Rattle.mn_ledger.proofs.Running.{a_run}
 
 opens : IsLawfulJournal two_links opening []
-unfolding next knowledge_of news sessions_after peerings_after held packets_after in_flight bytes_flying
+unfolding a_run
 opens = search rules
 
 pub they_talk : TwoEdgesTalk
-unfolding next knowledge_of news sessions_after peerings_after held packets_after in_flight bytes_flying nlri_of
+unfolding a_run nlri_of
 they_talk = record {
   lawful = the_topology_is_lawful;
   journal = opens;

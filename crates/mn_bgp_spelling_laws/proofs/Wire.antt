@@ -25,21 +25,8 @@ use Rattle.mn_bgp_spelling_laws.specs.Spelling.{Labels, as_targets, route_of, se
 
 rows_same : (t : Network) (l : Labels) (teller : ℕ) (state : BgpState) (m : Telling) → has_row state (kind_of (message_in t l teller m)) ≡ has_bgp_row state m
 rows_same t l teller Idle Open = refl
-rows_same t l teller Idle BgpKeepAlive = refl
-rows_same t l teller Idle (Announcement e) = refl
-rows_same t l teller Idle (Withdrawal v p) = refl
-rows_same t l teller OpenSent Open = refl
-rows_same t l teller OpenSent BgpKeepAlive = refl
-rows_same t l teller OpenSent (Announcement e) = refl
-rows_same t l teller OpenSent (Withdrawal v p) = refl
-rows_same t l teller OpenConfirm Open = refl
-rows_same t l teller OpenConfirm BgpKeepAlive = refl
-rows_same t l teller OpenConfirm (Announcement e) = refl
-rows_same t l teller OpenConfirm (Withdrawal v p) = refl
-rows_same t l teller Established Open = refl
-rows_same t l teller Established BgpKeepAlive = refl
-rows_same t l teller Established (Announcement e) = refl
-rows_same t l teller Established (Withdrawal v p) = refl
+rows_same t l teller _ Open = refl
+rows_same t l teller _ _ = refl
 
 of_peer : (t : Network) (l : Labels) (c : Config) (p : Peerings) (edge peer : ℕ) (m : Telling) →
     is_of_peer (session_in t c p edge peer) (message_in t l peer m) ≡ true

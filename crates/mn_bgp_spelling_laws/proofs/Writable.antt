@@ -1,15 +1,13 @@
 -- After every lawful journal all that was told can be written.
-use Rattle.std.proofs.Common.{ℕ, zero, suc, ◌≡◌, ◌+◌, ◌<◌, ◌≤◌, inl, inr, Bool, true, false, cond, List, [], ◌∷◌, ◌++◌, map, filter, length, refl, arith}
+use Rattle.std.proofs.Common.{ℕ, zero, suc, ◌≡◌, ◌+◌, ◌<◌, ◌≤◌, inl, inr, Bool, true, false, cond, List, [], ◌∷◌, ◌++◌, filter, length, refl, arith}
 use Rattle.std.proofs.Common.{ap, subst, lit<}
 use Rattle.std.specs.Prelude.{◌==◌, not, nat_lt, nat_le, fold, slice_index_or, ⊤}
-use Rattle.std.specs.List.{flat_map, list_any, list_all, AllByRecursion, Contains}
+use Rattle.std.specs.List.{list_all, AllByRecursion, Contains}
 use Rattle.std.proofs.lemmas.Bool.Decides.{nat_tests}
 use Rattle.mn_base.specs.Numbers.{has_rd_form, has_rt_form}
 use Rattle.mn_base.specs.declared.numbers.Rt.{Rt}
-use Rattle.mn_states.specs.declared.states.BgpState.{BgpState}
-use Rattle.mn_states.specs.declared.states.BgpState.TheVariants.{OpenSent, OpenConfirm}
 use Rattle.mn_base.proofs.Bools.{and_left, and_right, none_below}
-use Rattle.mn_base.proofs.Members.{In, in_append, in_map, in_filter, in_flat_map, in_contained}
+use Rattle.mn_base.proofs.Members.{In, in_append, in_contained}
 use Rattle.mn_base.proofs.Places.{all_filter}
 use Rattle.mn_prefix.specs.Prefix.{IsPrefix}
 use Rattle.mn_topo.specs.Network.{Network}
@@ -19,19 +17,20 @@ use Rattle.mn_topo.specs.declared.vrfs.VrfDef.{VrfDef}
 use Rattle.mn_topo.specs.declared.steps.Step.{Step}
 use Rattle.mn_topo.specs.declared.steps.Step.TheVariants as step
 use Rattle.mn_topo.specs.declared.steps.JournalEntry.{JournalEntry}
-use Rattle.mn_ledger.specs.Tables.{put, put_pair}
-use Rattle.mn_ledger.specs.Places.{vrf_at, edges}
+use Rattle.mn_ledger.specs.Tables.{put}
+use Rattle.mn_ledger.specs.Places.{vrf_at}
 use Rattle.mn_ledger.specs.World.{Config, Export, Telling, Open, BgpKeepAlive, Announcement, Withdrawal, Peerings, World}
 use Rattle.mn_ledger.specs.Exports.{exports_of}
-use Rattle.mn_ledger.specs.Bgp.{Told, tellings_of, told_to, reply, bgp_replies, is_for, same_export, withdrawn, announced, changed, steady_peers}
-use Rattle.mn_ledger.specs.Bgp.{route_news, told_in, bgp_counted, peerings_after}
+use Rattle.mn_ledger.specs.Bgp.{Told, tellings_of}
+use Rattle.mn_ledger.specs.Bgp.{told_in, bgp_counted}
 use Rattle.mn_ledger.specs.Ledger.{with_target, ascending, config_after, after, start, no_packets, next_of, left_by, world_from, world_of, packets_by}
-use Rattle.mn_ledger.specs.Packets.{Packets, packets_after}
+use Rattle.mn_ledger.specs.Packets.{Packets}
 use Rattle.mn_ledger.specs.Refusal.{is_targets_full}
 use Rattle.mn_ledger.specs.Lawful.{IsLawfulFrom, IsLawfulJournal}
+use Rattle.mn_ledger.proofs.Parts.{peerings_go}
 use Rattle.mn_ledger.proofs.Refusals.{free}
 use Rattle.mn_ledger.proofs.Statics.{HasForms, first_forms, forms_go}
-use Rattle.mn_ledger.proofs.Tellings.{Behind, exported_by, in_tellings, in_cleared}
+use Rattle.mn_ledger.proofs.Tellings.{still_told, told_are, Behind, exported_by, in_tellings}
 use Rattle.mn_bgp_spelling_laws.specs.Spelling.{Labels, as_targets, IsWritable}
 use Rattle.mn_bgp_spelling_laws.specs.Laws.{AreLabels}
 use Rattle.mn_ledger.specs.Time.{clock_after}
@@ -143,62 +142,13 @@ good_export t c edge h e i =
           (λ (p : Export). IsFewAndFormed p.targets) x.1.3 (h.sets e.vrf),
     )
 
-abbrev AreGood : Network → List Telling → Type 0
-AreGood t ms = (m : Telling) → In ms m → IsGood t m
-
 abbrev AllTold : Network → List Told → Type 0
 AllTold t xs = (x : Told) → In xs x → IsGood t x.telling
 
-good_announced : (t : Network) (es : List Export) → ((e : Export) → In es e → IsGoodExport t e) → AreGood t (map (λ export. Announcement export) es)
-good_announced t es h m i = let f = in_map (λ export. Announcement export) es m i in subst (IsGood t) f.2 (h f.0 f.1)
-
-one_good : (t : Network) (m : Telling) → IsGood t m → AreGood t (m ∷ [])
-one_good t m g x i = elim i [ inl e ↦ subst (IsGood t) e g | inr j ↦ absurd j ]
-
-good_reply : (t : Network) (state : BgpState) (m : Telling) (es : List Export) → ((e : Export) → In es e → IsGoodExport t e) → AreGood t (reply state m es)
-good_reply t OpenSent Open es h = one_good t BgpKeepAlive tt
-good_reply t OpenConfirm BgpKeepAlive es h = good_announced t es h
-good_reply t _ _ es h = λ x i. absurd i
-
-good_told_to : (t : Network) (a b : ℕ) (ms : List Telling) → AreGood t ms → AllTold t (told_to a b ms)
-good_told_to t a b ms h x i = let f = in_map (λ telling. record { teller = a; peer = b; telling = telling }) ms x i in
-    subst (λ (y : Told). IsGood t y.telling) f.2 (h f.0 f.1)
-
-join_told : (t : Network) (xs ys : List Told) → AllTold t xs → AllTold t ys → AllTold t (xs ++ ys)
-join_told t xs ys h g x i = elim (in_append xs ys x i) [ inl j ↦ h x j | inr j ↦ g x j ]
-
-good_replies : (t : Network) (c : Config) (k : Peerings) (s : Step) → IsFit c → AllTold t (bgp_replies t c k s)
-good_replies t c k (step.BgpUp a b) h =
-    join_told t (told_to a.0 b.0 (Open ∷ [])) (told_to b.0 a.0 (Open ∷ [])) (good_told_to t a.0 b.0 (Open ∷ []) (one_good t Open tt))
-    (good_told_to t b.0 a.0 (Open ∷ []) (one_good t Open tt))
-good_replies t c k (step.HearBgp a b) h =
-    good_told_to t b.0 a.0 (reply _ _ (exports_of t c b.0)) (good_reply t _ _ (exports_of t c b.0) (good_export t c b.0 h))
-good_replies t c k _ h = λ x i. absurd i
-
-good_changed : (t : Network) (before now : List Export) → ((e : Export) → In before e → IsGoodExport t e) →
-    ((e : Export) → In now e → IsGoodExport t e) → AreGood t (changed before now)
-good_changed t before now g h m i = elim (in_append (withdrawn before now) (announced before now) m i) [
-  | inl j ↦
-      let f = in_map (λ (export : Export). Withdrawal export.vrf export.prefix)
-      (filter (λ export. not (list_any (is_for export.vrf export.prefix) now)) before) m j in
-      let e = g f.0 (in_filter (λ (export : Export). not (list_any (is_for export.vrf export.prefix) now)) before f.0 f.1).0 in
-      subst (IsGood t) f.2 (e.0, e.1)
-  | inr j ↦ good_announced t (filter (λ export. not (list_any (same_export export) before)) now)
-      (λ e k. h e (in_filter (λ export. not (list_any (same_export export) before)) now e k).0) m j
-]
-
-good_news : (t : Network) (c : Config) (p : Peerings) (new : Config) (k : Peerings) (edge : ℕ) → IsFit c → IsFit new → AllTold t (route_news t c p new k edge)
-good_news t c p new k edge g h x i =
-    let f = in_flat_map (λ telling. map (λ peer. record { teller = edge; peer = peer; telling = telling }) (steady_peers t c p new k edge))
-    (changed (exports_of t c edge) (exports_of t new edge)) x i in
-    let m = in_map (λ peer. record { teller = edge; peer = peer; telling = f.0 }) (steady_peers t c p new k edge) x f.2 in
-    subst (λ (y : Told). IsGood t y.telling) m.2
-    (good_changed t (exports_of t c edge) (exports_of t new edge) (good_export t c edge g) (good_export t new edge h) f.0 f.1)
-
 good_told : (t : Network) (c : Config) (p : Peerings) (new : Config) (k : Peerings) (s : Step) → IsFit c → IsFit new → AllTold t (told_in t c p new k s)
 good_told t c p new k s g h =
-    join_told t (bgp_replies t new p s) (flat_map (route_news t c p new k) (edges t)) (good_replies t new p s h)
-    (λ x i. let f = in_flat_map (route_news t c p new k) (edges t) x i in good_news t c p new k f.0 g h x f.2)
+    told_are (λ edge m. IsGood t m) (λ edge. tt) (λ edge. tt) t c p new k s (λ edge e i. let x = good_export t c edge g e i in (x.0, x.1))
+    (λ edge e i. good_export t new edge h e i)
 
 -- 4. A step
 
@@ -206,11 +156,7 @@ abbrev pub AllGood : Network → Peerings → Type 0
 AllGood t p = (edge peer : ℕ) (m : Telling) → In (p.told edge peer) m → IsGood t m
 
 still_good : (t : Network) (p : Peerings) (s : Step) → AllGood t p → AllGood t (bgp_counted p s)
-still_good t p (step.BgpUp a b) h =
-    λ edge peer m i. h edge peer m (in_cleared p.told a.0 b.0 edge peer m (in_cleared (put_pair p.told a.0 b.0 []) b.0 a.0 edge peer m i))
-still_good t p (step.BgpDown a b) h =
-    λ edge peer m i. h edge peer m (in_cleared p.told a.0 b.0 edge peer m (in_cleared (put_pair p.told a.0 b.0 []) b.0 a.0 edge peer m i))
-still_good t p _ h = h
+still_good t p s h = still_told (λ edge peer m. IsGood t m) p s h
 
 told_go_on : (t : Network) (c : Config) (p : Peerings) (s : Step) → IsFit c → IsFit (config_after c s) → AllGood t p → (edge peer : ℕ) (m : Telling)
     → In ((bgp_counted p s).told edge peer ++ tellings_of edge peer (told_in t c p (config_after c s) (bgp_counted p s) s)) m → IsGood t m
@@ -222,17 +168,7 @@ told_go_on t c p s g h good edge peer m i =
     ]
 
 tellings_go : (t : Network) (w : World) (s : Step) → IsFit w.config → IsFit (config_after w.config s) → AllGood t w.peerings → AllGood t (after t w s).peerings
-unfolding peerings_after
-tellings_go t w (step.BgpUp a b) g h good = told_go_on t w.config w.peerings (step.BgpUp a b) g h good
-tellings_go t w (step.BgpDown a b) g h good = told_go_on t w.config w.peerings (step.BgpDown a b) g h good
-tellings_go t w (step.HearBgp a b) g h good = told_go_on t w.config w.peerings (step.HearBgp a b) g h good
-tellings_go t w (step.AddRoute a b) g h good = told_go_on t w.config w.peerings (step.AddRoute a b) g h good
-tellings_go t w (step.DelRoute a b) g h good = told_go_on t w.config w.peerings (step.DelRoute a b) g h good
-tellings_go t w (step.Import v on x) g h good = told_go_on t w.config w.peerings (step.Import v on x) g h good
-tellings_go t w (step.Export v on x) g h good = told_go_on t w.config w.peerings (step.Export v on x) g h good
-tellings_go t w (step.Attach a) g h good = told_go_on t w.config w.peerings (step.Attach a) g h good
-tellings_go t w (step.Detach a) g h good = told_go_on t w.config w.peerings (step.Detach a) g h good
-tellings_go t w s g h good = good
+tellings_go t w s g h good = peerings_go (AllGood t) t w.config (config_after w.config s) w.peerings s (told_go_on t w.config w.peerings s g h good) good
 
 -- 5. A journal
 
