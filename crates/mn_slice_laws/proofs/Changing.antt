@@ -176,29 +176,10 @@ labels-more far n xs (Release p) =
 state-more : (active : Bool) (heard : ℕ) (x : Message) → has_ldp_row (state_by active heard) x ≡ true →
     state_by active (suc heard) ≡ state_after (state_by active heard) x
 state-more true zero Initialization h = refl
-state-more true zero KeepAlive h = cc
-state-more true zero Address h = cc
-state-more true zero (Mapping p) h = cc
-state-more true zero (Withdraw p) h = cc
-state-more true zero (Release p) h = cc
 state-more false zero Initialization h = refl
-state-more false zero KeepAlive h = cc
-state-more false zero Address h = cc
-state-more false zero (Mapping p) h = cc
-state-more false zero (Withdraw p) h = cc
-state-more false zero (Release p) h = cc
 state-more active (suc zero) KeepAlive h = refl
-state-more active (suc zero) Initialization h = cc
-state-more active (suc zero) Address h = cc
-state-more active (suc zero) (Mapping p) h = cc
-state-more active (suc zero) (Withdraw p) h = cc
-state-more active (suc zero) (Release p) h = cc
-state-more active (suc (suc heard)) Initialization h = cc
 state-more active (suc (suc heard)) KeepAlive h = refl
-state-more active (suc (suc heard)) Address h = refl
-state-more active (suc (suc heard)) (Mapping p) h = refl
-state-more active (suc (suc heard)) (Withdraw p) h = refl
-state-more active (suc (suc heard)) (Release p) h = refl
+state-more _ _ _ h = cc
 
 module _ (t : Network) (c : Config) (v : Views) (s : Sessions) (l m : ℕ) where
   abbrev far : ℕ
