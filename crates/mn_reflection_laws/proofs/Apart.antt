@@ -1,20 +1,19 @@
 -- No two exports of an edge have one name, where no step was refused.
-use Rattle.std.proofs.Common.{ℕ, ◌≡◌, inl, inr, Bool, true, false, cond, List, [], ◌∷◌, length, Some, None, Option, refl, sym, ◌∙◌, ap}
+use Rattle.std.proofs.Common.{ℕ, ◌≡◌, true, false, List, [], ◌∷◌, length, Some, None, Option, refl, sym, ◌∙◌, ap}
 use Rattle.std.specs.Prelude.{◌==◌, ◌&&◌, not}
-use Rattle.mn_base.proofs.Bools.{no, clash, same_test}
-use Rattle.mn_prefix.specs.Prefix.{AddressBlock, same_prefix}
+use Rattle.mn_base.proofs.Bools.{no}
 use Rattle.mn_topo.specs.Network.{Network}
 use Rattle.mn_topo.specs.Lawful.{IsLawful}
 use Rattle.mn_topo.specs.declared.steps.Step.{Step}
 use Rattle.mn_topo.specs.declared.steps.Step.TheVariants as step
 use Rattle.mn_ledger.specs.declared.refused.Refused.{Refused}
 use Rattle.mn_ledger.specs.Places.{vrf_of}
-use Rattle.mn_ledger.specs.World.{Config, SiteRoute}
+use Rattle.mn_ledger.specs.World.{Config}
 use Rattle.mn_ledger.specs.Exports.{exports_of}
 use Rattle.mn_ledger.specs.Ledger.{config_after, is_static}
-use Rattle.mn_ledger.specs.Refusal.{taken_by, prefix_refusal, static_refusal, first_cause}
-use Rattle.mn_ledger.proofs.Statics.{SameStatic, HasStatics, first_statics}
-use Rattle.mn_ledger.proofs.Members.{In, in_contained, apart_filter, apart_push}
+use Rattle.mn_ledger.specs.Refusal.{taken_by, static_refusal, first_cause}
+use Rattle.mn_ledger.proofs.Statics.{SameStatic, HasStatics, first_statics, not_taken, none_taken}
+use Rattle.mn_ledger.proofs.Members.{in_contained, apart_filter, apart_push}
 use Rattle.mn_settled_laws.proofs.Changes.{exports-different}
 use Rattle.mn_reflection_laws.specs.Words.{key_of}
 use Rattle.mn_reflection_laws.specs.Picks.{ReflectWorld, plain}
@@ -28,32 +27,6 @@ use Rattle.mn_reflection_laws.proofs.Mentions.{same_keys}
 pub first_none : (one : Option Refused) (more : List (Option Refused)) → first_cause (one ∷ more) ≡ None → (one ≡ None) × (first_cause more ≡ None)
 first_none None more h = (refl, h)
 first_none (Some why) more h = absurd (no (sym (ap (λ o. elim o [ None ↦ false | Some z ↦ true ]) h)))
-
-not_taken : (o : Option ℕ) (count : ℕ) → prefix_refusal o count ≡ None → o ≡ None
-not_taken None count h = refl
-not_taken (Some s) count h = cc
-
-same_itself : (p : AddressBlock) → same_prefix p p ≡ true
-same_itself p = ap (λ b. b && (p.length == p.length)) (same_test p.address) ∙ same_test p.length
-
-none_taken : (t : Network) (v : ℕ) (p : AddressBlock) (xs : List SiteRoute) → taken_by t v p xs ≡ None →
-    (x : SiteRoute) → In xs x → vrf_of t x.site ≡ v → x.prefix ≡ p → ⊥
-none_taken t v p [] h x i e f = absurd i
-none_taken t v p (y ∷ ys) h x i e f = split ((vrf_of t y.site == v) && same_prefix y.prefix p) refl (λ g j. none_taken t v p ys g x j e f) h
-  where
-    some : Some y.site ≡ None → ⊥
-    some q = cc
-
-    split : (b : Bool) → ((vrf_of t y.site == v) && same_prefix y.prefix p) ≡ b →
-        (taken_by t v p ys ≡ None → In ys x → ⊥) → cond b (Some y.site) (taken_by t v p ys) ≡ None → ⊥
-    split true q more g = some g
-    split false q more g = elim i [
-      | inl r ↦
-          clash (sym (ap (λ w. (w == v) && same_prefix y.prefix p) (ap (λ (z : SiteRoute). vrf_of t z.site) r ∙ e)
-          ∙ ap (λ z. (v == v) && same_prefix z p) (ap (λ (z : SiteRoute). z.prefix) r ∙ f) ∙ ap (λ c. c && same_prefix p p) (same_test v)
-          ∙ same_itself p) ∙ q)
-      | inr j ↦ more g j
-    ]
 
 pub statics_by : (t : Network) (c : Config) (s : Step) → static_refusal t c s ≡ None → HasStatics t c.statics → HasStatics t (config_after c s).statics
 statics_by t c (step.AddRoute s p) none h = record {
