@@ -7,15 +7,13 @@ use Rattle.std.proofs.lemmas.Bool.Decides.{eqb_tells}
 use Rattle.mn_wiring.specs.Wiring.{Wiring}
 use Rattle.mn_ledger.specs.World.{Message, Mapping, Withdraw}
 use Rattle.mn_ledger.specs.Transport.{Said, Knowledge, is_operational, messages_of, said_on, mention, mentioned_on, mentioned_from, offers, by_neighbour, news}
-use Rattle.mn_ledger.proofs.Members.{In}
 use Rattle.mn_ledger.proofs.Mentions.{messages-append}
-use Rattle.mn_ledger.proofs.Turning.{said-own, said-other}
+use Rattle.mn_ledger.proofs.Turning.{said-own}
 use Rattle.mn_drain_laws.specs.Sums.{total, where_so}
 use Rattle.mn_drain_laws.specs.Ahead.{measured}
 use Rattle.mn_drain_laws.proofs.Sums.{total-below}
-use Rattle.mn_ledger.proofs.Saying.{IsOnce, once-neighbours}
+use Rattle.mn_ledger.proofs.Saying.{IsOnce, once-neighbours, other-link, no-link, news-others}
 use Rattle.mn_drain_laws.proofs.Weights.{total-shift}
-use Rattle.mn_settled_laws.proofs.Mapped.{news-else}
 
 -- 1. Weights of messages
 
@@ -46,13 +44,6 @@ module _ (w : Wiring) (size : Message → ℕ) (g : ℕ → ℕ) (maps : (q : �
   abbrev pub one_fec : ℕ → Bool → Bool → ℕ
   one_fec q was is = where_so (is_operational after l && differ (is_operational before l && was) is) (g q)
 
-  other-link : (j q : ℕ) (was is : Bool) → j ≢ l → messages_of l n (mentioned_on before after n q was is j) ≡ []
-  other-link j q was is d = either (is_operational after j)
-    where
-      either : (on : Bool) → messages_of l n (if on then said_on j n (mention (is_operational before j && was) is q) else []) ≡ []
-      either true = said-other l n j n (mention (is_operational before j && was) is q) (inl d)
-      either false = refl
-
   this-link : (q : ℕ) (was is : Bool) → measured size (messages_of l n (mentioned_on before after n q was is l)) ≡ one_fec q was is
   this-link q was is = either (is_operational after l)
     where
@@ -63,13 +54,6 @@ module _ (w : Wiring) (size : Message → ℕ) (g : ℕ → ℕ) (maps : (q : �
           ∙ mention-weighs size g maps withdraws q (is_operational before l && was) is
       either false = refl
 
-  no-link : (q : ℕ) (was is : Bool) (ks : List ℕ) → (In ks l → ⊥) → messages_of l n (flat_map (mentioned_on before after n q was is) ks) ≡ []
-  no-link q was is [] out = refl
-  no-link q was is (j ∷ ks) out =
-      messages-append l n (mentioned_on before after n q was is j) (flat_map (mentioned_on before after n q was is) ks)
-      ∙ ap (λ ms. ms ++ messages_of l n (flat_map (mentioned_on before after n q was is) ks)) (other-link j q was is (λ e. out (inl e)))
-      ∙ no-link q was is ks (λ i. out (inr i))
-
   links-weigh : (q : ℕ) (was is : Bool) (ks : List ℕ) → IsOnce l ks
       → measured size (messages_of l n (flat_map (mentioned_on before after n q was is) ks)) ≤ one_fec q was is
   links-weigh q was is [] once = omega arith
@@ -78,12 +62,12 @@ module _ (w : Wiring) (size : Message → ℕ) (g : ℕ → ℕ) (maps : (q : �
       arith,
       weight-said size l n (mentioned_on before after n q was is j) (flat_map (mentioned_on before after n q was is) ks),
       subst (λ i. measured size (messages_of l n (mentioned_on before after n q was is i)) ≡ one_fec q was is) (sym e.1) (this-link q was is),
-      ap (measured size) (no-link q was is ks (once.0 e.1)),
+      ap (measured size) (no-link before after l n q was is ks (once.0 e.1)),
     )
     | inr e ↦ omega (
       arith,
       weight-said size l n (mentioned_on before after n q was is j) (flat_map (mentioned_on before after n q was is) ks),
-      ap (measured size) (other-link j q was is e.1),
+      ap (measured size) (other-link before after l n q was is j e.1),
       links-weigh q was is ks once.1,
     )
   ]
@@ -138,7 +122,7 @@ nobody w before after l n a zero h = refl
 nobody w before after l n a (suc k) h =
     messages-append l n (news w (before a) (after a) a) (flat_map (λ x. news w (before x) (after x) x) (range_with_len (a + 1) k))
     ∙ ap (λ ms. ms ++ messages_of l n (flat_map (λ x. news w (before x) (after x) x) (range_with_len (a + 1) k)))
-    (news-else w (before a) (after a) l n a (apart h))
+    (news-others w (before a) (after a) l n a (apart h))
     ∙ nobody w before after l n (a + 1) k (omega (arith, h))
   where
     apart : n < a → a ≢ n
@@ -158,7 +142,7 @@ speaks-once w size before after l n a (suc k) = elim (eqb_tells a n) [
   | inr e ↦ omega (
     arith,
     weight-said size l n (news w (before a) (after a) a) (flat_map (λ x. news w (before x) (after x) x) (range_with_len (a + 1) k)),
-    ap (measured size) (news-else w (before a) (after a) l n a e.1),
+    ap (measured size) (news-others w (before a) (after a) l n a e.1),
     speaks-once w size before after l n (a + 1) k,
   )
 ]

@@ -1,38 +1,28 @@
 -- A drain of the network of two links: 36 steps, whose bound is 1678.
 use Rattle.std.proofs.Common.{rules, ◌≡◌, [], refl}
-use Rattle.mn_wiring.specs.Paths.{next}
-use Rattle.mn_ipv4.specs.Header.{is_not_ipv4, is_malformed, is_truncated, has_bad_checksum, good, checksum_for, with_ttl, aged}
-use Rattle.mn_ledger.specs.Transport.{knowledge_of, news, sessions_after}
-use Rattle.mn_ledger.specs.Bgp.{peerings_after}
-use Rattle.mn_ledger.specs.Held.{held}
-use Rattle.mn_ledger.specs.Packets.{packets_after}
-use Rattle.mn_ledger.specs.Refusal.{in_flight, bytes_flying}
 use Rattle.mn_ledger.specs.Ledger.{world_of}
 use Rattle.mn_ledger.specs.Lawful.{IsLawfulJournal}
 use Rattle.mn_ledger.proofs.TwoLinks.{two_links, settled_world, the_world_is_settled, the_topology_is_lawful}
 use Rattle.mn_drain_laws.specs.Drain.{AllLearned, IsDrain, IsDrained, IsSwitchedOn, after_steps, drain_bound}
 use Rattle.mn_drain_laws.specs.Draining.{beginning, drains, TwoLinksDrain}
 use Rattle.mn_drain_laws.proofs.Drained.{settled_is_drained}
+use Rattle.mn_ledger.proofs.Running.{a_run}
 
 the_start_is_lawful : IsLawfulJournal two_links beginning []
-unfolding next knowledge_of news sessions_after peerings_after held packets_after is_not_ipv4 is_malformed is_truncated has_bad_checksum good
-    checksum_for with_ttl aged in_flight bytes_flying
+unfolding a_run
 the_start_is_lawful = search rules
 
 -- notices 6, messages 4, links 2, nodes 3, directions 2, exports 2
 the_bound_is_1678 : drain_bound two_links (world_of two_links beginning) ≡ 1678
-unfolding next knowledge_of news sessions_after peerings_after held packets_after is_not_ipv4 is_malformed is_truncated has_bad_checksum good
-    checksum_for with_ttl aged in_flight bytes_flying
+unfolding a_run
 the_bound_is_1678 = refl
 
 all_learned : AllLearned two_links settled_world.views
-unfolding next knowledge_of news sessions_after peerings_after held packets_after is_not_ipv4 is_malformed is_truncated has_bad_checksum good
-    checksum_for with_ttl aged in_flight bytes_flying
+unfolding a_run
 all_learned node l h g = the_world_is_settled.learned node l h g
 
 it_is_a_drain : IsDrain two_links (world_of two_links beginning) drains
-unfolding next knowledge_of news sessions_after peerings_after held packets_after is_not_ipv4 is_malformed is_truncated has_bad_checksum good
-    checksum_for with_ttl aged in_flight bytes_flying
+unfolding a_run
 it_is_a_drain = (
   record { fitting = refl; there = refl; in_turn = tt },
   (
