@@ -107,6 +107,15 @@ chosen_false : (b : Bool) (x y : ℕ) → b ≡ false → y ≡ (if b then x els
 chosen_false true x y e = cc
 chosen_false false x y e = refl
 
+-- of the links from a place on, the one that stands there, and those behind it
+pub still : (at : ℕ) (links : List LinkNo) (i node l : ℕ) → OpenFrom at links i node l →
+    OpenFrom at links (i + 1) node l ⊎ ((node ≡ at) × (i < length links) × ((get_or links i (record { 0 = l })).0 ≡ l))
+still at links i node l o =
+    elim (cases_lt i o.1) [
+      | inl p ↦ inl (o.0, o.1, omega (arith, p), o.3, o.4)
+      | inr p ↦ (let e : o.1 ≡ i = omega (arith, p, o.2) in inr (o.0, omega (arith, e, o.3), ap (λ k. (get_or links k (record { 0 = l })).0) (sym e) ∙ o.4))
+    ]
+
 -- over the link at this place leads no better way
 abbrev IsRelaxed : Learned → ℕ → PathTable → ℕ → ℕ → ℕ → Type 0
 IsRelaxed v root t node known l = AtMost (rank_at t (beyond v node l)) (rank_over v root node known l)
@@ -142,14 +151,6 @@ module _ (v : Learned) (root : ℕ) (net : IsNetwork v.nodes v.ends) (here : roo
       ]
 
   -- 6. Which links are open
-  still : (at : ℕ) (links : List LinkNo) (i node l : ℕ) → OpenFrom at links i node l →
-      OpenFrom at links (i + 1) node l ⊎ ((node ≡ at) × (i < length links) × ((get_or links i (record { 0 = l })).0 ≡ l))
-  still at links i node l o =
-      elim (cases_lt i o.1) [
-        | inl p ↦ inl (o.0, o.1, omega (arith, p), o.3, o.4)
-        | inr p ↦ (let e : o.1 ≡ i = omega (arith, p, o.2) in inr (o.0, omega (arith, e, o.3), ap (λ k. (get_or links k (record { 0 = l })).0) (sym e) ∙ o.4))
-      ]
-
   -- the link that stands at a place, whatever is answered past the end
   place_is : (links : List LinkNo) (i l : ℕ) (d : LinkNo) → i < length links → (get_or links i d).0 ≡ (get_or links i (record { 0 = l })).0
   place_is links i l d p = ap (λ (n : LinkNo). n.0) (get_or_default links i d (record { 0 = l }) p)
@@ -162,6 +163,16 @@ module _ (v : Learned) (root : ℕ) (net : IsNetwork v.nodes v.ends) (here : roo
   relaxed_here t at l k h node m known p q r s =
       let e : known ≡ k = same_known (rank_at t at) (ap (rank_at t) (sym p) ∙ r) s in
       subst (λ n. IsRelaxed v root t n known m) (sym p) (subst (λ n. IsRelaxed v root t at known n) (sym q) (subst (λ n. IsRelaxed v root t at n l) (sym e) h))
+
+  -- other links are open: each that was is open still, or no better way leads over it
+  reopened : (Open Open' : ℕ → ℕ → Type 0) (limit : ℕ) (s : State) → IsSearch v root Open limit s →
+      ((node m known : ℕ) → goes v node m ≡ true → rank_at s.table node ≡ Some known → Open node m → Open' node m ⊎ IsRelaxed v root s.table node known m) →
+      IsSearch v root Open' limit s
+  reopened Open Open' limit s h f = assumption (relaxed, h)
+    where
+      relaxed : (node m known : ℕ) → node < v.nodes → is_settled s node ≡ true → goes v node m ≡ true → rank_at s.table node ≡ Some known →
+          Open' node m ⊎ IsRelaxed v root s.table node known m
+      relaxed node m known p e x r = elim (h.relaxed node m known p e x r) [ inl o ↦ f node m known x r o | inr a ↦ inr a ]
 
   -- 7. A way is offered
   module _ (s : State) (way : Way) (links : List LinkNo) (i l : ℕ) (h : IsSearch v root (OpenFrom way.to links i) (rank_of way) s)
@@ -178,28 +189,12 @@ module _ (v : Learned) (root : ℕ) (net : IsNetwork v.nodes v.ends) (here : roo
     -- the way is no better
     kept : beats (rank_of new) (rank_at s.table new.to) ≡ false → IsSearch v root (OpenFrom way.to links (i + 1)) (rank_of way) s
     kept worse =
-        record {
-          one_each = h.one_each;
-          marks = h.marks;
-          root_cost = h.root_cost;
-          root_hop = h.root_hop;
-          root_settled = h.root_settled;
-          found = h.found;
-          done = h.done;
-          relaxed = λ node m known p e x r.
-              elim (h.relaxed node m known p e x r) [
-                | inl o ↦ elim (still way.to links i node m o) [
-                  | inl o ↦ inl o
-                  | inr o ↦ inr
-                      (relaxed_here s.table way.to l (rank_of way) (subst (AtMost (rank_at s.table new.to)) (over_rank s way l f) (no_better _ _ worse))
-                      node m known o.0 (it_is m o.1 o.2) r f.known)
-                ]
-                | inr a ↦ inr a
-              ];
-          waiting = h.waiting;
-          ways = h.ways;
-          ordered = h.ordered;
-        }
+        reopened (OpenFrom way.to links i) (OpenFrom way.to links (i + 1)) (rank_of way) s h (λ node m known x r o. elim (still way.to links i node m o) [
+          | inl o ↦ inl o
+          | inr o ↦ inr
+              (relaxed_here s.table way.to l (rank_of way) (subst (AtMost (rank_at s.table new.to)) (over_rank s way l f) (no_better _ _ worse)) node m known o.0
+              (it_is m o.1 o.2) r f.known)
+        ])
 
     -- the way is better
     module _ (s' : State) (better : beats (rank_of new) (rank_at s.table new.to) ≡ true) (t : Takes s s' new) where
@@ -355,23 +350,8 @@ module _ (v : Learned) (root : ℕ) (net : IsNetwork v.nodes v.ends) (here : roo
   pub opened : (at limit : ℕ) (links : List LinkNo) (s : State) → AreLinksAt v at links → IsSearch v root (AllOpen at) limit s →
       IsSearch v root (OpenFrom at links 0) limit s
   opened at limit links s a h =
-      record {
-        one_each = h.one_each;
-        marks = h.marks;
-        root_cost = h.root_cost;
-        root_hop = h.root_hop;
-        root_settled = h.root_settled;
-        found = h.found;
-        done = h.done;
-        relaxed = λ node m known p e x r.
-            elim (h.relaxed node m known p e x r) [
-              | inl o ↦ (let k = a.all m (subst (λ n. goes v n m ≡ true) o x) in inl (o, k.0, omega arith, k.1, ap (λ (n : LinkNo). n.0) k.2))
-              | inr b ↦ inr b
-            ];
-        waiting = h.waiting;
-        ways = h.ways;
-        ordered = h.ordered;
-      }
+      reopened (AllOpen at) (OpenFrom at links 0) limit s h (λ node m known x r o.
+      let k = a.all m (subst (λ n. goes v n m ≡ true) o x) in inl (o, k.0, omega arith, k.1, ap (λ (n : LinkNo). n.0) k.2))
 
   past_the_end : (k i n : ℕ) → i ≤ k → k < n → n ≤ i → ⊥
   past_the_end k i n p q r = omega (arith, p, q, r)
@@ -379,23 +359,7 @@ module _ (v : Learned) (root : ℕ) (net : IsNetwork v.nodes v.ends) (here : roo
   pub closed : (at limit i : ℕ) (links : List LinkNo) (s : State) → length links ≤ i → IsSearch v root (OpenFrom at links i) limit s →
       IsSearch v root NoneOpen limit s
   closed at limit i links s p h =
-      record {
-        one_each = h.one_each;
-        marks = h.marks;
-        root_cost = h.root_cost;
-        root_hop = h.root_hop;
-        root_settled = h.root_settled;
-        found = h.found;
-        done = h.done;
-        relaxed = λ node m known q e x r.
-            elim (h.relaxed node m known q e x r) [
-              | inl o ↦ absurd (past_the_end o.1 i (length links) o.2 o.3 p)
-              | inr b ↦ inr b
-            ];
-        waiting = h.waiting;
-        ways = h.ways;
-        ordered = h.ordered;
-      }
+      reopened (OpenFrom at links i) NoneOpen limit s h (λ node m known x r o. absurd (past_the_end o.1 i (length links) o.2 o.3 p))
 
   -- 8. The start
   module _ (s : State) (table : s.table ≡ with_entries (nothing_known v.nodes) root (Some 0) None)
