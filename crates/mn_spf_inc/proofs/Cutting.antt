@@ -22,25 +22,17 @@ use Rattle.mn_spf_inc.specs.Mending.{OneLate, IsKnown, Queues, Doubts, Forgets}
 use Rattle.mn_spf_inc.proofs.Entries.{some_is, none_some, known_way, no_way}
 use Rattle.mn_spf_inc.proofs.Held.{IsFrom, comes_from}
 use Rattle.mn_spf_inc.proofs.Costs.{bounded}
-use Rattle.mn_spf_inc.proofs.Growing.{contains_head, contains_tail, contains_cases}
+use Rattle.mn_spf_inc.proofs.Growing.{contains_head, contains_tail, contains_cases, held_on}
 
 module _ (v : Learned) (root : ℕ) where
   -- 1. Which nodes are late
   pub eased : (Late Late' : ℕ → ℕ → Type 0) (s : State) → IsCutting v root Late s →
       ((n known : ℕ) → n < v.nodes → n ≢ root → rank_at s.table n ≡ Some known → Late n known →
       Late' n known ⊎ (IsDoubted s n ⊎ IsHeld v root s.table n known)) → IsCutting v root Late' s
-  eased Late Late' s h f =
-      record {
-        one_each = h.one_each;
-        root_cost = h.root_cost;
-        root_hop = h.root_hop;
-        formed = h.formed;
-        held = λ n known p q r. elim (h.held n known p q r) [ inl o ↦ f n known p q r o | inr o ↦ inr o ];
-        relaxed = h.relaxed;
-        ways = h.ways;
-        small = h.small;
-        gone = h.gone;
-      }
+  eased Late Late' s h f = assumption (held, h)
+    where
+      held : (n known : ℕ) → n < v.nodes → n ≢ root → rank_at s.table n ≡ Some known → Late' n known ⊎ (IsDoubted s n ⊎ IsHeld v root s.table n known)
+      held n known p q r = elim (h.held n known p q r) [ inl o ↦ f n known p q r o | inr o ↦ inr o ]
 
   -- 2. A node is doubted
   module _ (Late Late' : ℕ → ℕ → Type 0) (s : State) (over : Way) (h : IsCutting v root Late s) (there : over.to < v.nodes) (positive : 0 < rank_of over)
@@ -216,17 +208,7 @@ module _ (v : Learned) (root : ℕ) where
                 subst
                     (λ n. rank_over v root n (rank_of w) a.l ≤ known) e.1 (subst (λ n. rank_over v root a.from n a.l ≤ known) near a.no_worse),
               ))
-          | inr e ↦ inr (record {
-            from = a.from;
-            l = a.l;
-            near = a.near;
-            there = a.there;
-            goes_on = a.goes_on;
-            leads = a.leads;
-            is_known =
-                rank_off a.from e.1 ∙ a.is_known;
-            no_worse = a.no_worse;
-          })
+          | inr e ↦ inr (held_on v v.counts root s.table s'.table node known a.near a a.goes_on (rank_off a.from e.1 ∙ a.is_known) a.no_worse)
         ]
 
     numbered_same : {a b : ℕ} → a ≡ b → numbered a ≡ numbered b

@@ -13,7 +13,7 @@ use Rattle.mn_wiring.specs.Wiring.{link}
 use Rattle.mn_linkdb.specs.Network.{IsNetwork}
 use Rattle.mn_linkdb.specs.Learned.{Learned}
 use Rattle.mn_linkdb.specs.PathTable.{PathTable, dist_at, next_at, with_entries}
-use Rattle.mn_spf.specs.Ways.{wiring_of, goes, rank, rank_in, rank_at, AtMost, beats}
+use Rattle.mn_spf.specs.Ways.{wiring_of, goes, rank, rank_in, rank_at, rank_over, AtMost, beats}
 use Rattle.mn_spf.proofs.Walks.{link_is, beyond_below}
 use Rattle.mn_spf.proofs.Best.{known_of, at_most_from}
 use Rattle.mn_spf_inc.specs.declared.way.Way.{Way}
@@ -35,22 +35,28 @@ better_not : (r : ℕ) (o : Option ℕ) (known : ℕ) → beats r o ≡ true →
 better_not r None known e q p = none_some known q
 better_not r (Some k) known e q p = omega (arith, ltb-true r k e, some_is q, p)
 
--- 3. Where entries get lower, a node that is held stays held
+-- 3. A node stays held by its neighbour, whatever is known of others and whatever other links are up
+pub held_on : (v : Learned) (counts : List ℕ) (root : ℕ) (t t' : PathTable) (node known near : ℕ) (h : IsHeld v root t node known) →
+    goes (record v { counts = counts }) h.from h.l ≡ true → rank_at t' h.from ≡ Some near → rank_over v root h.from near h.l ≤ known →
+    IsHeld (record v { counts = counts }) root t' node known
+held_on v counts root t t' node known near h g k low =
+    record {
+      from = h.from;
+      l = h.l;
+      near = near;
+      there = h.there;
+      goes_on = g;
+      leads = h.leads;
+      is_known = k;
+      no_worse = low;
+    }
+
+-- so it does where entries get lower
 pub held_lower : (v : Learned) (root : ℕ) (t t' : PathTable) (node known : ℕ) →
     ((n most : ℕ) → AtMost (rank_at t n) most → AtMost (rank_at t' n) most) → IsHeld v root t node known → IsHeld v root t' node known
 held_lower v root t t' node known lower h =
     let k : (k : ℕ) × (rank_at t' h.from ≡ Some k) × (k ≤ h.near) = known_of _ _ (lower h.from h.near (at_most_from _ _ _ h.is_known (omega arith))) in
-    record {
-      from = h.from;
-      l = h.l;
-      near = k.0;
-      there = h.there;
-      goes_on = h.goes_on;
-      leads = h.leads;
-      is_known = k.1;
-      no_worse =
-          omega (arith, over_lower v root h.from k.0 h.near h.l k.2, h.no_worse);
-    }
+    held_on v v.counts root t t' node known k.0 h h.goes_on k.1 (omega (arith, over_lower v root h.from k.0 h.near h.l k.2, h.no_worse))
 
 -- 4. Counts
 blank_counts : (ds : List (Option ℕ)) (to new : ℕ) → to < length ds →
@@ -87,17 +93,11 @@ module _ (v : Learned) (root : ℕ) where
   pub eased : (Rest Rest' : ℕ → ℕ → Type 0) (s : State) → IsGrowing v root Rest s →
       ((n m known : ℕ) → n < v.nodes → goes v n m ≡ true → rank_at s.table n ≡ Some known → Rest n m →
       Rest' n m ⊎ (IsPending s n ⊎ IsRelaxed v root s.table n known m)) → IsGrowing v root Rest' s
-  eased Rest Rest' s h f =
-      record {
-        one_each = h.one_each;
-        root_cost = h.root_cost;
-        root_hop = h.root_hop;
-        formed = h.formed;
-        held = h.held;
-        relaxed = λ n m known p g r. elim (h.relaxed n m known p g r) [ inl o ↦ f n m known p g r o | inr o ↦ inr o ];
-        ways = h.ways;
-        bounded = h.bounded;
-      }
+  eased Rest Rest' s h f = assumption (relaxed, h)
+    where
+      relaxed : (n m known : ℕ) → n < v.nodes → goes v n m ≡ true → rank_at s.table n ≡ Some known →
+          Rest' n m ⊎ (IsPending s n ⊎ IsRelaxed v root s.table n known m)
+      relaxed n m known p g r = elim (h.relaxed n m known p g r) [ inl o ↦ f n m known p g r o | inr o ↦ inr o ]
 
 module _ (v : Learned) (root : ℕ) (net : IsNetwork v.nodes v.ends) (here : root < v.nodes) where
   -- 6. A way is taken

@@ -21,13 +21,14 @@ use Rattle.mn_spf_inc.specs.declared.way.Way.{Way}
 use Rattle.mn_spf_inc.specs.Ways.{rank_of, way_over, way_at}
 use Rattle.mn_spf_inc.specs.Nets.{all_up, with_link}
 use Rattle.mn_spf_inc.specs.Mended.{Makes}
-use Rattle.mn_spf_inc.specs.Mending.{State, IsHeld, IsKnown, IsGrowing, IsMended, IsCutting, OneLink, NoneLate, HeldBy, HeldOver, HeldOverEither}
+use Rattle.mn_spf_inc.specs.Mending.{State, IsHeld, IsKnown, IsGrowing, IsMended, IsCutting, OneLink, NoneLate, HeldBy, HeldOver, HeldOverEither, IsPending, IsRelaxed}
 use Rattle.mn_spf_inc.specs.Mending.{IsPassedOver, Queues, Doubts, DoubtsBeyond}
 use Rattle.mn_spf_inc.proofs.Entries.{some_is, none_some, same_parts, known_way, no_way, over_rank, over_dearer, over_more, over_fits}
 use Rattle.mn_spf_inc.proofs.Nets.{goes_other, goes_without, goes_with, up_there}
 use Rattle.mn_spf_inc.proofs.Held.{all_relaxed}
 use Rattle.mn_spf_inc.proofs.Places.{back, goes_back, next_place, no_place, first_place, none_left}
 use Rattle.mn_spf_inc.proofs.Cutting.{eased, doubted, grows}
+use Rattle.mn_spf_inc.proofs.Growing.{held_on}
 
 end_is : (v : Learned) (node l : ℕ) → goes v node l ≡ true → (node ≡ (link (wiring_of v) l).a.0) ⊎ (node ≡ (link (wiring_of v) l).b.0)
 end_is v node l g = elim (or_ways _ _ (goes_at v node l g).at_node) [ inl e ↦ inl (sym (eqb-true _ _ e)) | inr e ↦ inr (sym (eqb-true _ _ e)) ]
@@ -161,32 +162,19 @@ module _ (v : Learned) (root : ℕ) (net : IsNetwork v.nodes v.ends) (here : roo
       ]
 
   pub link_came : IsGrowing (with_link v l true) root (OneLink l) s
-  link_came =
-      record {
-        one_each = m.stands.one_each;
-        root_cost = m.stands.root_cost;
-        root_hop = m.stands.root_hop;
-        formed = m.stands.formed;
-        held = λ n known p q r. (let h = m.stands.held n known p q r in
-            record {
-              from = h.from;
-              l = h.l;
-              near = h.near;
-              there = h.there;
-              goes_on = goes_kept h.from h.l h.goes_on;
-              leads = h.leads;
-              is_known =
-                  h.is_known;
-              no_worse = h.no_worse;
-            });
-        relaxed = λ n k known p g r.
-            elim (goes_with v l there n k g) [
-              | inl e ↦ inl e
-              | inr e ↦ inr (inr (all_relaxed v root net here s m n k known p e r))
-            ];
-        ways = m.stands.ways;
-        bounded = m.stands.bounded;
-      }
+  link_came = assumption (held, relaxed, m.stands)
+    where
+      held : (n known : ℕ) → n < v.nodes → n ≢ root → rank_at s.table n ≡ Some known → IsHeld (with_link v l true) root s.table n known
+      held n known p q r =
+          let h = m.stands.held n known p q r in
+          held_on v (with_link v l true).counts root s.table s.table n known h.near h (goes_kept h.from h.l h.goes_on) h.is_known h.no_worse
+
+      relaxed : (n k known : ℕ) → n < v.nodes → goes (with_link v l true) n k ≡ true → rank_at s.table n ≡ Some known →
+          OneLink l n k ⊎ (IsPending s n ⊎ IsRelaxed (with_link v l true) root s.table n known k)
+      relaxed n k known p g r = elim (goes_with v l there n k g) [
+        | inl e ↦ inl e
+        | inr e ↦ inr (inr (all_relaxed v root net here s m n k known p e r))
+      ]
 
   abbrev down : Learned
   down = with_link v l false
@@ -209,17 +197,8 @@ module _ (v : Learned) (root : ℕ) (net : IsNetwork v.nodes v.ends) (here : roo
               | inl f ↦ inl (inl (from _ f))
               | inr f ↦ inl (inr (from _ f))
             ])
-        | inr e ↦ inr (record {
-          from = h.from;
-          l = h.l;
-          near = h.near;
-          there = h.there;
-          goes_on = goes_other v l false h.from h.l e.1 ∙ h.goes_on;
-          leads =
-              h.leads;
-          is_known = h.is_known;
-          no_worse = h.no_worse;
-        })
+        | inr e ↦ inr
+            (held_on v down.counts root s.table s.table n known h.near h (goes_other v l false h.from h.l e.1 ∙ h.goes_on) h.is_known h.no_worse)
       ]
 
   pub link_lost : IsCutting down root (HeldOverEither down root s.table l (link (wiring_of v) l).a.0 (link (wiring_of v) l).b.0) s

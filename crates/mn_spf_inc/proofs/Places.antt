@@ -3,7 +3,7 @@ use Rattle.std.proofs.Common.{ℕ, ◌≡◌, ◌+◌, ◌*◌, ◌^◌, ◌<◌
 use Rattle.std.proofs.Common.{inr, subst}
 use Rattle.std.specs.Prelude.{◌||◌, if◌then◌else◌, nat_lt, Option, Some, None, All, Contains, MatchOption, IsPermutation}
 use Rattle.std.specs.declared.cmp.Reverse.{Reverse}
-use Rattle.std.proofs.lemmas.Bool.{eqb-true, cases_lt, lt-ltb, ltb-true}
+use Rattle.std.proofs.lemmas.Bool.{eqb-true, lt-ltb, ltb-true}
 use Rattle.std.proofs.lemmas.List.{get_or_default}
 use Rattle.std.proofs.lemmas.List.Elements.{All-tail, All-head, Contains-push_cases}
 use Rattle.std.proofs.lemmas.List.Sorted.{All-permutation, Contains-permutation, length_permutation}
@@ -15,6 +15,7 @@ use Rattle.mn_linkdb.specs.Network.{IsNetwork}
 use Rattle.mn_linkdb.specs.Learned.{Learned, links_up}
 use Rattle.mn_linkdb.specs.PathTable.{IsTable, dist_at, next_at}
 use Rattle.mn_spf.specs.Ways.{wiring_of, goes, beyond, rank_at, AreLinksAt}
+use Rattle.mn_spf.proofs.Steps.{still}
 use Rattle.mn_spf.proofs.Walks.{goes_at, all_true, beyond_below}
 use Rattle.mn_spf_inc.specs.declared.way.Way.{Way}
 use Rattle.mn_spf_inc.specs.Ways.{rank_of, queued, way_over, way_at}
@@ -52,14 +53,6 @@ module _ (v : Learned) where
       (lt-ltb _ _ (goes_at v node l g).there)
 
 -- 2. The places of a list
-still : (at : ℕ) (links : List LinkNo) (i node l : ℕ) → FromPlace at links i node l →
-    FromPlace at links (i + 1) node l ⊎ ((node ≡ at) × (i < length links) × ((get_or links i (record { 0 = l })).0 ≡ l))
-still at links i node l o =
-    elim (cases_lt i o.1) [
-      | inl p ↦ inl (o.0, o.1, omega (arith, p), o.3, o.4)
-      | inr p ↦ (let e : o.1 ≡ i = omega (arith, p, o.2) in inr (o.0, omega (arith, e, o.3), ap (λ k. (get_or links k (record { 0 = l })).0) (sym e) ∙ o.4))
-    ]
-
 -- whatever is answered past the end
 pub place_is : (links : List LinkNo) (i : ℕ) (d e : LinkNo) → i < length links → (get_or links i d).0 ≡ (get_or links i e).0
 place_is links i d e p = ap (λ (n : LinkNo). n.0) (get_or_default links i d e p)
