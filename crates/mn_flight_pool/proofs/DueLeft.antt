@@ -344,14 +344,4 @@ module _ {T : Type 0} where
             further false k = ends h k
 
     pub due_left : IsByDue head rest then ticks_then three
-    due_left = record {
-      ring = ring_then;
-      vacant = vacant_then;
-      sooner = sooner_then;
-      flies = rests;
-      stands = stands;
-      many = many_then;
-      ascending = ticked.ascending;
-      lasts = ticked.lasts;
-      each = ticked.each;
-    }
+    due_left = assumption (ring_then, vacant_then, sooner_then, rests, stands, many_then, ticked)

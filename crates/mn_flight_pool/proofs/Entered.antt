@@ -6,16 +6,18 @@ use Rattle.std.specs.List.{AllByRecursion, IsDistinct, cons_option}
 use Rattle.std.proofs.lemmas.Bool.{eqb-true}
 use Rattle.std.proofs.lemmas.Option.{same_Some}
 use Rattle.std.proofs.lemmas.List.Elements.{filter-append, filter_map-append}
+use Rattle.mn_base.proofs.Bools.{not_both_ways, other_test}
+use Rattle.mn_base.proofs.Places.{all_append}
 use Rattle.mn_flight.specs.declared.Item.{Item}
 use Rattle.mn_flight_pool.specs.Cells.{same_place, value_at}
 use Rattle.mn_flight_pool.specs.Rings.{IsFree, IsRing, item_at, room_at, with_item, prev_of, IsIn}
 use Rattle.mn_flight_pool.specs.Pool.{is_on, items_in, nodes_on, IsLinked, entered}
 use Rattle.mn_flight_pool.specs.declared.node.Pair.TheVariants.{Channel}
 use Rattle.mn_flight_pool.specs.Nodes.{Node}
-use Rattle.mn_flight_pool.proofs.Changed.{same_place_eq}
 use Rattle.mn_flight_pool.proofs.Changed.{same_place_symm, stays}
 use Rattle.mn_flight_pool.proofs.Neighbours.{in_left, in_at, free_left, free_right, free_from, free_at, others_free, distinct_with, distinct_without}
 use Rattle.mn_flight_pool.proofs.Neighbours.{apart_parts, at_places}
+use Rattle.mn_flight_pool.proofs.Sooner.{all_in, all_from}
 use Rattle.mn_flight_pool.proofs.Rings.{ring_back, ring_last, ring_past_item, ring_aside_link, link_stays, item_past_link, item_put, item_else}
 use Rattle.mn_flight_pool.proofs.Rings.{room_past_link, room_past_item}
 
@@ -124,18 +126,11 @@ module _ {T : Type 0} where
       ])
       | inr e ↦ elim j [
         | inl k ↦ subst (λ r. same_place a r ≡ false) (sym k) (same_place_symm a g ∙ head_node g a (in_at heads d g eg) (in_order c a e).1)
-        | inr k ↦ differ a q
+        | inr k ↦ other_test a q
             (λ same. ne
             (one_channel c d (item_at cells a) (in_order c a e).0 (subst (λ r. is_on d (item_at cells r) ≡ true) (sym same) (in_order d q k).0)))
       ]
     ])
-      where
-        differ : (a q : ℕ) → (a ≡ q → ⊥) → same_place a q ≡ false
-        differ a q n = by (same_place a q) refl
-          where
-            by : (b : Bool) → same_place a q ≡ b → same_place a q ≡ false
-            by true t = absurd (n (same_place_eq a q t))
-            by false t = t
 
     pub nodes_then : (c : ℕ) → nodes_on two c (order ++ p ∷ []) ≡ nodes_on cells c order ++ cond (x.channel == c) (p ∷ []) []
     nodes_then c =
@@ -155,30 +150,14 @@ module _ {T : Type 0} where
             (subst (λ n. IsRing Channel one first (nodes_on cells n order)) same (ring_one x.channel first at))
             (subst (λ n. IsFree p (first ∷ nodes_on cells n order)) same (alone_ring x.channel first at)))
         by false t =
-            let ne : x.channel ≡ c → ⊥ = λ same. clash (x.channel == c) (eq-eqb x.channel c same) t in
+            let ne : x.channel ≡ c → ⊥ = λ same. not_both_ways (x.channel == c) (eq-eqb x.channel c same) t in
             let last = ring_last Channel one first (nodes_on cells x.channel order) (ring_one x.channel first at) in
             subst (λ l. IsRing Channel two f l) (sym (append-nil (nodes_on cells c order)))
             (ring_aside_link Channel p (prev_of Channel one first) one f (nodes_on cells c order) (alone_ring c f e)
             (strangers x.channel c first f at e ne (prev_of Channel one first) last.0)
             (subst (λ g. IsFree g (f ∷ nodes_on cells c order)) (sym last.1) (strangers x.channel c first f at e ne first (inl refl))) (ring_one c f e))
-          where
-            clash : (b : Bool) → b ≡ true → b ≡ false → ⊥
-            clash true q r = cc
-            clash false q r = cc
 
     -- 4. All together
-    all_old : (P : ℕ → Type 0) (xs : List ℕ) → ((q : ℕ) → IsIn q xs → P q) → AllByRecursion P xs
-    all_old P [] h = tt
-    all_old P (q ∷ qs) h = (h q (inl refl), all_old P qs (λ r i. h r (inr i)))
-
-    all_at : (P : ℕ → Type 0) (xs : List ℕ) (q : ℕ) → AllByRecursion P xs → IsIn q xs → P q
-    all_at P [] q h i = absurd i
-    all_at P (y ∷ ys) q h i = elim i [ inl e ↦ subst P (sym e) h.0 | inr j ↦ all_at P ys q h.1 j ]
-
-    all_push : (P : ℕ → Type 0) (xs : List ℕ) → AllByRecursion P xs → P p → AllByRecursion P (xs ++ p ∷ [])
-    all_push P [] h k = (k, tt)
-    all_push P (y ∷ ys) h k = (h.0, all_push P ys h.1 k)
-
     all_front : (P : ℕ → Type 0) (xs : List ℕ) → AllByRecursion P (xs ++ p ∷ []) → AllByRecursion P xs
     all_front P [] h = tt
     all_front P (y ∷ ys) h = (h.0, all_front P ys h.1)
@@ -205,11 +184,11 @@ module _ {T : Type 0} where
           subst (λ l. IsDistinct same_place l) moved
           (distinct_with ((head ∷ heads) ++ order) p free (subst (λ l. IsFree p l) split alone) (subst (λ l. IsDistinct same_place l) split rest_apart));
       held =
-          all_push (λ q. IsSome (item_at two q)) order
-          (all_old (λ q. IsSome (item_at two q)) order (λ q i. rw (old_item q i) (all_at (λ r. IsSome (item_at cells r)) order q linked.held i)))
-          (rw new_item refl);
-      there = all_old (λ q. IsSome (value_at q two)) free
-          (λ q i. two_there q (all_at (λ r. IsSome (value_at r cells)) free q (all_front (λ r. IsSome (value_at r cells)) free linked.there) i));
+          all_append (λ q. IsSome (item_at two q)) order (p ∷ [])
+          (all_from (λ q. IsSome (item_at two q)) order (λ q i. rw (old_item q i) (all_in (λ r. IsSome (item_at cells r)) order q linked.held i)))
+          (rw new_item refl, tt);
+      there = all_from (λ q. IsSome (value_at q two)) free
+          (λ q i. two_there q (all_in (λ r. IsSome (value_at r cells)) free q (all_front (λ r. IsSome (value_at r cells)) free linked.there) i));
       head_room = room_two head ∙ linked.head_room;
       order_room = λ q i. room_two q ∙ room_order order linked.order_room q i;
       free_room = λ q i. room_two q ∙ linked.free_room q (in_left free (p ∷ []) q i);

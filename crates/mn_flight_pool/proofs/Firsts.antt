@@ -1,14 +1,14 @@
 -- The first nodes of channels: where they stand, and that each is alone in its ring at first.
-use Rattle.std.proofs.Common.{◌≡◌, ◌<◌, ◌≤◌, ◌+◌, ℕ, zero, suc, true, false, Bool, List, [], ◌∷◌, ◌++◌, length, Some, IsSome, refl, sym, ap, ◌∙◌, subst, arith}
+use Rattle.std.proofs.Common.{◌≡◌, ◌<◌, ◌≤◌, ◌+◌, ℕ, zero, suc, List, [], ◌∷◌, ◌++◌, length, Some, IsSome, refl, sym, ap, ◌∙◌, subst, arith}
 use Rattle.std.specs.Prelude.{slice_get}
 use Rattle.std.specs.List.{IsDistinct}
 use Rattle.std.proofs.lemmas.Option.{same_Some, slice_get_within}
+use Rattle.mn_base.proofs.Bools.{other_test}
 use Rattle.mn_flight_pool.specs.Cells.{same_place, value_at}
 use Rattle.mn_flight_pool.specs.Rings.{IsFree, IsRing, next_in, prev_in}
 use Rattle.mn_flight_pool.specs.Nodes.{numbers, firsts, lone_link, lone_links_at, lone_links, first_node, nodes_of, lone_firsts}
 use Rattle.mn_flight_pool.specs.declared.node.Link.{Link}
 use Rattle.mn_flight_pool.specs.declared.node.Pair.TheVariants.{Channel}
-use Rattle.mn_flight_pool.proofs.Changed.{same_place_eq}
 use Rattle.mn_flight_pool.proofs.Nodes.{many as nodes_many}
 use Rattle.mn_flight_pool.proofs.Neighbours.{distinct_with}
 
@@ -33,20 +33,13 @@ pub first_is : (n c f : ℕ) → slice_get (firsts n) c ≡ Some f → (c < n) �
 first_is n c f e =
     let low : c < n = omega (arith, slice_get_within (firsts n) c f e, firsts_length n) in (low, same_Some f c (sym e ∙ first_at n c low))
 
-apart : (a q : ℕ) → (a ≡ q → ⊥) → same_place a q ≡ false
-apart a q u = by (same_place a q) refl
-  where
-    by : (b : Bool) → same_place a q ≡ b → same_place a q ≡ false
-    by true t = absurd (u (same_place_eq a q t))
-    by false t = t
-
 before : (a from n : ℕ) → a < from → IsFree a (numbers from n)
 before a from zero h = tt
-before a from (suc n) h = (apart a from (λ e. omega (arith, e, h)), before a (suc from) n (omega (arith, h)))
+before a from (suc n) h = (other_test a from (λ e. omega (arith, e, h)), before a (suc from) n (omega (arith, h)))
 
 behind : (a from n : ℕ) → from + n ≤ a → IsFree a (numbers from n)
 behind a from zero h = tt
-behind a from (suc n) h = (apart a from (λ e. omega (arith, e, h)), behind a (suc from) n (omega (arith, h)))
+behind a from (suc n) h = (other_test a from (λ e. omega (arith, e, h)), behind a (suc from) n (omega (arith, h)))
 
 distinct : (from n : ℕ) → IsDistinct same_place (numbers from n)
 unfolding IsDistinct

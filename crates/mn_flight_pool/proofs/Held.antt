@@ -2,6 +2,7 @@
 use Rattle.std.proofs.Common.{◌≡◌, ◌<◌, ℕ, zero, suc, true, false, Bool, List, [], ◌∷◌, ◌++◌, length, Option, Some, None, IsSome, inl, inr, refl, sym}
 use Rattle.std.proofs.Common.{ap, ◌∙◌, subst, append_assoc, append-nil, arith, length-append}
 use Rattle.std.specs.Prelude.{slice_get, slice_index_or, remove}
+use Rattle.mn_base.proofs.Places.{all_append}
 use Rattle.mn_flight.specs.Flying.{without}
 use Rattle.mn_flight.proofs.Taken.{removed, removed_flies}
 use Rattle.mn_flight_pool.proofs.Left.{items_before, items_left}
@@ -18,6 +19,7 @@ use Rattle.mn_flight_pool.specs.Nodes.{Node}
 use Rattle.mn_flight_pool.proofs.Changed.{same_place_eq, value_before, value_last}
 use Rattle.mn_flight_pool.proofs.Changed.{same_place_symm}
 use Rattle.mn_flight_pool.proofs.Neighbours.{free_from, free_both, distinct_with}
+use Rattle.mn_flight_pool.proofs.Sooner.{all_in, all_from}
 use Rattle.mn_flight_pool.proofs.Rings.{ring_same}
 use Rattle.mn_flight_pool.proofs.Entered.{same_items, same_nodes_on}
 
@@ -55,18 +57,6 @@ module _ {T : Type 0} where
     ring_kept pair =
         ring_same old new (λ x h. subst (λ o. IsSome o) (sym (value_kept x h)) h) pair (λ x h. ap (next_in pair) (value_kept x h))
         (λ x h. ap (prev_in pair) (value_kept x h))
-
-    all_in : (P : ℕ → Type 0) (xs : List ℕ) (q : ℕ) → AllByRecursion P xs → IsIn q xs → P q
-    all_in P [] q h i = absurd i
-    all_in P (y ∷ ys) q h i = elim i [ inl e ↦ subst P (sym e) h.0 | inr j ↦ all_in P ys q h.1 j ]
-
-    all_old : (P : ℕ → Type 0) (xs : List ℕ) → ((q : ℕ) → IsIn q xs → P q) → AllByRecursion P xs
-    all_old P [] h = tt
-    all_old P (q ∷ qs) h = (h q (inl refl), all_old P qs (λ r i. h r (inr i)))
-
-    all_push : (P : ℕ → Type 0) (xs : List ℕ) → AllByRecursion P xs → P p → AllByRecursion P (xs ++ p ∷ [])
-    all_push P [] h k = (k, tt)
-    all_push P (y ∷ ys) h k = (h.0, all_push P ys h.1 k)
 
     pub there_p : IsSome (value_at p new)
     there_p = subst (λ o. IsSome o) (sym (value_added p old new added)) refl
@@ -109,12 +99,12 @@ module _ {T : Type 0} where
             subst (λ l. IsDistinct same_place l) whole
             (distinct_with ((head ∷ heads) ++ (order ++ free)) p [] (free_both p ((head ∷ heads) ++ (order ++ free)) [] alone tt)
             (subst (λ l. IsDistinct same_place l) (sym (append-nil ((head ∷ heads) ++ (order ++ free)))) linked.apart));
-        held = all_old (λ q. IsSome (item_at new q)) order
+        held = all_from (λ q. IsSome (item_at new q)) order
             (λ q i. subst (λ o. IsSome o) (sym (item_kept q i)) (all_in (λ r. IsSome (item_at old r)) order q linked.held i));
-        there = all_push (λ q. IsSome (value_at q new)) free
-            (all_old (λ q. IsSome (value_at q new)) free
+        there = all_append (λ q. IsSome (value_at q new)) free (p ∷ [])
+            (all_from (λ q. IsSome (value_at q new)) free
             (λ q i. subst (λ o. IsSome o) (sym (value_kept q (all_in (λ r. IsSome (value_at r old)) free q linked.there i)))
-            (all_in (λ r. IsSome (value_at r old)) free q linked.there i))) there_p;
+            (all_in (λ r. IsSome (value_at r old)) free q linked.there i))) (there_p, tt);
         head_room = room_old head (head_there head heads free order old linked) linked.head_room;
         order_room =
             λ q i. room_old q (order_there head heads free order old linked q i) (linked.order_room q i);

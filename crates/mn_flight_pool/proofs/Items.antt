@@ -1,9 +1,10 @@
 -- The items in nodes, and those of one channel.
 use Rattle.std.proofs.Common.{◌≡◌, ◌<◌, ◌≤◌, ℕ, zero, suc, Bool, true, false, cond, List, [], ◌∷◌, ◌++◌, length, Option, Some, None, IsSome, inl, inr, refl}
 use Rattle.std.proofs.Common.{sym, ap, ◌∙◌, subst, arith}
-use Rattle.std.specs.Prelude.{◌==◌, filter, find, slice_get}
+use Rattle.std.specs.Prelude.{◌==◌, not, filter, find, slice_get}
 use Rattle.std.specs.List.{AllByRecursion, AllPairs, cons_option}
 use Rattle.std.proofs.lemmas.Bool.Decides.{nat_tests}
+use Rattle.std.proofs.lemmas.List.Filters.{length-filter_both}
 use Rattle.std.proofs.lemmas.Option.{same_Some}
 use Rattle.mn_flight.specs.declared.Item.{Item}
 use Rattle.mn_flight.specs.Flying.{IsFlight, on_channel}
@@ -23,12 +24,7 @@ at_cut [] p vs = refl
 at_cut (u ∷ us) p vs = at_cut us p vs
 
 pub fewer_kept : (test : ℕ → Bool) (xs : List ℕ) → length (filter test xs) ≤ length xs
-fewer_kept test [] = omega arith
-fewer_kept test (x ∷ xs) = by (test x) (fewer_kept test xs)
-  where
-    by : (b : Bool) → length (filter test xs) ≤ length xs → length (cond b (x ∷ filter test xs) (filter test xs)) ≤ suc (length xs)
-    by true h = omega (arith, h)
-    by false h = omega (arith, h)
+fewer_kept test xs = omega (arith, length-filter_both test (λ x. not (test x)) (λ x. refl) xs)
 
 module _ {T : Type 0} where
   module _ (cells : List (Node T)) where

@@ -2,19 +2,21 @@
 use Rattle.std.proofs.Common.{◌≡◌, ℕ, true, false, cond, Bool, List, [], ◌∷◌, ◌++◌, Some, None, IsSome, inl, inr, refl, sym, ap, ◌∙◌, subst, append_assoc}
 use Rattle.std.proofs.Common.{append-nil, eq-eqb}
 use Rattle.std.specs.Prelude.{◌==◌, slice_get}
-use Rattle.std.specs.List.{AllByRecursion, IsDistinct, cons_option}
+use Rattle.std.specs.List.{IsDistinct, cons_option}
 use Rattle.std.proofs.lemmas.List.Elements.{filter-append, filter_map-append}
+use Rattle.mn_base.proofs.Bools.{not_both_ways, other_test}
+use Rattle.mn_base.proofs.Places.{all_append}
 use Rattle.mn_flight.specs.declared.Item.{Item}
 use Rattle.mn_flight_pool.specs.Cells.{same_place, value_at}
 use Rattle.mn_flight_pool.specs.Rings.{IsFree, IsRing, item_at, room_at, next_of, prev_of, unlink, IsIn}
 use Rattle.mn_flight_pool.specs.Pool.{is_on, items_in, nodes_on, IsLinked, left}
 use Rattle.mn_flight_pool.specs.declared.node.Pair.TheVariants.{Channel}
 use Rattle.mn_flight_pool.specs.Nodes.{Node}
-use Rattle.mn_flight_pool.proofs.Changed.{same_place_eq}
 use Rattle.mn_flight_pool.proofs.Changed.{same_place_symm, stays}
 use Rattle.mn_flight_pool.proofs.Linked.{order_there}
 use Rattle.mn_flight_pool.proofs.Neighbours.{in_left, in_at, free_left, free_right, free_both, free_from, free_at, others_free, distinct_with}
 use Rattle.mn_flight_pool.proofs.Neighbours.{distinct_without, apart_parts, at_places, all_without}
+use Rattle.mn_flight_pool.proofs.Sooner.{all_in, all_from}
 use Rattle.mn_flight_pool.proofs.Rings.{ring_unlinked, ring_past_item, ring_aside_unlink, ring_sides, unlink_stays, item_past_unlink}
 use Rattle.mn_flight_pool.proofs.Rings.{item_else, room_past_item, room_past_unlink}
 use Rattle.mn_flight_pool.proofs.Entered.{from_filter, one_channel, same_nodes_on, same_items}
@@ -83,17 +85,10 @@ module _ {T : Type 0} (head : ℕ) (heads free us : List ℕ) (p : ℕ) (vs : Li
     ])
     | inr e ↦ elim j [
       | inl k ↦ subst (λ r. same_place a r ≡ false) (sym k) (same_place_symm a g ∙ head_node g a (in_at heads d g eg) (in_order c a e).1)
-      | inr k ↦ differ a q
+      | inr k ↦ other_test a q
           (λ same. ne (one_channel c d (item_at cells a) (in_order c a e).0 (subst (λ r. is_on d (item_at cells r) ≡ true) (sym same) (in_order d q k).0)))
     ]
   ])
-    where
-      differ : (a q : ℕ) → (a ≡ q → ⊥) → same_place a q ≡ false
-      differ a q n = by (same_place a q) refl
-        where
-          by : (b : Bool) → same_place a q ≡ b → same_place a q ≡ false
-          by true t = absurd (n (same_place_eq a q t))
-          by false t = t
 
   pub nodes_before : (c : ℕ) → nodes_on cells c order ≡ nodes_on cells c us ++ cond (x.channel == c) (p ∷ nodes_on cells c vs) (nodes_on cells c vs)
   nodes_before c =
@@ -128,29 +123,13 @@ module _ {T : Type 0} (head : ℕ) (heads free us : List ℕ) (p : ℕ) (vs : Li
           (subst (λ l. IsRing Channel cells f l) (nodes_before c ∙ ap (λ b. nodes_on cells c us ++ cond b (p ∷ nodes_on cells c vs) (nodes_on cells c vs)) t)
           (linked.channel c f e))
       by false t =
-          let ne : x.channel ≡ c → ⊥ = λ same. clash (x.channel == c) (eq-eqb x.channel c same) t in
+          let ne : x.channel ≡ c → ⊥ = λ same. not_both_ways (x.channel == c) (eq-eqb x.channel c same) t in
           let ring =
           ring_aside_unlink Channel p cells f (nodes_on cells c order) (strangers x.channel c first f at e ne (prev_of Channel cells p) sides.0)
           (strangers x.channel c first f at e ne (next_of Channel cells p) sides.1) (linked.channel c f e) in
           subst (λ l. IsRing Channel one f l) (nodes_before c ∙ ap (λ b. nodes_on cells c us ++ cond b (p ∷ nodes_on cells c vs) (nodes_on cells c vs)) t) ring
-        where
-          clash : (b : Bool) → b ≡ true → b ≡ false → ⊥
-          clash true q r = cc
-          clash false q r = cc
 
   -- 4. All together
-  all_old : (P : ℕ → Type 0) (xs : List ℕ) → ((q : ℕ) → IsIn q xs → P q) → AllByRecursion P xs
-  all_old P [] h = tt
-  all_old P (q ∷ qs) h = (h q (inl refl), all_old P qs (λ r i. h r (inr i)))
-
-  all_in : (P : ℕ → Type 0) (xs : List ℕ) (q : ℕ) → AllByRecursion P xs → IsIn q xs → P q
-  all_in P [] q h i = absurd i
-  all_in P (y ∷ ys) q h i = elim i [ inl e ↦ subst P (sym e) h.0 | inr j ↦ all_in P ys q h.1 j ]
-
-  all_push : (P : ℕ → Type 0) (xs : List ℕ) → AllByRecursion P xs → P p → AllByRecursion P (xs ++ p ∷ [])
-  all_push P [] h k = (k, tt)
-  all_push P (y ∷ ys) h k = (h.0, all_push P ys h.1 k)
-
   room_two : (q : ℕ) → room_at two q ≡ room_at cells q
   room_two q = room_past_item p q None one ∙ room_past_unlink Channel p q cells
 
@@ -172,12 +151,12 @@ module _ {T : Type 0} (head : ℕ) (heads free us : List ℕ) (p : ℕ) (vs : Li
         subst (λ l. IsDistinct same_place l) whole
         (distinct_with others p [] (subst (λ l. IsFree p l) (sym (append-nil others)) alone)
         (subst (λ l. IsDistinct same_place l) (sym (append-nil others)) rest_apart));
-    held = all_old (λ q. IsSome (item_at two q)) (us ++ vs)
+    held = all_from (λ q. IsSome (item_at two q)) (us ++ vs)
         (λ q i. rw (old_item q i)
         (all_in (λ r. IsSome (item_at cells r)) (us ++ vs) q (all_without (λ r. IsSome (item_at cells r)) us p vs linked.held) i));
-    there = all_push (λ q. IsSome (value_at q two)) free
-        (all_old (λ q. IsSome (value_at q two)) free (λ q i. two_there q (all_in (λ r. IsSome (value_at r cells)) free q linked.there i)))
-        (two_there p p_there);
+    there = all_append (λ q. IsSome (value_at q two)) free (p ∷ [])
+        (all_from (λ q. IsSome (value_at q two)) free (λ q i. two_there q (all_in (λ r. IsSome (value_at r cells)) free q linked.there i)))
+        (two_there p p_there, tt);
     head_room = room_two head ∙ linked.head_room;
     order_room = λ q i. room_two q ∙ linked.order_room q (order_with us q i);
     free_room = λ q i. room_two q ∙ room_free free linked.free_room q i;

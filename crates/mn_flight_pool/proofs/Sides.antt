@@ -14,18 +14,6 @@ use Rattle.mn_flight_pool.proofs.Rings.{room_past_unlink}
 use Rattle.mn_flight_pool.proofs.Sooner.{all_in, in_middle}
 
 module _ {T : Type 0} where
-  -- a ring's first node, what leads to it, and where that leads
-  pub first_there : (pair : Pair) (cells : List (Node T)) (s : ℕ) (ps : List ℕ) → IsRing pair cells s ps → IsSome (value_at s cells)
-  first_there pair cells s ps ring = ring.there.0
-
-  pub last_there : (pair : Pair) (cells : List (Node T)) (s : ℕ) (ps : List ℕ) → IsRing pair cells s ps →
-      IsSome (value_at (prev_of pair cells s) cells)
-  last_there pair cells s ps ring = all_in (λ q. IsSome (value_at q cells)) (s ∷ ps) (prev_of pair cells s) ring.there (ring_last pair cells s ps ring).0
-
-  pub after_last_there : (pair : Pair) (cells : List (Node T)) (s : ℕ) (ps : List ℕ) → IsRing pair cells s ps →
-      IsSome (value_at (next_of pair cells (prev_of pair cells s)) cells)
-  after_last_there pair cells s ps ring = subst (λ q. IsSome (value_at q cells)) (sym (ring_last pair cells s ps ring).1) ring.there.0
-
   -- a node in a ring, and its neighbours
   pub node_there : (pair : Pair) (cells : List (Node T)) (s : ℕ) (us : List ℕ) (p : ℕ) (vs : List ℕ) → IsRing pair cells s (us ++ p ∷ vs) →
       IsSome (value_at p cells)
@@ -58,9 +46,26 @@ module _ {T : Type 0} where
       next_room = rooms (next_of pair cells p) (ring_sides pair cells s us p vs ring).1
 
   -- as `enter` and `leave` come upon them
-  pub ring_put : (pair : Pair) (p : ℕ) (item : Item T) (old new : List (Node T)) (s : ℕ) (ps : List ℕ) → new ≡ with_item p (Some item) old →
+  ring_put : (pair : Pair) (p : ℕ) (item : Item T) (old new : List (Node T)) (s : ℕ) (ps : List ℕ) → new ≡ with_item p (Some item) old →
       IsRing pair old s ps → IsRing pair new s ps
   ring_put pair p item old new s ps e ring = subst (λ c. IsRing pair c s ps) (sym e) (ring_past_item pair p (Some item) old s ps ring)
+
+  -- then the ring's first node is there, what leads to it, and where that leads
+  pub record AreSides (pair : Pair) (cells : List (Node T)) (s : ℕ) : Type 0 where
+    pub first : IsSome (value_at s cells)
+    pub last : IsSome (value_at (prev_of pair cells s) cells)
+    pub after : IsSome (value_at (next_of pair cells (prev_of pair cells s)) cells)
+
+  pub sides_put : (pair : Pair) (p : ℕ) (item : Item T) (old new : List (Node T)) (s : ℕ) (ps : List ℕ) → new ≡ with_item p (Some item) old →
+      IsRing pair old s ps → AreSides pair new s
+  sides_put pair p item old new s ps e old_ring =
+      let ring = ring_put pair p item old new s ps e old_ring in
+      let last = ring_last pair new s ps ring in
+      record {
+        first = ring.there.0;
+        last = all_in (λ q. IsSome (value_at q new)) (s ∷ ps) (prev_of pair new s) ring.there last.0;
+        after = subst (λ q. IsSome (value_at q new)) (sym last.1) ring.there.0;
+      }
 
   pub put_there : (p : ℕ) (item : Item T) (old new : List (Node T)) → new ≡ with_item p (Some item) old → IsSome (value_at p old) →
       IsSome (value_at p new)

@@ -132,6 +132,10 @@ module _ {T : Type 0} (pool : Pool T) (whole : IsWhole pool) where
   pub has_channel : (c n : ℕ) → n < length (on_channel c (items_of pool)) → c < pool.channels
   has_channel c n h = below c pool.channels (λ b. omega (arith, h, none_on pool.channels c (items_of pool) flight b))
 
+  -- the first node of a channel that has an item there stands in the channel's ring
+  pub in_its_ring : (c n : ℕ) → n < length (on_channel c (items_of pool)) → (s : ℕ) × (order : List ℕ) × IsRing Channel pool.store s order × IsIn c (s ∷ order)
+  in_its_ring c n h = (c, nodes_on pool.store c (order_in pool), channel_ring c (record { index = c }) (has_channel c n h) refl, inl refl)
+
   pub no_channel : (c n : ℕ) → pool.channels ≤ c → slice_get (on_channel c (items_of pool)) n ≡ None
   no_channel c n h = past_end c n (omega (arith, none_on pool.channels c (items_of pool) flight h))
 

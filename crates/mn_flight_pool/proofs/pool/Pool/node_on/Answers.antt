@@ -1,10 +1,10 @@
-use Rattle.std.proofs.Common.{◌<◌, ◌+◌, ◌-◌, length, inl, refl, arith, ap, ◌∙◌, subst}
+use Rattle.std.proofs.Common.{◌<◌, ◌+◌, ◌-◌, length, refl, arith, ap, ◌∙◌, subst}
 use Rattle.mn_flight.specs.Flying.{on_channel}
 use Rattle.mn_flight_pool.specs.Rings.{next_of, prev_of}
-use Rattle.mn_flight_pool.specs.Pool.{nodes_on, steps_of}
-use Rattle.mn_flight_pool.specs.Whole.{order_in, items_of, IsPlaced}
+use Rattle.mn_flight_pool.specs.Pool.{steps_of}
+use Rattle.mn_flight_pool.specs.Whole.{items_of, IsPlaced}
 use Rattle.mn_flight_pool.specs.declared.node.Pair.TheVariants.{Channel}
-use Rattle.mn_flight_pool.proofs.Whole.{placed, channel_ring, forth_placed, back_placed, past_end, has_channel}
+use Rattle.mn_flight_pool.proofs.Whole.{placed, in_its_ring, forth_placed, back_placed, past_end, has_channel}
 use Rattle.mn_flight_pool.proofs.pool.Pool.node_on.Goals as goal
 
 pub returns-then-place-count : goal.returns-then-place-count
@@ -18,14 +18,7 @@ near_finger-requires-clause-channel g c =
 
 pub forth-requires : goal.forth-requires
 forth-requires g c =
-    let there : c.args.place < length (on_channel c.args.channel (items_of c.args.self.now)) =
-    omega (arith, c.if-place-count.false, c.from-place.ensures, c.count_on-count.ensures) in
-    let below = has_channel c.args.self.now c.requires c.args.channel c.args.place there in (
-      c.args.channel,
-      nodes_on c.args.self.now.store c.args.channel (order_in c.args.self.now),
-      channel_ring c.args.self.now c.requires c.args.channel (record { index = c.args.channel }) below refl,
-      inl refl,
-    )
+    in_its_ring c.args.self.now c.requires c.args.channel c.args.place (omega (arith, c.if-place-count.false, c.from-place.ensures, c.count_on-count.ensures))
 
 pub returns-then-place-count-2 : goal.returns-then-place-count-2
 returns-then-place-count-2 g c =
@@ -37,14 +30,7 @@ returns-then-place-count-2 g c =
 
 pub back-requires : goal.back-requires
 back-requires g c =
-    let there : c.args.place < length (on_channel c.args.channel (items_of c.args.self.now)) =
-    omega (arith, c.if-place-count.false, c.from-place.ensures, c.count_on-count.ensures) in
-    let below = has_channel c.args.self.now c.requires c.args.channel c.args.place there in (
-      c.args.channel,
-      nodes_on c.args.self.now.store c.args.channel (order_in c.args.self.now),
-      channel_ring c.args.self.now c.requires c.args.channel (record { index = c.args.channel }) below refl,
-      inl refl,
-    )
+    in_its_ring c.args.self.now c.requires c.args.channel c.args.place (omega (arith, c.if-place-count.false, c.from-place.ensures, c.count_on-count.ensures))
 
 pub returns : goal.returns
 returns g c =
