@@ -1,8 +1,9 @@
 -- Files laid over those of before, and what a begin and an append make of them.
 use Rattle.std.proofs.Common.{◌≡◌, ℕ, ◌+◌, ◌<◌, Bool, true, false, cond, ◌||◌, ◌&&◌, List, [], ◌∷◌, ◌++◌, take, drop, length, Option, Some, refl, sym, ◌∙◌}
 use Rattle.std.proofs.Common.{ap, subst, inl, inr, get_or, zero, suc, String, Vec, string_bytes, arith, append_assoc, if◌then◌else◌}
+use Rattle.std.proofs.lemmas.Bool.{and_parts}
 use Rattle.std.proofs.lemmas.Grind.{flat_map-append}
-use Rattle.std.proofs.lemmas.List.{take-append-drop, append-nil, take_more, get_or-map}
+use Rattle.std.proofs.lemmas.List.{take-append-drop, append-nil, take_more, get_or-map, get_or_read, length-map}
 use Rattle.std.specs.Prelude.{is_some, IsTrue}
 use Rattle.std.specs.declared.alloc.Global.{Global}
 use Rattle.mn_edge.specs.Files.{Files, file, with_file, Grows, MayBegin, MayGrow}
@@ -169,6 +170,13 @@ pub name_at : (names : List (String Global)) (i : ℕ) (s : String Global) (name
     name ≡ get_or (texts names) i name
 name_at names i s name within is text = text ∙ ap string_bytes is ∙ sym (get_or-map string_bytes names i s name within)
 
+-- a file's name stands among the names, at its number
+pub name_there : (names : List (String Global)) (i : ℕ) (s : String Global) (name : List ℕ) → i < length names → s ≡ get_or names i s →
+    name ≡ string_bytes s → (i < length (texts names)) × (name ≡ name_of (texts names) i)
+name_there names i s name within is text =
+    let here : i < length (texts names) = rw length-map within in
+    (here, get_or_read (texts names) i name here (name_at names i s name within is text) [])
+
 pub pair_at : (pieces : List (String Global × Vec ℕ Global)) (i : ℕ) (e : String Global × Vec ℕ Global) (p : List ℕ × List ℕ) → i < length pieces →
     e ≡ get_or pieces i e → p.0 ≡ string_bytes e.0 → p.1 ≡ e.1.items → p ≡ get_or (pairs pieces) i p
 pair_at pieces i e p within is text bytes =
@@ -183,17 +191,9 @@ pieces_there names pieces m now known stands = record {
   there = λ k within. ap is_some (file-laid_there (bytes_for []) names m (name_of (names_of pieces) k) (known_name names pieces k known within));
 }
   where
-    left : (a b : Bool) → (a && b) ≡ true → a ≡ true
-    left true b h = refl
-    left false b h = h
-
-    right : (a b : Bool) → (a && b) ≡ true → b ≡ true
-    right true b h = h
-    right false b h = cc
-
     known_name : (names : List (List ℕ)) (pieces : List (String Global × Vec ℕ Global)) (k : ℕ) → IsTrue (all_known names (pairs pieces)) →
         k < length (names_of pieces) → is_known names (name_of (names_of pieces) k) ≡ true
     known_name names [] k known within = absurd (let h : k < 0 = within in omega (arith, h))
-    known_name names (p ∷ ps) zero known within = left (is_known names (string_bytes p.0)) (all_known names (pairs ps)) known
+    known_name names (p ∷ ps) zero known within = (and_parts (is_known names (string_bytes p.0)) (all_known names (pairs ps)) known).0
     known_name names (p ∷ ps) (suc k) known within =
-        known_name names ps k (right (is_known names (string_bytes p.0)) (all_known names (pairs ps)) known) (let h : suc k < suc (length (names_of ps)) = within in omega (arith, h))
+        known_name names ps k (and_parts (is_known names (string_bytes p.0)) (all_known names (pairs ps)) known).1 (let h : suc k < suc (length (names_of ps)) = within in omega (arith, h))

@@ -1,52 +1,37 @@
-use Rattle.std.proofs.Common.{◌≡◌, ◌<◌, [], length, Result, OnErr, Ok, Err, ap, sym, ◌∙◌}
+use Rattle.std.proofs.Common.{◌≡◌, ◌<◌, [], length, ap, sym, ◌∙◌}
 use Rattle.std.proofs.lemmas.Bool.{eqb-true, eqb-false}
-use Rattle.std.proofs.lemmas.List.{get_or_read, length-map, nil_from_length}
-use Rattle.mn_edge.specs.Kept.{name_of, held_for}
+use Rattle.std.proofs.lemmas.List.{length-map, nil_from_length}
+use Rattle.mn_edge.specs.Kept.{held_for}
 use Rattle.mn_edge.specs.FaultLaws.{counted_out}
 use Rattle.mn_edge.specs.KeptLaws.{framed_both, lacking_at}
 use Rattle.mn_edge.specs.Written.{texts}
-use Rattle.mn_edge.proofs.Laying.{name_at}
+use Rattle.mn_edge.proofs.Laying.{name_there}
 use Rattle.mn_edge.proofs.Gathering.{appended, refused, passed_over, all_appended, framed_append, may_grow, none_for}
+use Rattle.mn_edge.proofs.Results.{on_err}
 use Rattle.mn_edge.proofs.gather.append_held.Goals as goal
 use Rattle.mn_edge.proofs.gather.append_held.Goals.{then-not-is_empty+in_ok-append, else-not-is_empty}
-
-on_err : {T E : Type 0} (r : Result T E) (P : Type 0) → P → OnErr r P
-on_err (Ok x) P p = tt
-on_err (Err e) P p = p
 
 pub returns-in_err-append-clause-part : goal.returns-in_err-append-clause-part
 returns-in_err-append-clause-part g c = on_err c.from_residual.result _ (λ contents holds.
     let names = texts c.args.names.now in
-    let here : c.loop-file.file < length names = rw length-map c.loop-file-test.true in
-    let named : c.as_str.result.now ≡ name_of names c.loop-file.file =
-    get_or_read names c.loop-file.file c.as_str.result.now here
-    (name_at c.args.names.now c.loop-file.file c.index-names-file.result c.as_str.result.now c.loop-file-test.true c.index-names-file.is
-    c.as_str.ensures.value) [] in
-    refused names contents c.args.held.now c.loop-file.file c.as_str.result.now _ _ _ c.requires.differ here named
+    let at = name_there _ _ _ _ c.loop-file-test.true c.index-names-file.is c.as_str.ensures.value in
+    refused names contents c.args.held.now c.loop-file.file c.as_str.result.now _ _ _ c.requires.differ at.0 at.1
     c.bytes-bytes.ensures (c.in_err-append.ensures.refused)
     (c.loop-file.invariant.kept contents holds))
 
 pub returns-in_err-append-clause-framed : goal.returns-in_err-append-clause-framed
 returns-in_err-append-clause-framed g c =
     let names = texts c.args.names.now in
-    let here : c.loop-file.file < length names = rw length-map c.loop-file-test.true in
-    let named : c.as_str.result.now ≡ name_of names c.loop-file.file =
-    get_or_read names c.loop-file.file c.as_str.result.now here
-    (name_at c.args.names.now c.loop-file.file c.index-names-file.result c.as_str.result.now c.loop-file-test.true c.index-names-file.is
-    c.as_str.ensures.value) [] in
+    let at = name_there _ _ _ _ c.loop-file-test.true c.index-names-file.is c.as_str.ensures.value in
     framed_both names _ _ _ c.loop-file.invariant.framed
-    (framed_append names c.loop-file.file c.as_str.result.now _ _ _ here named c.in_err-append.ensures.silent c.in_err-append.ensures.refused)
+    (framed_append names c.loop-file.file c.as_str.result.now _ _ _ at.0 at.1 c.in_err-append.ensures.silent c.in_err-append.ensures.refused)
 
 pub returns-in_err-append-clause-writes : goal.returns-in_err-append-clause-writes
 returns-in_err-append-clause-writes g c =
     let names = texts c.args.names.now in
-    let here : c.loop-file.file < length names = rw length-map c.loop-file-test.true in
-    let named : c.as_str.result.now ≡ name_of names c.loop-file.file =
-    get_or_read names c.loop-file.file c.as_str.result.now here
-    (name_at c.args.names.now c.loop-file.file c.index-names-file.result c.as_str.result.now c.loop-file-test.true c.index-names-file.is
-    c.as_str.ensures.value) [] in
+    let at = name_there _ _ _ _ c.loop-file-test.true c.index-names-file.is c.as_str.ensures.value in
     counted_out _ _ _ _ _ _ _ c.from_residual.ensures c.loop-file.invariant.writes
-    (lacking_at names c.loop-file.file c.as_str.result.now _ _ here named c.loop-file.invariant.framed.stays)
+    (lacking_at names c.loop-file.file c.as_str.result.now _ _ at.0 at.1 c.loop-file.invariant.framed.stays)
     c.in_err-append.ensures.writes
 
 pub loop-file-preserved : goal.loop-file-preserved
@@ -54,21 +39,17 @@ loop-file-preserved g c =
     let names = texts c.args.names.now in
     let held = c.args.held.now in
     let i = c.loop-file.invariant in
-    let here : c.loop-file.file < length names = rw length-map c.loop-file-test.true in
     elim c.if-not-is_empty.branch [
       | then-not-is_empty+in_ok-append w ↦
-          let named : w.as_str.result.now ≡ name_of names c.loop-file.file =
-          get_or_read names c.loop-file.file w.as_str.result.now here
-          (name_at c.args.names.now c.loop-file.file c.index-names-file.result w.as_str.result.now c.loop-file-test.true c.index-names-file.is
-          w.as_str.ensures.value) [] in
+          let at = name_there _ _ _ _ c.loop-file-test.true c.index-names-file.is w.as_str.ensures.value in
           record {
             kept = λ contents holds. rw w.shelf-is
-                (appended names contents held c.loop-file.file w.as_str.result.now _ _ _ c.requires.differ here named
+                (appended names contents held c.loop-file.file w.as_str.result.now _ _ _ c.requires.differ at.0 at.1
                 c.bytes-bytes.ensures w.in_ok-append.ensures.grown
                 (i.kept contents holds));
             framed = rw w.shelf-is
                 (framed_both names _ _ _ i.framed
-                (framed_append names c.loop-file.file w.as_str.result.now _ _ _ here named w.in_ok-append.ensures.silent
+                (framed_append names c.loop-file.file w.as_str.result.now _ _ _ at.0 at.1 w.in_ok-append.ensures.silent
                 (λ m is. may_grow m w.as_str.result.now _ _ (w.in_ok-append.ensures.grown m is))));
             untouched = λ none.
                 let h : c.loop-file.file < length held = rw (← c.requires.names) c.loop-file-test.true in

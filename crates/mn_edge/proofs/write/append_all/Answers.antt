@@ -1,4 +1,4 @@
-use Rattle.std.proofs.Common.{ℕ, List, [], ◌∷◌, ◌++◌, Result, Ok, Err, OnErr, Some, sym, ◌∙◌, ap, subst, take, drop, ◌<◌, length, append_assoc, ◌+◌, refl, ◌≡◌, get_or, String, Vec, string_bytes}
+use Rattle.std.proofs.Common.{ℕ, List, [], ◌∷◌, ◌++◌, Some, sym, ◌∙◌, ap, subst, take, drop, ◌<◌, length, append_assoc, ◌+◌, refl, ◌≡◌, get_or, String, Vec, string_bytes}
 use Rattle.std.proofs.Common.{rules}
 use Rattle.std.proofs.lemmas.List.{take_all, length-map, take_more, take-append-drop, append-nil, get_or-map}
 use Rattle.std.specs.declared.alloc.Global.{Global}
@@ -8,11 +8,8 @@ use Rattle.mn_edge.specs.KeptLaws.{lacking_at, there_grown}
 use Rattle.mn_edge.specs.Memory.{names_of}
 use Rattle.mn_edge.specs.Written.{laid, written, pairs, PartWritten}
 use Rattle.mn_edge.proofs.Laying.{step_whole, step_part, part_more, known_of, pair_at}
+use Rattle.mn_edge.proofs.Results.{on_err}
 use Rattle.mn_edge.proofs.write.append_all.Goals as goal
-
-on_err : {T E : Type 0} (r : Result T E) (P : Type 0) → P → OnErr r P
-on_err (Ok x) P p = tt
-on_err (Err e) P p = p
 
 -- the name of the piece at a place
 name_in : (pieces : List (String Global × Vec ℕ Global)) (i : ℕ) (piece : String Global × Vec ℕ Global) (name : List ℕ) → i < length pieces →

@@ -1,12 +1,9 @@
-use Rattle.std.proofs.Common.{◌<◌, [], length, Result, Ok, Err, OnErr, ◌∙◌, subst}
+use Rattle.std.proofs.Common.{◌<◌, [], length, ◌∙◌, subst}
 use Rattle.std.proofs.lemmas.List.{take_all, length-map}
 use Rattle.mn_edge.specs.Written.{Stands, texts}
 use Rattle.mn_edge.proofs.Laying.{begun, name_at, few_begun}
+use Rattle.mn_edge.proofs.Results.{on_err}
 use Rattle.mn_edge.proofs.write.begin_all.Goals as goal
-
-on_err : {T E : Type 0} (r : Result T E) (P : Type 0) → P → OnErr r P
-on_err (Ok x) P p = tt
-on_err (Err e) P p = p
 
 pub returns-in_err-begin-clause-part : goal.returns-in_err-begin-clause-part
 returns-in_err-begin-clause-part g c = on_err c.from_residual.result _ (λ m is.

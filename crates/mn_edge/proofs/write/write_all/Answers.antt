@@ -1,7 +1,8 @@
-use Rattle.std.proofs.Common.{◌≡◌, ℕ, [], List, Option, None, Some, Result, Ok, Err, OnOk, OnErr, String, Vec, IsTrue, subst}
+use Rattle.std.proofs.Common.{◌≡◌, ℕ, [], List, Option, None, Result, String, Vec, IsTrue, subst}
 use Rattle.std.specs.Prelude.{IsSome}
 use Rattle.std.specs.Option.{ForSome}
 use Rattle.std.specs.declared.alloc.Global.{Global}
+use Rattle.std.proofs.lemmas.Result.{on_ok_weaker, on_err_weaker}
 use Rattle.mn_edge.specs.declared.device.DeviceBad.{DeviceBad}
 use Rattle.mn_edge.specs.Faults.{Counted, CountedUnless}
 use Rattle.mn_edge.specs.FaultLaws.{counted_told}
@@ -11,11 +12,8 @@ use Rattle.mn_edge.specs.Memory.{names_of}
 use Rattle.mn_edge.specs.Laid.{begun_part, names-each}
 use Rattle.mn_edge.specs.Written.{Stands, all_known, texts, pairs, written, bytes_for}
 use Rattle.mn_edge.proofs.Laying.{pieces_there}
+use Rattle.mn_edge.proofs.Results.{on_err}
 use Rattle.mn_edge.proofs.write.write_all.Goals as goal
-
-on_err : {T E : Type 0} (r : Result T E) (P : Type 0) → P → OnErr r P
-on_err (Ok x) P p = tt
-on_err (Err e) P p = p
 
 -- pieces of files that were just begun are appended to files that are there
 begun_counted : (old now : Option Files) (names : List (List ℕ)) (pieces : List (String Global × Vec ℕ Global)) (first before after : Option ℕ)
@@ -31,21 +29,13 @@ returns-in_err-begin_all-clause-part g c = on_err c.from_residual.result _ (λ m
     begun_part (texts c.args.names.now) (written (texts c.args.names.now) (pairs c.args.pieces.now)) m _ few.0
     (names-each (texts c.args.names.now) (bytes_for (pairs c.args.pieces.now))) few.1)
 
-ok_then : {T E : Type 0} (r : Result T E) (P Q : Type 0) → OnOk r P → (P → Q) → OnOk r Q
-ok_then (Ok x) P Q p f = f p
-ok_then (Err e) P Q p f = tt
-
-err_then : {T E : Type 0} (r : Result T E) (P Q : Type 0) → OnErr r P → (P → Q) → OnErr r Q
-err_then (Ok x) P Q p f = tt
-err_then (Err e) P Q p f = f p
-
 pub returns-clause-whole : goal.returns-clause-whole
-returns-clause-whole g c = ok_then c.append_all.result _ _ c.append_all.ensures.whole (λ whole m is.
-    whole m (texts c.args.names.now) [] (c.in_ok-begin_all.ensures.begun m is) c.requires)
+returns-clause-whole g c = on_ok_weaker c.append_all.result (λ whole m is.
+    whole m (texts c.args.names.now) [] (c.in_ok-begin_all.ensures.begun m is) c.requires) c.append_all.ensures.whole
 
 pub returns-clause-part : goal.returns-clause-part
-returns-clause-part g c = err_then c.append_all.result _ _ c.append_all.ensures.part (λ part m is.
-    part m (texts c.args.names.now) [] (c.in_ok-begin_all.ensures.begun m is) c.requires)
+returns-clause-part g c = on_err_weaker c.append_all.result (λ part m is.
+    part m (texts c.args.names.now) [] (c.in_ok-begin_all.ensures.begun m is) c.requires) c.append_all.ensures.part
 
 pub returns-clause-writes : goal.returns-clause-writes
 returns-clause-writes g c =

@@ -1,27 +1,13 @@
-use Rattle.std.proofs.Common.{◌≡◌, ◌<◌, ◌≤◌, ◌+◌, [], ◌++◌, length, refl, Result, OnOk, OnErr, Ok, Err, ap, sym, ◌∙◌, subst, arith, append_assoc}
+use Rattle.std.proofs.Common.{◌≡◌, ◌<◌, ◌≤◌, ◌+◌, [], ◌++◌, length, refl, ap, sym, ◌∙◌, subst, arith, append_assoc}
 use Rattle.std.proofs.lemmas.List.{take-append-drop}
-use Rattle.mn_edge.specs.Kept.{held_bytes, most_held, HoldsOn, BeginsOn, grown}
+use Rattle.std.proofs.lemmas.Result.{on_ok_weaker, on_err_weaker}
+use Rattle.mn_edge.specs.Kept.{held_bytes, most_held, with_piece, HoldsOn, BeginsOn, grown}
 use Rattle.mn_edge.specs.FaultLaws.{counted_out, counted_alone, counted_alone_out}
 use Rattle.mn_edge.specs.KeptLaws.{framed_both, framed_same, begins_on}
 use Rattle.mn_edge.specs.Written.{texts}
 use Rattle.mn_edge.proofs.Gathering.{more_held, room_some, bytes_more, files_same, none_held-files, none_held-bytes, none_held-same, grown_twice, grown_none, grown_part}
+use Rattle.mn_edge.proofs.Results.{on_err, either}
 use Rattle.mn_edge.proofs.gather.Gather.put.Goals as goal
-
-on_err : {T E : Type 0} (r : Result T E) (P : Type 0) → P → OnErr r P
-on_err (Ok x) P p = tt
-on_err (Err e) P p = p
-
-ok_then : {T E : Type 0} (r : Result T E) (P Q : Type 0) → OnOk r P → (P → Q) → OnOk r Q
-ok_then (Ok x) P Q p f = f p
-ok_then (Err e) P Q p f = tt
-
-err_then : {T E : Type 0} (r : Result T E) (P Q : Type 0) → OnErr r P → (P → Q) → OnErr r Q
-err_then (Ok x) P Q p f = tt
-err_then (Err e) P Q p f = f p
-
-either : {T E : Type 0} (r : Result T E) (P Q R : Type 0) → OnOk r P → OnErr r Q → (P → R) → (Q → R) → R
-either (Ok x) P Q R p q f h = f p
-either (Err e) P Q R p q f h = h q
 
 pub loop-rest-init : goal.loop-rest-init
 loop-rest-init g c = record {
@@ -128,12 +114,12 @@ loop-rest-preserved g c =
     }
 
 pub returns-clause-grown : goal.returns-clause-grown
-returns-clause-grown g c = ok_then c.hold-2.result _ _ c.hold-2.ensures.ok (λ ok contents holds.
+returns-clause-grown g c = on_ok_weaker c.hold-2.result (λ (ok : c.hold-2.new.self ≡ with_piece c.loop-rest.self c.args.file c.loop-rest.rest.now) contents holds.
     let i = c.loop-rest.invariant in
     let names = texts c.args.names.now in
     let here : c.args.file < length c.loop-rest.self = rw i.files c.requires.file in
     rw (ok, ← i.piece, ← grown_twice contents c.args.file i.done c.loop-rest.rest.now)
-    (more_held names (grown contents c.args.file i.done) c.loop-rest.self c.args.file c.loop-rest.rest.now _ here (i.kept contents holds)))
+    (more_held names (grown contents c.args.file i.done) c.loop-rest.self c.args.file c.loop-rest.rest.now _ here (i.kept contents holds))) c.hold-2.ensures.ok
 
 pub returns-clause-part : goal.returns-clause-part
 returns-clause-part g c = on_err c.hold-2.result _ (λ contents holds.
@@ -152,4 +138,4 @@ returns-clause-room g c =
     (λ err. let none = ap held_bytes err ∙ none_held-bytes c.loop-rest.self in omega (arith, none))
 
 pub returns-clause-dropped : goal.returns-clause-dropped
-returns-clause-dropped g c = err_then c.hold-2.result _ _ c.hold-2.ensures.err (λ err. err ∙ none_held-same _ _ c.loop-rest.invariant.files)
+returns-clause-dropped g c = on_err_weaker c.hold-2.result (λ err. err ∙ none_held-same _ _ c.loop-rest.invariant.files) c.hold-2.ensures.err

@@ -1,13 +1,10 @@
-use Rattle.std.proofs.Common.{◌≡◌, ◌<◌, ◌≤◌, ◌++◌, ℕ, List, [], length, map, slice_set, true, false, refl, ap, sym, ◌∙◌, arith, length-append, Option, Some, None, Result, Ok, Err, IfOk, OnErr}
+use Rattle.std.proofs.Common.{◌≡◌, ◌<◌, ◌≤◌, ◌++◌, ℕ, List, [], length, map, slice_set, true, false, refl, ap, sym, ◌∙◌, arith, length-append, Option, Some, None, Result, Ok, Err, IfOk}
 use Rattle.std.specs.Prelude.{IfSome, is_err}
 use Rattle.std.proofs.lemmas.List.{append-nil, length-map, length-set}
 use Rattle.mn_edge.specs.Kept.{held_bytes, most_held, with_piece}
 use Rattle.mn_edge.proofs.Gathering.{pushed, with_none, bytes_more, none_held-bytes, none_held-same}
+use Rattle.mn_edge.proofs.Results.{on_err}
 use Rattle.mn_edge.proofs.held.Held.push.Goals as goal
-
-on_err : {T E : Type 0} (r : Result T E) (P : Type 0) → P → OnErr r P
-on_err (Ok x) P p = tt
-on_err (Err e) P p = p
 
 none_then : {T E : Type 0} (r : Result (Option T) E) (P Q : Type 0) → IfOk r (λ back. back ≡ None → P) → (P → Q) → IfOk r (λ back. back ≡ None → Q)
 none_then (Ok o) P Q p f = λ e. f (p e)

@@ -1,14 +1,11 @@
-use Rattle.std.proofs.Common.{◌≡◌, ap, sym, ◌∙◌, refl, ◌++◌, None, Result, Ok, Err, OnErr}
+use Rattle.std.proofs.Common.{◌≡◌, ap, sym, ◌∙◌, refl, ◌++◌, None}
 use Rattle.mn_edge.specs.Files.{file}
 use Rattle.mn_edge.specs.Memory.{extended, files_of}
 use Rattle.mn_edge.specs.Place.{IsAt, bytes_at}
 use Rattle.mn_edge.specs.Written.{pairs}
 use Rattle.mn_edge.proofs.Entries.{files_of-at, files_of-set, file-missing, with_file-same, extended-there, extended-missing}
+use Rattle.mn_edge.proofs.Results.{on_err}
 use Rattle.mn_edge.proofs.named.NamedFiles.extend.Goals as goal
-
-on_err : {T E : Type 0} (r : Result T E) (P : Type 0) → P → OnErr r P
-on_err (Ok x) P p = tt
-on_err (Err e) P p = p
 
 pub returns-in_err-extend_from_slice-clause-err : goal.returns-in_err-extend_from_slice-clause-err
 returns-in_err-extend_from_slice-clause-err c = on_err c.from_residual.result _ (
