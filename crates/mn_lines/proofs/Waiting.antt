@@ -1,5 +1,5 @@
 -- A page of text: what waits, and what a sink takes of it.
-use Rattle.std.proofs.Common.{◌≡◌, ℕ, List, [], ◌++◌, take, drop, Option, Some, Result, Ok, Err, OnOk, OnErr, sym, ap, ◌∙◌, append_assoc, append-nil}
+use Rattle.std.proofs.Common.{◌≡◌, ℕ, List, [], ◌++◌, take, drop, Option, Some, Result, Ok, Err, OnErr, sym, ap, ◌∙◌, append_assoc, append-nil}
 use Rattle.std.proofs.lemmas.List.{take-append-drop}
 use Rattle.std.specs.Option.{ForSome}
 use Rattle.mn_lines.specs.Putting.{Puts, PutsPart}
@@ -27,14 +27,6 @@ some_put text waits piece written now is put = λ before so_far on.
       ),
       some.1 ∙ ap Some (append_assoc before on.part (take some.0 piece)),
     )
-
-pub ok_then : {T E : Type 0} (r : Result T E) (P Q : Type 0) → OnOk r P → (P → Q) → OnOk r Q
-ok_then (Ok x) P Q p f = f p
-ok_then (Err e) P Q p f = tt
-
-pub err_then : {T E : Type 0} (r : Result T E) (P Q : Type 0) → OnErr r P → (P → Q) → OnErr r Q
-err_then (Ok x) P Q p f = tt
-err_then (Err e) P Q p f = f p
 
 pub on_err : {T E : Type 0} (r : Result T E) (P : Type 0) → P → OnErr r P
 on_err (Ok x) P p = tt
