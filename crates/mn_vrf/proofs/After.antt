@@ -1,7 +1,7 @@
 -- The prefix after a held one.
 use Rattle.std.proofs.Common.{ℕ, zero, suc, ◌≡◌, ◌+◌, Bool, true, false, cond, List, [], ◌∷◌, filter, Option, Some, None, refl, arith, sym, ◌∙◌, ap, subst}
 use Rattle.std.specs.Prelude.{◌&&◌, not, slice_get}
-use Rattle.std.specs.Option.{option_map}
+use Rattle.std.specs.Option.{option_map, unwrap_or}
 use Rattle.std.specs.Ordering.{is_lt}
 use Rattle.std.specs.List.{AllByRecursion}
 use Rattle.std.proofs.lemmas.Bool.Decides.{nat_tests}
@@ -11,8 +11,8 @@ use Rattle.mn_prefix.specs.Prefix.{AddressBlock, by_address_then_length, prefix_
 use Rattle.mn_vrf.specs.declared.source.Source.{Source}
 use Rattle.mn_vrf.specs.Vrf.{heads, IsHeldAt}
 use Rattle.mn_vrf.specs.Kept.{those, in_order, IsKept}
-use Rattle.mn_prefix.specs.Table.{first_of}
-use Rattle.mn_vrf.proofs.Finding.{head_none, head_some}
+use Rattle.mn_prefix.specs.Table.{first_of, value_at}
+use Rattle.mn_vrf.proofs.Finding.{head_none, head_some, shown_none, shown_some}
 
 later : (p q : AddressBlock) → prefix_before p q ≡ true → is_lt (by_address_then_length p q) ≡ true
 later p q h = grind (arith, nat_tests, h)
@@ -50,8 +50,11 @@ first_after (q ∷ ks) (suc k) p up e =
     ∙ first_after ks k p up.1 e
 
 -- the held one at a place is of the prefix there
-module _ (table : List (AddressBlock × List Source)) (ks : List AddressBlock) (kept : IsKept table ks) (k : ℕ) (last : AddressBlock)
-    (is : IsHeldAt last (slice_get (heads (in_order table ks)) k)) where
+module _ (table : List (AddressBlock × List Source)) (ks : List AddressBlock) (kept : IsKept table ks) (routes : List (AddressBlock × Source))
+    (shown : in_order table ks ≡ routes) (k : ℕ) (last : AddressBlock) (is : IsHeldAt last (slice_get (heads routes) k)) where
+  here : IsHeldAt last (slice_get (heads (in_order table ks)) k)
+  here = subst (λ rs. IsHeldAt last (slice_get (heads rs) k)) (sym shown) is
+
   place : slice_get ks k ≡ Some last
   place = by (slice_get ks k) refl
     where
@@ -60,14 +63,23 @@ module _ (table : List (AddressBlock × List Source)) (ks : List AddressBlock) (
       named p (Some s) e = same_Some p last e
 
       by : (o : Option AddressBlock) → slice_get ks k ≡ o → slice_get ks k ≡ Some last
-      by None e = absurd (clash (sym (ap (option_map (λ (r : AddressBlock × Source). r.0)) (head_none table ks k kept e)) ∙ is))
+      by None e = absurd (clash (sym (ap (option_map (λ (r : AddressBlock × Source). r.0)) (head_none table ks k kept e)) ∙ here))
         where
           clash : (let o : Option AddressBlock = None in o) ≡ Some last → ⊥
           clash h = cc
       by (Some p) e =
           e ∙ ap (λ q. let o : Option AddressBlock = Some q in o)
-          (named p (first_of (those p table)) (sym (ap (option_map (λ (r : AddressBlock × Source). r.0)) (head_some table ks k p kept e)) ∙ is))
+          (named p (first_of (those p table)) (sym (ap (option_map (λ (r : AddressBlock × Source). r.0)) (head_some table ks k p kept e)) ∙ here))
 
-  pub after_is : (rest : List AddressBlock) → rest ≡ filter (is_after last) ks → slice_get ks (k + 1) ≡ slice_get rest 0
-  after_is rest e =
-      ap (slice_get ks) (let one : k + 1 ≡ suc k = omega arith in one) ∙ sym (first_after ks k last kept.ascend place) ∙ ap (λ l. slice_get l 0) (sym e)
+  module _ (rest : List AddressBlock) (rest_is : rest ≡ filter (is_after last) ks) where
+    next : slice_get ks (k + 1) ≡ slice_get rest 0
+    next =
+        ap (slice_get ks) (let one : k + 1 ≡ suc k = omega arith in one) ∙ sym (first_after ks k last kept.ascend place)
+        ∙ ap (λ l. slice_get l 0) (sym rest_is)
+
+    pub none_after : slice_get rest 0 ≡ None → None ≡ slice_get (heads routes) (k + 1)
+    none_after e = shown_none table ks routes (k + 1) kept shown (next ∙ e)
+
+    pub some_after : (p : AddressBlock) (found : Option (List Source)) → slice_get rest 0 ≡ Some p → found ≡ value_at p table →
+        option_map (λ (s : Source). (p, s)) (first_of (unwrap_or found [])) ≡ slice_get (heads routes) (k + 1)
+    some_after p found e found_is = shown_some table ks routes (k + 1) p found kept shown (next ∙ e) found_is

@@ -273,6 +273,17 @@ pub head_some : (table : Table) (ks : List AddressBlock) (k : ℕ) (p : AddressB
     slice_get (heads (in_order table ks)) k ≡ option_map (λ s. (p, s)) (first_of (those p table))
 head_some table ks k p kept h = ap (λ rs. slice_get rs k) (heads_are table ks kept) ∙ top_some table ks k p (filled_from table ks ks kept (λ k i. i)) h
 
+-- and of the routes that are shown
+module _ (table : Table) (ks : List AddressBlock) (routes : List (AddressBlock × Source)) (k : ℕ) where
+  pub shown_none : IsKept table ks → in_order table ks ≡ routes → slice_get ks k ≡ None → None ≡ slice_get (heads routes) k
+  shown_none kept shown h = sym (head_none table ks k kept h) ∙ ap (λ rs. slice_get (heads rs) k) shown
+
+  pub shown_some : (p : AddressBlock) (found : Option (List Source)) → IsKept table ks → in_order table ks ≡ routes → slice_get ks k ≡ Some p →
+      found ≡ value_at p table → option_map (λ (s : Source). (p, s)) (first_of (unwrap_or found [])) ≡ slice_get (heads routes) k
+  shown_some p found kept shown h found_is =
+      ap (λ o. option_map (λ (s : Source). (p, s)) (first_of (unwrap_or o []))) found_is ∙ sym (head_some table ks k p kept h)
+      ∙ ap (λ rs. slice_get (heads rs) k) shown
+
 -- 4. The longest match
 -- a later route of a prefix is never chosen
 chosen_again : (address : ℕ) (best : Option (AddressBlock × Source)) (k : AddressBlock) (s t : Source) →

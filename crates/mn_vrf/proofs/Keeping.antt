@@ -150,23 +150,24 @@ module _ (old new : List (AddressBlock × List Source)) (ks js : List AddressBlo
   same_apart : (r : Source) → (source_before r s || source_before s r) ≡ (route_before (p, r) (p, s) || route_before (p, s) (p, r))
   same_apart r = ap (λ b. b || source_before s r) (sym (of_one p r s)) ∙ ap (λ b. route_before (p, r) (p, s) || b) (sym (of_one p s r))
 
+  -- so is one of this prefix whose source stands apart and is there still
+  onward : ((r : Source) → In (those p old) r → (source_before r s || source_before s r) ≡ true → In (those p new) r) → (z : AddressBlock × Source) →
+      In (in_order old ks) z → (route_before z (p, s) || route_before (p, s) z) ≡ true → (same_prefix p z.0 ≡ true) ⊎ (same_prefix p z.0 ≡ false) →
+      In (in_order new js) z
+  onward stays z i apart (inr other) = other_stays z.0 z.1 other i
+  onward stays z i apart (inl same) =
+      let here : p ≡ z.0 = same_exact p z.0 same in
+      subst (λ q. In (in_order new js) (q, z.1)) here
+      (view_in new js p z.1 is (stays z.1 (subst (λ q. In (those q old) z.1) (sym here) (in_view old ks z i).1)
+      (same_apart z.1 ∙ subst (λ q. (route_before (q, z.1) (p, s) || route_before (p, s) (q, z.1)) ≡ true) (sym here) apart)))
+
   pub with_source : those p new ≡ with_one source_before s (those p old) → in_order new js ≡ with_one route_before (p, s) (in_order old ks)
   with_source h =
       with_is route_before route_order (p, s) (in_order old ks) (in_order new js) (view_ascends old ks was) (view_ascends new js is)
       (view_in new js p s is (subst (λ ss. In ss s) (sym h) (in_with_new source_before s (those p old))))
-      (λ z i apart. onward z i apart (same_now z.0))
+      (λ z i apart. onward (λ r j away. subst (λ ss. In ss r) (sym h) (in_with source_before s (those p old) r j away)) z i apart (same_now z.0))
       (λ z i. back z i (same_now z.0))
     where
-      onward : (z : AddressBlock × Source) → In (in_order old ks) z → (route_before z (p, s) || route_before (p, s) z) ≡ true →
-          (same_prefix p z.0 ≡ true) ⊎ (same_prefix p z.0 ≡ false) → In (in_order new js) z
-      onward z i apart (inr other) = other_stays z.0 z.1 other i
-      onward z i apart (inl same) =
-          let here : p ≡ z.0 = same_exact p z.0 same in
-          subst (λ q. In (in_order new js) (q, z.1)) here
-          (view_in new js p z.1 is (subst (λ ss. In ss z.1) (sym h)
-          (in_with source_before s (those p old) z.1 (subst (λ q. In (those q old) z.1) (sym here) (in_view old ks z i).1)
-          (same_apart z.1 ∙ subst (λ q. (route_before (q, z.1) (p, s) || route_before (p, s) (q, z.1)) ≡ true) (sym here) apart))))
-
       back : (z : AddressBlock × Source) → In (in_order new js) z → (same_prefix p z.0 ≡ true) ⊎ (same_prefix p z.0 ≡ false) →
           ((p, s) ≡ z) ⊎ (In (in_order old ks) z × ((route_before z (p, s) || route_before (p, s) z) ≡ true))
       back z i (inr other) = inr (other_was z.0 z.1 other i)
@@ -181,19 +182,10 @@ module _ (old new : List (AddressBlock × List Source)) (ks js : List AddressBlo
   pub without_source : those p new ≡ without_one source_before s (those p old) → in_order new js ≡ without_one route_before (p, s) (in_order old ks)
   without_source h =
       without_is route_before route_order (p, s) (in_order old ks) (in_order new js) (view_ascends old ks was) (view_ascends new js is)
-      (λ z i apart. onward z i apart (same_now z.0))
+      (λ z i apart. onward (λ r j away. subst (λ ss. In ss r) (sym h)
+      (filter_in (λ x. source_before x s || source_before s x) (those p old) r j away)) z i apart (same_now z.0))
       (λ z i. back z i (same_now z.0))
     where
-      onward : (z : AddressBlock × Source) → In (in_order old ks) z → (route_before z (p, s) || route_before (p, s) z) ≡ true →
-          (same_prefix p z.0 ≡ true) ⊎ (same_prefix p z.0 ≡ false) → In (in_order new js) z
-      onward z i apart (inr other) = other_stays z.0 z.1 other i
-      onward z i apart (inl same) =
-          let here : p ≡ z.0 = same_exact p z.0 same in
-          subst (λ q. In (in_order new js) (q, z.1)) here
-          (view_in new js p z.1 is (subst (λ ss. In ss z.1) (sym h)
-          (filter_in (λ r. source_before r s || source_before s r) (those p old) z.1 (subst (λ q. In (those q old) z.1) (sym here) (in_view old ks z i).1)
-          (same_apart z.1 ∙ subst (λ q. (route_before (q, z.1) (p, s) || route_before (p, s) (q, z.1)) ≡ true) (sym here) apart))))
-
       back : (z : AddressBlock × Source) → In (in_order new js) z →
           (same_prefix p z.0 ≡ true) ⊎ (same_prefix p z.0 ≡ false) → In (in_order old ks) z × ((route_before z (p, s) || route_before (p, s) z) ≡ true)
       back z i (inr other) = other_was z.0 z.1 other i

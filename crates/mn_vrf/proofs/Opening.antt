@@ -1,7 +1,7 @@
 -- The first open route of the longest prefix that has one is the longest match among the open routes.
 use Rattle.std.proofs.Common.{ℕ, ◌≡◌, ◌≢◌, ◌≤◌, ◌<◌, ◌⊎◌, inl, inr, Bool, true, false, cond, List, [], ◌∷◌, ◌++◌, map, filter, length, Option, Some, None}
 use Rattle.std.proofs.Common.{refl, arith, sym, ◌∙◌, ap, subst}
-use Rattle.std.specs.Prelude.{◌||◌, ◌&&◌, fold, if◌then◌else◌}
+use Rattle.std.specs.Prelude.{◌||◌, fold}
 use Rattle.std.specs.Option.{is_some, unwrap_or, option_map}
 use Rattle.std.specs.List.{AllByRecursion, list_any, flat_map, IsDistinct}
 use Rattle.std.specs.Map.{keys_of}
@@ -10,9 +10,9 @@ use Rattle.std.proofs.lemmas.List.Sums.{fold-append}
 use Rattle.mn_base.specs.Ordered.{Ascends}
 use Rattle.mn_base.proofs.Bools.{no, two_ways, or_off}
 use Rattle.mn_base.proofs.Members.{In}
-use Rattle.mn_prefix.specs.Prefix.{AddressBlock, IsPrefix, same_prefix, prefix_before, contains}
+use Rattle.mn_prefix.specs.Prefix.{AddressBlock, IsPrefix, same_prefix, prefix_before}
 use Rattle.mn_prefix.specs.Table.{IsTable, value_at, first_of, longest_match}
-use Rattle.mn_prefix.proofs.Tables.{same_is, same_exact}
+use Rattle.mn_prefix.proofs.Tables.{same_exact}
 use Rattle.mn_lpm.specs.Levels.{prefix_at, pair_at}
 use Rattle.std.proofs.lemmas.Option.{same_Some}
 use Rattle.mn_lpm.proofs.LookUps.{form_of, first_is_longest, none_is_longest}
