@@ -28,6 +28,24 @@ links_in t = links_of (wiring_of t)
 abbrev saids : ℕ → List OutputFile
 saids k = Said k Forth ∷ Said k Back ∷ []
 
+-- it is one of three, or of a link, or of an edge
+by_kind : (P : Type 0) (t : Network) (out : OutputFile) → (Journal ≡ out → P) → (Labels ≡ out → P) → (Deliveries ≡ out → P) →
+    (In (map (λ k. Frames k) (links_in t)) out → P) → (In (flat_map saids (links_in t)) out → P) → (In (flat_map (told_files t) (edges t)) out → P) →
+    In (files_of t) out → P
+by_kind P t out journal labels deliveries frames said told (inl e) = journal e
+by_kind P t out journal labels deliveries frames said told (inr (inl e)) = labels e
+by_kind P t out journal labels deliveries frames said told (inr (inr (inl e))) = deliveries e
+by_kind P t out journal labels deliveries frames said told (inr (inr (inr i))) =
+    on (in_append (map (λ k. Frames k) (links_in t)) (flat_map saids (links_in t) ++ flat_map (told_files t) (edges t)) out i)
+  where
+    rest : In (flat_map saids (links_in t)) out ⊎ In (flat_map (told_files t) (edges t)) out → P
+    rest (inl m) = said m
+    rest (inr m) = told m
+
+    on : In (map (λ k. Frames k) (links_in t)) out ⊎ In (flat_map saids (links_in t) ++ flat_map (told_files t) (edges t)) out → P
+    on (inl m) = frames m
+    on (inr m) = rest (in_append (flat_map saids (links_in t)) (flat_map (told_files t) (edges t)) out m)
+
 -- 1. A link's frames
 
 frames_in_saids : (k l : ℕ) → In (saids k) (Frames l) → ⊥
@@ -44,23 +62,16 @@ linked : (t : Network) (k : ℕ) → In (links_in t) k → k < length t.links
 linked t k m = let b : k < 0 + length t.links = (in_range 0 (length t.links) k m).1 in omega (arith, b)
 
 pub frames_there : (t : Network) (l : ℕ) → In (files_of t) (Frames l) → l < length t.links
-frames_there t l (inl e) = absurd (let f : Journal ≡ Frames l = e in cc)
-frames_there t l (inr (inl e)) = absurd (let f : Labels ≡ Frames l = e in cc)
-frames_there t l (inr (inr (inl e))) = absurd (let f : Deliveries ≡ Frames l = e in cc)
-frames_there t l (inr (inr (inr i))) =
-    on (in_append (map (λ k. Frames k) (links_in t)) (flat_map saids (links_in t) ++ flat_map (told_files t) (edges t)) (Frames l) i)
-  where
-    rest : In (flat_map saids (links_in t)) (Frames l) ⊎ In (flat_map (told_files t) (edges t)) (Frames l) → ⊥
-    rest (inl m) = let x = in_flat_map saids (links_in t) (Frames l) m in frames_in_saids x.0 l x.2
-    rest (inr m) = let x = in_flat_map (told_files t) (edges t) (Frames l) m in frames_in_told t l x.0 x.2
-
-    on : In (map (λ k. Frames k) (links_in t)) (Frames l) ⊎ In (flat_map saids (links_in t) ++ flat_map (told_files t) (edges t)) (Frames l) →
-        l < length t.links
-    on (inl m) =
-        let x = in_map (λ k. Frames k) (links_in t) (Frames l) m in
-        let e : x.0 ≡ l = (let f : Frames x.0 ≡ Frames l = x.2 in cc) in
-        subst (λ n. n < length t.links) e (linked t x.0 x.1)
-    on (inr m) = absurd (rest (in_append (flat_map saids (links_in t)) (flat_map (told_files t) (edges t)) (Frames l) m))
+frames_there t l = by_kind (l < length t.links) t (Frames l)
+    (λ e. absurd (let f : Journal ≡ Frames l = e in cc))
+    (λ e. absurd (let f : Labels ≡ Frames l = e in cc))
+    (λ e. absurd (let f : Deliveries ≡ Frames l = e in cc))
+    (λ m.
+    let x = in_map (λ k. Frames k) (links_in t) (Frames l) m in
+    let e : x.0 ≡ l = (let f : Frames x.0 ≡ Frames l = x.2 in cc) in
+    subst (λ n. n < length t.links) e (linked t x.0 x.1))
+    (λ m. let x = in_flat_map saids (links_in t) (Frames l) m in absurd (frames_in_saids x.0 l x.2))
+    (λ m. let x = in_flat_map (told_files t) (edges t) (Frames l) m in absurd (frames_in_told t l x.0 x.2))
 
 -- 2. What LDP said over a link
 
@@ -75,22 +86,15 @@ said_in_told t l edge dir m =
     let f : Told edge x.0 ≡ Said l dir = x.2 in cc
 
 pub said_there : (t : Network) (l : ℕ) (dir : Dir) → In (files_of t) (Said l dir) → l < length t.links
-said_there t l dir (inl e) = absurd (let f : Journal ≡ Said l dir = e in cc)
-said_there t l dir (inr (inl e)) = absurd (let f : Labels ≡ Said l dir = e in cc)
-said_there t l dir (inr (inr (inl e))) = absurd (let f : Deliveries ≡ Said l dir = e in cc)
-said_there t l dir (inr (inr (inr i))) =
-    on (in_append (map (λ k. Frames k) (links_in t)) (flat_map saids (links_in t) ++ flat_map (told_files t) (edges t)) (Said l dir) i)
-  where
-    rest : In (flat_map saids (links_in t)) (Said l dir) ⊎ In (flat_map (told_files t) (edges t)) (Said l dir) → l < length t.links
-    rest (inl m) =
-        let x = in_flat_map saids (links_in t) (Said l dir) m in
-        subst (λ n. n < length t.links) (said_in_saids x.0 l dir x.2) (linked t x.0 x.1)
-    rest (inr m) = let x = in_flat_map (told_files t) (edges t) (Said l dir) m in absurd (said_in_told t l x.0 dir x.2)
-
-    on : In (map (λ k. Frames k) (links_in t)) (Said l dir) ⊎ In (flat_map saids (links_in t) ++ flat_map (told_files t) (edges t)) (Said l dir) →
-        l < length t.links
-    on (inl m) = let x = in_map (λ k. Frames k) (links_in t) (Said l dir) m in absurd (let f : Frames x.0 ≡ Said l dir = x.2 in cc)
-    on (inr m) = rest (in_append (flat_map saids (links_in t)) (flat_map (told_files t) (edges t)) (Said l dir) m)
+said_there t l dir = by_kind (l < length t.links) t (Said l dir)
+    (λ e. absurd (let f : Journal ≡ Said l dir = e in cc))
+    (λ e. absurd (let f : Labels ≡ Said l dir = e in cc))
+    (λ e. absurd (let f : Deliveries ≡ Said l dir = e in cc))
+    (λ m. let x = in_map (λ k. Frames k) (links_in t) (Said l dir) m in absurd (let f : Frames x.0 ≡ Said l dir = x.2 in cc))
+    (λ m.
+    let x = in_flat_map saids (links_in t) (Said l dir) m in
+    subst (λ n. n < length t.links) (said_in_saids x.0 l dir x.2) (linked t x.0 x.1))
+    (λ m. let x = in_flat_map (told_files t) (edges t) (Said l dir) m in absurd (said_in_told t l x.0 dir x.2))
 
 -- 3. What an edge told a peer
 
@@ -125,20 +129,13 @@ told_in_told t from edge peer there m =
     }
 
 pub told_there : (t : Network) (edge peer : ℕ) → In (files_of t) (Told edge peer) → AreTwo t edge peer
-told_there t edge peer (inl e) = absurd (let f : Journal ≡ Told edge peer = e in cc)
-told_there t edge peer (inr (inl e)) = absurd (let f : Labels ≡ Told edge peer = e in cc)
-told_there t edge peer (inr (inr (inl e))) = absurd (let f : Deliveries ≡ Told edge peer = e in cc)
-told_there t edge peer (inr (inr (inr i))) =
-    on (in_append (map (λ k. Frames k) (links_in t)) (flat_map saids (links_in t) ++ flat_map (told_files t) (edges t)) (Told edge peer) i)
-  where
-    rest : In (flat_map saids (links_in t)) (Told edge peer) ⊎ In (flat_map (told_files t) (edges t)) (Told edge peer) → AreTwo t edge peer
-    rest (inl m) = let x = in_flat_map saids (links_in t) (Told edge peer) m in absurd (told_in_saids x.0 edge peer x.2)
-    rest (inr m) = let x = in_flat_map (told_files t) (edges t) (Told edge peer) m in told_in_told t x.0 edge peer x.1 x.2
-
-    on : In (map (λ k. Frames k) (links_in t)) (Told edge peer) ⊎ In (flat_map saids (links_in t) ++ flat_map (told_files t) (edges t)) (Told edge peer) →
-        AreTwo t edge peer
-    on (inl m) = let x = in_map (λ k. Frames k) (links_in t) (Told edge peer) m in absurd (let f : Frames x.0 ≡ Told edge peer = x.2 in cc)
-    on (inr m) = rest (in_append (flat_map saids (links_in t)) (flat_map (told_files t) (edges t)) (Told edge peer) m)
+told_there t edge peer = by_kind (AreTwo t edge peer) t (Told edge peer)
+    (λ e. absurd (let f : Journal ≡ Told edge peer = e in cc))
+    (λ e. absurd (let f : Labels ≡ Told edge peer = e in cc))
+    (λ e. absurd (let f : Deliveries ≡ Told edge peer = e in cc))
+    (λ m. let x = in_map (λ k. Frames k) (links_in t) (Told edge peer) m in absurd (let f : Frames x.0 ≡ Told edge peer = x.2 in cc))
+    (λ m. let x = in_flat_map saids (links_in t) (Told edge peer) m in absurd (told_in_saids x.0 edge peer x.2))
+    (λ m. let x = in_flat_map (told_files t) (edges t) (Told edge peer) m in told_in_told t x.0 edge peer x.1 x.2)
 
 -- 4. The test
 

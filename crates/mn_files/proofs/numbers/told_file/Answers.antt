@@ -1,6 +1,6 @@
 use Rattle.std.proofs.Common.{◌≡◌, ◌+◌, ◌<◌, ◌≤◌, length, refl, sym, ◌∙◌, ap, arith}
 use Rattle.mn_files.specs.Numbers.{edges_before}
-use Rattle.mn_files.proofs.Places.{edge_below, table_length, nodes_length, table_at, all_at, some_edge, places_apart, told_is}
+use Rattle.mn_files.proofs.Places.{edge_below, table_length, nodes_length, edge_at, all_at, some_edge, places_apart, told_is}
 use Rattle.mn_files.proofs.numbers.told_file.Goals as goal
 
 pub before-others-requires : goal.before-others-requires
@@ -32,27 +32,19 @@ before-peer_place-requires c =
 
 pub place_without-requires : goal.place_without-requires
 place_without-requires c =
-    let edge : c.args.edge.0 < length c.args.topology.now.loopbacks = edge_below c.args.topology.now c.args.edge.0 c.laws.ensures c.requires.edge in
-    let peer : c.args.peer.0 < length c.args.topology.now.loopbacks = edge_below c.args.topology.now c.args.peer.0 c.laws.ensures c.requires.peer in
     let place =
-    table_at c.args.topology.now c.args.places.now c.args.edge.0 c.before-place.result c.requires.places
-    (omega (arith, edge)) c.before-place.ensures.count in
+    edge_at c.args.topology.now c.args.places.now c.args.edge.0 _ c.requires.places c.laws.ensures c.requires.edge c.before-place.ensures.count in
     let other =
-    table_at c.args.topology.now c.args.places.now c.args.peer.0 c.before-peer_place.result c.requires.places
-    (omega (arith, peer)) c.before-peer_place.ensures.count in
+    edge_at c.args.topology.now c.args.places.now c.args.peer.0 _ c.requires.places c.laws.ensures c.requires.peer c.before-peer_place.ensures.count in
     λ same. places_apart c.args.topology.now c.args.edge.0 c.args.peer.0 c.laws.ensures c.requires.edge c.requires.peer c.requires.apart
     (sym other ∙ same ∙ place)
 
 pub returns : goal.returns
 returns c =
-    let edge : c.args.edge.0 < length c.args.topology.now.loopbacks = edge_below c.args.topology.now c.args.edge.0 c.laws.ensures c.requires.edge in
-    let peer : c.args.peer.0 < length c.args.topology.now.loopbacks = edge_below c.args.topology.now c.args.peer.0 c.laws.ensures c.requires.peer in
     let place =
-    table_at c.args.topology.now c.args.places.now c.args.edge.0 c.before-place.result c.requires.places
-    (omega (arith, edge)) c.before-place.ensures.count in
+    edge_at c.args.topology.now c.args.places.now c.args.edge.0 _ c.requires.places c.laws.ensures c.requires.edge c.before-place.ensures.count in
     let other =
-    table_at c.args.topology.now c.args.places.now c.args.peer.0 c.before-peer_place.result c.requires.places
-    (omega (arith, peer)) c.before-peer_place.ensures.count in
+    edge_at c.args.topology.now c.args.places.now c.args.peer.0 _ c.requires.places c.laws.ensures c.requires.peer c.before-peer_place.ensures.count in
     let all =
     all_at c.args.topology.now c.nodes.result.now c.args.places.now c.before-others.result c.nodes.ensures c.requires.places
     c.before-others.ensures.count in
