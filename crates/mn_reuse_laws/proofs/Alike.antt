@@ -65,7 +65,7 @@ heard_other : (t : Network) (w : World) (l n : ℕ) → across (wiring_of t) l (
 heard_other t w l n e = ap (λ m. take (w.sessions.heard l m) (w.sessions.said l (across (wiring_of t) l n))) e
 
 -- a FEC that stays labelled has the same label by both
-stays_same : (t : Network) (es : List JournalEntry) (e : JournalEntry) (far p : ℕ) → (p ≢ far → StaysLabelled t es e far p)
+pub stays_same : (t : Network) (es : List JournalEntry) (e : JournalEntry) (far p : ℕ) → (p ≢ far → StaysLabelled t es e far p)
     → labels_at t es far p ≡ labels_at t (es ++ e ∷ []) far p
 stays_same t es e far p stays = elim (eqb_tells far p) [
   | inl x ↦ ap (λ b. if b then 3 else before) x.0 ∙ sym (ap (λ b. if b then 3 else after) x.0)

@@ -4,7 +4,7 @@ use Rattle.std.proofs.Common.{Option, Some, None}
 use Rattle.std.specs.Prelude.{◌==◌, ◌&&◌, not, ◌||◌, nat_lt, is_some, if◌then◌else◌}
 use Rattle.std.specs.List.{list_all}
 use Rattle.mn_base.proofs.Bools.{clash, two_ways, other_test, and_on}
-use Rattle.mn_base.proofs.Members.{In, filter_in, range_in}
+use Rattle.mn_base.proofs.Members.{filter_in, range_in}
 use Rattle.mn_wiring.specs.Wiring.{nodes_of, links_at, JoinsNodes, EndsDiffer}
 use Rattle.mn_topo.specs.Network.{Network, wiring_of}
 use Rattle.mn_topo.specs.Lawful.{IsLawful}
@@ -20,72 +20,22 @@ use Rattle.mn_ledger.specs.Refusal.{is_empty}
 use Rattle.mn_ledger.specs.Lawful.{IsLawfulFrom, IsLawfulJournal}
 use Rattle.mn_ledger.specs.Turns.{IsInTurn}
 use Rattle.mn_ledger.proofs.Turning.{Apart, loopbacks_apart}
-use Rattle.std.proofs.lemmas.List.{get_or-set_same, get_or-set_other, length-set, length-replicate}
+use Rattle.std.proofs.lemmas.List.{length-replicate}
 use Rattle.mn_ledger.proofs.InTurn.{goes_step, begins, not_empty, link_there}
 use Rattle.mn_settled_laws.specs.Offers.{offers_in}
 use Rattle.mn_ledger.specs.Transport.{knowledge_of, usable}
 use Rattle.mn_reuse_laws.specs.Resting.{is_released, is_at_rest, rested_after, rested_from, rested_of}
-use Rattle.mn_labels.specs.Labels.{attachment_of, Labels, label_now, fec_of, attached, offered_one, offered_all, given_up, offered, next_label}
+use Rattle.mn_labels.specs.Labels.{attachment_of, Labels, label_now, fec_of, attached}
 use Rattle.mn_reuse_laws.specs.Labels.{begins_offer, new_offers}
 use Rattle.mn_reuse_laws.specs.Labels.{longest_life, is_free, attached_in, labels_after, first_labels, labels_from, labels_of}
 use Rattle.mn_reuse_laws.specs.Laws.{AreSound, KeepsItsLabel, ChangesOnceFree}
 use Rattle.mn_reuse_laws.proofs.Answering.{Released, released_step}
 use Rattle.mn_reuse_laws.proofs.Blocking.{resting, hop_mapped}
-use Rattle.mn_reuse_laws.proofs.Labelling.{AreFit, by_offer, attached_fit, offered_fit, first_fit, means_one, kept_at, kept_length}
+use Rattle.mn_reuse_laws.proofs.Labelling.{AreFit, attached_fit, offered_fit, first_fit, means_one}
+use Rattle.mn_labels.proofs.Offering.{offered_long, offered_keeps, offered_gives}
 use Rattle.mn_reuse_laws.proofs.Waking.{rest_stays}
 
--- 1. What offers keep, and give
-
-zero_and : {p : ℕ} → 0 + p ≡ p
-zero_and = omega arith
-
-one_keeps : (labels : Labels) (fec p a : ℕ) → label_now labels p ≡ Some a → label_now (offered_one labels fec) p ≡ Some a
-one_keeps labels fec p a h =
-    by_offer (λ later. label_now later p ≡ Some a) labels fec (λ label e. h)
-    (λ e. get_or-set_other labels.fecs fec p (Some (next_label labels)) None (apart e) ∙ h)
-  where
-    apart : label_now labels fec ≡ None → p ≢ fec
-    apart e same = let no : None ≡ Some a = sym e ∙ ap (label_now labels) (sym same) ∙ h in cc
-
-one_gives : (labels : Labels) (fec : ℕ) → fec < length labels.fecs → (a : ℕ) × (label_now (offered_one labels fec) fec ≡ Some a)
-one_gives labels fec below =
-    by_offer (λ later. (a : ℕ) × (label_now later fec ≡ Some a)) labels fec (λ label e. (label, e))
-    (λ e. (next_label labels, get_or-set_same labels.fecs fec (Some (next_label labels)) None below))
-
-one_long : (labels : Labels) (fec : ℕ) → length (offered_one labels fec).fecs ≡ length labels.fecs
-one_long labels fec =
-    by_offer (λ later. length later.fecs ≡ length labels.fecs) labels fec (λ label e. refl) (λ e. length-set labels.fecs fec (Some (next_label labels)))
-
-all_long : (labels : Labels) (fecs : List ℕ) → length (offered_all labels fecs).fecs ≡ length labels.fecs
-all_long labels [] = refl
-all_long labels (fec ∷ fecs) = all_long (offered_one labels fec) fecs ∙ one_long labels fec
-
-offered_long : (free : ℕ → Bool) (labels : Labels) (fecs : List ℕ) → length (offered free labels fecs).fecs ≡ length labels.fecs
-offered_long free labels [] = refl
-offered_long free labels (fec ∷ fecs) = all_long (given_up free labels) (fec ∷ fecs) ∙ kept_length free 0 labels.fecs
-
-all_keep : (labels : Labels) (fecs : List ℕ) (p a : ℕ) → label_now labels p ≡ Some a → label_now (offered_all labels fecs) p ≡ Some a
-all_keep labels [] p a h = h
-all_keep labels (fec ∷ fecs) p a h = all_keep (offered_one labels fec) fecs p a (one_keeps labels fec p a h)
-
-all_give : (labels : Labels) (fecs : List ℕ) (p : ℕ) → p < length labels.fecs → In fecs p → (a : ℕ) × (label_now (offered_all labels fecs) p ≡ Some a)
-all_give labels [] p below i = absurd i
-all_give labels (fec ∷ fecs) p below i = elim i [
-  | inl e ↦ let one = one_gives labels fec (subst (λ x. x < length labels.fecs) (sym e) below) in
-      (one.0, all_keep (offered_one labels fec) fecs p one.0 (subst (λ q. label_now (offered_one labels fec) q ≡ Some one.0) e one.1))
-  | inr j ↦ all_give (offered_one labels fec) fecs p (subst (λ x. p < x) (sym (one_long labels fec)) below) j
-]
-
-offered_keeps : (free : ℕ → Bool) (labels : Labels) (fecs : List ℕ) (p a : ℕ) → free p ≡ false → label_now labels p ≡ Some a →
-    label_now (offered free labels fecs) p ≡ Some a
-offered_keeps free labels [] p a off h = h
-offered_keeps free labels (fec ∷ fecs) p a off h =
-    all_keep (given_up free labels) (fec ∷ fecs) p a (kept_at free 0 labels.fecs p (ap free zero_and ∙ off) ∙ h)
-
-offered_gives : (free : ℕ → Bool) (labels : Labels) (fecs : List ℕ) (p : ℕ) → p < length labels.fecs → In fecs p → (a : ℕ) × (label_now (offered free labels fecs) p ≡ Some a)
-offered_gives free labels [] p below i = absurd i
-offered_gives free labels (fec ∷ fecs) p below i =
-    all_give (given_up free labels) (fec ∷ fecs) p (subst (λ x. p < x) (sym (kept_length free 0 labels.fecs)) below) i
+-- 1. What an attachment keeps
 
 attached_keeps : (t : Network) (w : World) (s : Step) (n p : ℕ) (labels : Labels) → label_now (attached_in t w s n labels) p ≡ label_now labels p
 attached_keeps t w (Attach site) n p labels = by (home_of t site.0 == n)
@@ -103,7 +53,7 @@ attached_long t w (Attach site) n labels = by (home_of t site.0 == n)
     by false = refl
 attached_long t w _ n labels = refl
 
-attached_is_fit : (t : Network) (w : World) (s : Step) (n : ℕ) (labels : Labels) → AreFit labels → AreFit (attached_in t w s n labels)
+pub attached_is_fit : (t : Network) (w : World) (s : Step) (n : ℕ) (labels : Labels) → AreFit labels → AreFit (attached_in t w s n labels)
 attached_is_fit t w (Attach site) n labels fit = by (home_of t site.0 == n)
   where
     by : (b : Bool) → AreFit (if b then attached labels (attachment_of site.0 (w.config.attaches site.0 + 2)) else labels)

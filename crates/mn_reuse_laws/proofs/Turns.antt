@@ -6,9 +6,9 @@ use Rattle.std.specs.List.{flat_map}
 use Rattle.std.proofs.lemmas.Bool.Decides.{eqb_tells}
 use Rattle.std.proofs.lemmas.List.Elements.{filter-append}
 use Rattle.std.proofs.lemmas.List.FromFn.{get_or-map-range_with_len, length-map-range_with_len}
-use Rattle.mn_base.proofs.Bools.{clash, two_ways, less_tells, same_test, other_test}
-use Rattle.mn_base.proofs.Members.{In, filter_in, in_filter, flat_map_in, range_in}
-use Rattle.mn_wiring.specs.Wiring.{Wiring, EndsDiffer, JoinsNodes, nodes_of, links_of, links_at, link, is_end, across, joining}
+use Rattle.mn_base.proofs.Bools.{clash, two_ways, same_test, other_test}
+use Rattle.mn_base.proofs.Members.{In, filter_in, range_in}
+use Rattle.mn_wiring.specs.Wiring.{Wiring, EndsDiffer, JoinsNodes, nodes_of, is_end, across}
 use Rattle.mn_topo.specs.Network.{Network, wiring_of}
 use Rattle.mn_topo.specs.Steps.{fits}
 use Rattle.mn_topo.specs.declared.steps.Step.{Step}
@@ -17,8 +17,9 @@ use Rattle.mn_ledger.specs.World.{Message, Initialization, KeepAlive, Address, M
 use Rattle.mn_ledger.specs.Transport.{Said, Knowledge, is_operational, messages_of, said_on, mention, mentioned_on, mentioned_from, offers, offered, by_neighbour}
 use Rattle.mn_ledger.specs.Transport.{news, ends_first, speakers, is_mapped, mapped_after}
 use Rattle.mn_ledger.proofs.Mentions.{messages-append}
-use Rattle.mn_ledger.proofs.Turning.{said-own, said-other, end_is, is_end-a, is_end-b}
-use Rattle.mn_ledger.proofs.Saying.{IsOnce, once-range, once-filter, once-neighbours, news-others}
+use Rattle.mn_ledger.proofs.Turning.{said-own, said-other, end_is}
+use Rattle.mn_ledger.proofs.Saying.{IsOnce, once-neighbours, news-others, nobody, once-speaker}
+use Rattle.mn_settled_laws.proofs.Mapped.{neighbours_in}
 use Rattle.mn_reuse_laws.specs.Answers.{count_by, is_withdraw, is_mention, HasItsTurn, AreByTurns}
 
 -- 1. Mentions of a FEC among messages
@@ -132,13 +133,6 @@ module _ (before after : Knowledge) (p l m : ℕ) where
 
 -- 2. What one node says
 
-neighbours_in : (w : Wiring) (l m : ℕ) → l < length w.ends → is_end w l m ≡ true → across w l m < length w.loopbacks → In (by_neighbour w m) l
-neighbours_in w l m h at_end below =
-    flat_map_in (joining w m) (nodes_of w) (across w l m) l (range_in 0 (length w.loopbacks) (across w l m) (omega arith) (omega (arith, below)))
-    (filter_in (λ k. across w k m == across w l m) (links_at w m) l
-    (filter_in (λ k. is_end w k m) (links_of w) l (range_in 0 (length w.ends) l (omega arith) (omega (arith, h))) at_end)
-    (same_test (across w l m)))
-
 news_of : (w : Wiring) (before after : Knowledge) (l m p : ℕ) → l < length w.ends → is_end w l m ≡ true → across w l m < length w.loopbacks
     → p < length w.loopbacks → of_fec p (messages_of l m (news w before after m))
     ≡ (if is_operational after l then mention (is_operational before l && offers w before m p) (offers w after m p) p else [])
@@ -158,18 +152,11 @@ news_of w before after l m p h at_end below inside =
 -- 3. What all say
 
 module _ (w : Wiring) (before after : ℕ → Knowledge) (l m : ℕ) where
-  nobody : (ns : List ℕ) → (In ns m → ⊥) → messages_of l m (flat_map (λ n. news w (before n) (after n) n) ns) ≡ []
-  nobody [] out = refl
-  nobody (n ∷ ns) out =
-      messages-append l m (news w (before n) (after n) n) (flat_map (λ x. news w (before x) (after x) x) ns)
-      ∙ ap (λ xs. xs ++ messages_of l m (flat_map (λ x. news w (before x) (after x) x) ns)) (news-others w (before n) (after n) l m n (λ e. out (inl e)))
-      ∙ nobody ns (λ i. out (inr i))
-
   pub speaks_once : (ns : List ℕ) → IsOnce m ns → In ns m → messages_of l m (flat_map (λ n. news w (before n) (after n) n) ns) ≡ messages_of l m (news w (before m) (after m) m)
   speaks_once [] once i = absurd i
   speaks_once (n ∷ ns) once i = elim (eqb_tells n m) [
     | inl e ↦ messages-append l m (news w (before n) (after n) n) (flat_map (λ x. news w (before x) (after x) x) ns)
-        ∙ ap (λ xs. messages_of l m (news w (before n) (after n) n) ++ xs) (nobody ns (once.0 e.1))
+        ∙ ap (λ xs. messages_of l m (news w (before n) (after n) n) ++ xs) (nobody w before after l m ns (once.0 e.1))
         ∙ append-nil (messages_of l m (news w (before n) (after n) n)) ∙ ap (λ j. messages_of l m (news w (before j) (after j) j)) e.1
     | inr e ↦ messages-append l m (news w (before n) (after n) n) (flat_map (λ x. news w (before x) (after x) x) ns)
         ∙ ap (λ xs. xs ++ messages_of l m (flat_map (λ x. news w (before x) (after x) x) ns)) (news-others w (before n) (after n) l m n e.1)
@@ -178,35 +165,6 @@ module _ (w : Wiring) (before after : ℕ → Knowledge) (l m : ℕ) where
     where
       later : In (n ∷ ns) m → n ≢ m → In ns m
       later i d = elim i [ inl f ↦ absurd (d f) | inr j ↦ j ]
-
-once_first : (w : Wiring) (l n : ℕ) → (link w l).a.0 ≢ (link w l).b.0 → IsOnce n (ends_first w l)
-once_first w l n d = (
-  λ e i. elim i [ inl f ↦ d (e ∙ sym f) | inr j ↦ clash (sym (ends e) ∙ no_end (in_filter (λ node. not (is_end w l node)) (nodes_of w) n j).1) ],
-  (
-    λ f j. clash (sym (ends_too f) ∙ no_end (in_filter (λ node. not (is_end w l node)) (nodes_of w) n j).1),
-    once-filter (λ node. not (is_end w l node)) n
-        (nodes_of w) (once-range n 0 (length w.loopbacks)),
-  ),
-)
-  where
-    no_end : not (is_end w l n) ≡ true → is_end w l n ≡ false
-    no_end h = turned (is_end w l n) h
-      where
-        turned : (b : Bool) → not b ≡ true → b ≡ false
-        turned true q = cc
-        turned false q = refl
-
-    ends : (link w l).a.0 ≡ n → is_end w l n ≡ true
-    ends e = ap (is_end w l) (sym e) ∙ is_end-a w l
-
-    ends_too : (link w l).b.0 ≡ n → is_end w l n ≡ true
-    ends_too e = ap (is_end w l) (sym e) ∙ is_end-b w l
-
-pub once_speaker : (t : Network) (s : Step) (n : ℕ) → EndsDiffer (wiring_of t) → fits t s ≡ true → IsOnce n (speakers (wiring_of t) s)
-once_speaker t (step.LinkUp l) n differ fit = once_first (wiring_of t) l.0 n (differ l.0 (less_tells l.0 (length t.links) fit))
-once_speaker t (step.LinkDown l) n differ fit = once_first (wiring_of t) l.0 n (differ l.0 (less_tells l.0 (length t.links) fit))
-once_speaker t (step.LdpAdmin l on) n differ fit = once_first (wiring_of t) l.0 n (differ l.0 (less_tells l.0 (length t.links) fit))
-once_speaker t _ n differ fit = once-range n 0 (length t.loopbacks)
 
 all_speak : (t : Network) → JoinsNodes (wiring_of t) → (l m : ℕ) → l < length t.links → is_end (wiring_of t) l m ≡ true → In (nodes_of (wiring_of t)) m
 all_speak t joins l m h e = range_in 0 (length t.loopbacks) m (omega arith) (omega (arith, below))
@@ -236,7 +194,7 @@ pub told_of : (t : Network) (s : Step) (before after : ℕ → Knowledge) (l m p
     of_fec p (messages_of l m (flat_map (λ n. news (wiring_of t) (before n) (after n) n) (speakers (wiring_of t) s)))
     ≡ (if is_operational (after m) l then mention (is_operational (before m) l && offers (wiring_of t) (before m) m p) (offers (wiring_of t) (after m) m p) p else [])
 told_of t s before after l m p joins differ fit h e below inside =
-    ap (of_fec p) (speaks_once (wiring_of t) before after l m (speakers (wiring_of t) s) (once_speaker t s m differ fit) (speaker_in t s joins l m h e))
+    ap (of_fec p) (speaks_once (wiring_of t) before after l m (speakers (wiring_of t) s) (once-speaker t s m differ fit) (speaker_in t s joins l m h e))
     ∙ news_of (wiring_of t) (before m) (after m) l m p h e below inside
 
 -- 4. What that means for turns, and for counts
