@@ -1,11 +1,11 @@
 -- How a call may end, beside the answer that is to be given.
 use Rattle.std.specs.Option.{ForSome}
-use Rattle.std.specs.Prelude.{◌≡◌, ◌≢◌, ◌⊎◌, ℕ, Bool, true, false, List, [], ◌++◌, map, Option, None, Some, MatchOption, IsSomeAnd, ⊤}
+use Rattle.std.specs.Prelude.{◌≡◌, ◌≢◌, ◌⊎◌, ℕ, Bool, true, false, List, [], ◌++◌, Option, None, Some, MatchOption, IsSomeAnd, ⊤}
 use Rattle.mn_answer.specs.declared.outcome.Outcome.{Outcome}
 use Rattle.mn_answer.specs.declared.outcome.Outcome.TheVariants.{Usage, ReadFault, WriteFault, NoMemory}
 use Rattle.mn_edge.specs.Files.{Files}
 use Rattle.mn_edge.specs.Faults.{Grew, GrewUnless, Rose}
-use Rattle.mn_edge.specs.Written.{laid, IsPart, PartWritten}
+use Rattle.mn_edge.specs.Written.{laid, PartWritten, AllBegun}
 use Rattle.mn_lines.specs.Putting.{PartPut}
 use Rattle.mn_answer.specs.Answer.{Answer}
 
@@ -41,13 +41,6 @@ TextIs answer before after outcome = IsSomeAnd answer (λ a. after ≡ Some (bef
 -- more than the early part of the text was put only where every file is whole
 abbrev pub IsLate : Option Answer → Files → Option Files → List ℕ → Option (List ℕ) → Type 0
 IsLate answer files after before written = MatchOption answer ⊤ (λ a. (after ≡ Some (laid a.files files)) ⊎ PartPut a.early before written)
-
--- each of the files was begun: it has a first part of its bytes, and no other file has changed
-pub record AllBegun (files : List (List ℕ × List ℕ)) (m : Files) (after : Option Files) : Type 0 where
-  pub stands : List (List ℕ × List ℕ)
-  pub names : map (λ f. f.0) stands ≡ map (λ f. f.0) files
-  pub is_part : IsPart stands files
-  pub after_is : after ≡ Some (laid stands m)
 
 -- where an input could not be read no file was begun and nothing was put; a read that failed later failed among the lines: every file
 -- of the run was begun, with no more in it than while they are played, and no more than the early part was put

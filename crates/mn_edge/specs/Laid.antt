@@ -3,7 +3,7 @@ use Rattle.std.proofs.Common.{◌≡◌, ℕ, zero, suc, ◌<◌, Bool, true, fa
 use Rattle.std.proofs.Common.{◌∙◌, ap, subst, arith}
 use Rattle.std.proofs.lemmas.List.{append-nil}
 use Rattle.mn_edge.specs.Files.{Files, file}
-use Rattle.mn_edge.specs.Written.{same_name, is_known, each, written, laid, IsPrefix, IsPart, PartWritten, Stands}
+use Rattle.mn_edge.specs.Written.{same_name, is_known, each, written, laid, IsPrefix, IsPart, PartWritten, AllBegun, Stands}
 use Rattle.mn_edge.specs.FileLaws.{same_name-eq, same_files, file-with_file}
 use Rattle.mn_edge.specs.Kept.{name_of, held_for, HoldsOn, BeginsOn, Framed}
 use Rattle.mn_edge.specs.KeptLaws.{same_some}
@@ -53,14 +53,15 @@ parts [] some contents h = tt
 parts (name ∷ names) some contents h =
     (refl, h 0 (omega arith), parts names (λ k. some (suc k)) (λ k. contents (suc k)) (λ k within. h (suc k) (omega (arith, within))))
 
--- each file has begun: the call was cut off
-pub part_written : (names : List (List ℕ)) (contents : ℕ → List ℕ) (m : Files) (after : Option Files) → Framed names (Some m) after →
-    BeginsOn names contents after → PartWritten (named names contents) m after
-part_written names contents m after framed begins =
+-- files of which each holds a first part were all begun
+pub all_begun : (names : List (List ℕ)) (contents : ℕ → List ℕ) (m : Files) (after : Option Files) → Framed names (Some m) after →
+    BeginsOn names contents after → AllBegun (named names contents) m after
+all_begun names contents m after framed begins =
     let front : ℕ → List ℕ = λ k. or_nothing (file begins.now (name_of names k)) in
     let x = framed.others m refl in
     record {
       stands = named names front;
+      names = names-named names front ∙ sym (names-named names contents);
       is_part =
           parts names front contents (λ k within. let b = begins.begins k within in
           subst (λ l. IsPrefix l (contents k)) (sym (ap or_nothing b.there)) b.part);
@@ -69,6 +70,20 @@ part_written names contents m after framed begins =
           ap (λ f. file f (name_of names k)) (same_some x.0 begins.now after x.1 begins.told) ∙ b.there ∙ ap Some (sym (ap or_nothing b.there)))
           x.2);
     }
+
+-- the call was cut off there: the files stand in part
+pub part_written : (names : List (List ℕ)) (contents : ℕ → List ℕ) (m : Files) (after : Option Files) → Framed names (Some m) after →
+    BeginsOn names contents after → PartWritten (named names contents) m after
+part_written names contents m after framed begins =
+    let b = all_begun names contents m after framed begins in record { stands = b.stands; is_part = b.is_part; after_is = b.after_is }
+
+all_part : (fs : List (List ℕ × List ℕ)) → IsPart fs fs
+all_part [] = tt
+all_part (f ∷ fs) = (refl, ([], append-nil f.1), all_part fs)
+
+-- whole files are also a first part of themselves
+pub whole_part : (fs : List (List ℕ × List ℕ)) (m : Files) (after : Option Files) → after ≡ Some (laid fs m) → PartWritten fs m after
+whole_part fs m after e = record { stands = fs; is_part = all_part fs; after_is = e }
 
 -- nothing is held any more: all is written
 pub all_written : (names : List (List ℕ)) (contents : ℕ → List ℕ) (held : List (List ℕ)) (m : Files) (after : Option Files) → Framed names (Some m) after

@@ -62,3 +62,10 @@ pub record PartWritten (files : List (List ℕ × List ℕ)) (m : Files) (after 
   pub stands : List (List ℕ × List ℕ)
   pub is_part : IsPart stands files
   pub after_is : after ≡ Some (laid stands m)
+
+-- each of the files was begun: it has a first part of its bytes, and no other file has changed
+pub record AllBegun (files : List (List ℕ × List ℕ)) (m : Files) (after : Option Files) : Type 0 where
+  pub stands : List (List ℕ × List ℕ)
+  pub names : map (λ f. f.0) stands ≡ map (λ f. f.0) files
+  pub is_part : IsPart stands files
+  pub after_is : after ≡ Some (laid stands m)

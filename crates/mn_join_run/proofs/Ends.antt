@@ -1,12 +1,10 @@
 -- How a run ends: its file, and its report.
-use Rattle.std.proofs.Common.{◌≡◌, ◌<◌, ℕ, suc, length, None, arith, List, [], ◌∷◌, ◌++◌, append_assoc, append-nil, Option, Some, Ok, Err, inl, inr, refl, sym, ◌∙◌, ap, subst}
+use Rattle.std.proofs.Common.{◌≡◌, ℕ, List, ◌++◌, append_assoc, Option, Some, Ok, Err, inl, inr, sym, ◌∙◌, ap, subst}
 use Rattle.std.specs.Prelude.{⊤}
 use Rattle.mn_edge.specs.Files.{Files, file}
-use Rattle.mn_edge.specs.Kept.{name_of, BeginsOn, Framed}
-use Rattle.mn_edge.specs.KeptLaws.{same_some}
-use Rattle.mn_edge.specs.Laid.{named, names-named, all_laid, part_written}
-use Rattle.mn_edge.specs.Written.{laid, IsPrefix, IsPart, PartWritten}
-use Rattle.mn_answer.specs.Endings.{AllBegun}
+use Rattle.mn_edge.specs.Kept.{Framed}
+use Rattle.mn_edge.specs.Laid.{part_written, all_begun, whole_part}
+use Rattle.mn_edge.specs.Written.{laid, PartWritten, AllBegun}
 use Rattle.mn_lines.specs.Putting.{PartPut}
 use Rattle.mn_lines.proofs.Putting.{ended}
 use Rattle.mn_perform.specs.declared.ended.Ended.{Ended}
@@ -31,48 +29,12 @@ use Rattle.mn_join_run.proofs.Standing.{cut_here}
 
 -- 1. Parts
 
-all_part : (fs : List (List ℕ × List ℕ)) → IsPart fs fs
-all_part [] = tt
-all_part (f ∷ fs) = (refl, ([], append-nil f.1), all_part fs)
-
--- whole files are also a first part of themselves
-pub whole_part : (fs : List (List ℕ × List ℕ)) (m : Files) (after : Option Files) → after ≡ Some (laid fs m) → PartWritten fs m after
-whole_part fs m after e = record { stands = fs; is_part = all_part fs; after_is = e }
-
 -- the report begins with the refused lines
 pub report_begins : (pairing : Pairing) (run : JoinRun) (before : List ℕ) (written : Option (List ℕ)) → PartPut (refused_texts run) before written →
     PartPut (report pairing run) before written
 report_begins pairing run before written p =
     let rest : List ℕ = last_text pairing run in
     (p.0, (p.1.0 ++ rest, sym (append_assoc p.0 p.1.0 rest) ∙ ap (λ l. l ++ rest) p.1.1), p.2)
-
-abbrev or_nothing : Option (List ℕ) → List ℕ
-or_nothing None = []
-or_nothing (Some bytes) = bytes
-
-parts : (names : List (List ℕ)) (some contents : ℕ → List ℕ) →
-    ((k : ℕ) → k < length names → IsPrefix (some k) (contents k)) → IsPart (named names some) (named names contents)
-parts [] some contents h = tt
-parts (name ∷ names) some contents h =
-    (refl, h 0 (omega arith), parts names (λ k. some (suc k)) (λ k. contents (suc k)) (λ k within. h (suc k) (omega (arith, within))))
-
--- files of which each holds a first part were all begun
-all_begun : (names : List (List ℕ)) (contents : ℕ → List ℕ) (m : Files) (after : Option Files) → Framed names (Some m) after →
-    BeginsOn names contents after → AllBegun (named names contents) m after
-all_begun names contents m after framed begins =
-    let front : ℕ → List ℕ = λ k. or_nothing (file begins.now (name_of names k)) in
-    let x = framed.others m refl in
-    record {
-      stands = named names front;
-      names = names-named names front ∙ sym (names-named names contents);
-      is_part = parts names front contents (λ k within.
-          let b = begins.begins k within in subst (λ l. IsPrefix l (contents k)) (sym (ap or_nothing b.there)) b.part);
-      after_is = x.1 ∙ ap Some (all_laid names front m x.0
-          (λ k within.
-          let b = begins.begins k within in
-          ap (λ f. file f (name_of names k)) (same_some x.0 begins.now after x.1 begins.told) ∙ b.there ∙ ap Some (sym (ap or_nothing b.there)))
-          x.2);
-    }
 
 -- 2. A run that was cut off among its lines
 

@@ -3,8 +3,7 @@ use Rattle.std.specs.Prelude.{◌≡◌, ◌⊎◌, ℕ, cond, List, [], ◌∷�
 use Rattle.std.specs.Option.{ForSome}
 use Rattle.mn_edge.specs.Files.{Files}
 use Rattle.mn_edge.specs.Laid.{named}
-use Rattle.mn_edge.specs.Written.{laid, PartWritten}
-use Rattle.mn_answer.specs.Endings.{AllBegun}
+use Rattle.mn_edge.specs.Written.{laid, PartWritten, AllBegun}
 use Rattle.mn_answer.specs.declared.outcome.Outcome.{Outcome}
 use Rattle.mn_answer.specs.declared.outcome.Outcome.TheVariants as outcome
 use Rattle.mn_answer.specs.declared.outcome.Limit.TheVariants.{Steps}

@@ -1,12 +1,12 @@
 -- How a run ends: its files, and its report.
-use Rattle.std.proofs.Common.{◌≡◌, ◌<◌, ℕ, suc, arith, false, cond, List, [], ◌∷◌, ◌++◌, map, length, append_assoc, append-nil, Option, Some}
-use Rattle.std.proofs.Common.{None, Ok, Err, Result, OnOk, OnErr, inl, inr, refl, sym, ◌∙◌, ap, subst}
+use Rattle.std.proofs.Common.{◌≡◌, ℕ, false, cond, List, ◌++◌, map, length, append_assoc, Option, Some}
+use Rattle.std.proofs.Common.{Ok, Err, Result, OnOk, OnErr, inl, inr, refl, sym, ◌∙◌, ap, subst}
 use Rattle.std.specs.Prelude.{◌⊎◌, codes}
-use Rattle.mn_edge.specs.Files.{Files, file}
-use Rattle.mn_edge.specs.Kept.{name_of, HoldsOn, BeginsOn, Framed}
-use Rattle.mn_edge.specs.KeptLaws.{same_some, begins_on_more}
-use Rattle.mn_edge.specs.Laid.{named, names-named, all_laid, part_written}
-use Rattle.mn_edge.specs.Written.{laid, IsPrefix, IsPart, PartWritten}
+use Rattle.mn_edge.specs.Files.{Files}
+use Rattle.mn_edge.specs.Kept.{HoldsOn, BeginsOn, Framed}
+use Rattle.mn_edge.specs.KeptLaws.{begins_on_more}
+use Rattle.mn_edge.specs.Laid.{named, part_written, all_begun}
+use Rattle.mn_edge.specs.Written.{laid, PartWritten}
 use Rattle.mn_topo.specs.Network.{Network}
 use Rattle.mn_topo.specs.declared.steps.JournalEntry.{JournalEntry}
 use Rattle.mn_script.specs.declared.command.Line.{Line}
@@ -35,17 +35,9 @@ use Rattle.mn_perform.specs.Fails.{fault_of}
 use Rattle.mn_edge.specs.declared.device.DeviceBad.{DeviceBad}
 use Rattle.mn_edge.specs.declared.device.DeviceBad.TheVariants as bad
 use Rattle.mn_perform.specs.Running.{Stands, notes_text, Keeps, Breaks, Went, is_stopped}
-use Rattle.mn_perform.specs.Whole.{last_text, running_files, whole_files, AllBegun, BegunAtRead, UntoldAtRead, RunEnds, RunFiles, RunText, IsLate}
+use Rattle.mn_perform.specs.Whole.{last_text, running_files, whole_files, BegunAtRead, UntoldAtRead, RunEnds, RunFiles, RunText, IsLate}
 
 -- 1. Parts
-
-all_part : (fs : List (List ℕ × List ℕ)) → IsPart fs fs
-all_part [] = tt
-all_part (f ∷ fs) = (refl, ([], append-nil f.1), all_part fs)
-
--- whole files are also a first part of themselves
-pub whole_part : (fs : List (List ℕ × List ℕ)) (m : Files) (after : Option Files) → after ≡ Some (laid fs m) → PartWritten fs m after
-whole_part fs m after e = record { stands = fs; is_part = all_part fs; after_is = e }
 
 -- files that hold, or begin, what is written as steps are done begin their whole
 pub begins_whole : (t : Network) (all : List (List ℕ)) (entries : List JournalEntry) (names : List (List ℕ)) (files : Option Files) →
@@ -186,34 +178,6 @@ broken_files t all begun lines found names base files written same breaks framed
     part_written names (whole_at t all (expanded t all lines).past.entries) base files framed
     (begins_whole t all (expanded t all lines).past.entries names files
     (subst (λ n. BeginsOn n (contents_at t all (expanded t all lines).past.entries) files) same breaks.begins))
-
-abbrev or_nothing : Option (List ℕ) → List ℕ
-or_nothing None = []
-or_nothing (Some bytes) = bytes
-
-parts : (names : List (List ℕ)) (some contents : ℕ → List ℕ) →
-    ((k : ℕ) → k < length names → IsPrefix (some k) (contents k)) → IsPart (named names some) (named names contents)
-parts [] some contents h = tt
-parts (name ∷ names) some contents h =
-    (refl, h 0 (omega arith), parts names (λ k. some (suc k)) (λ k. contents (suc k)) (λ k within. h (suc k) (omega (arith, within))))
-
--- files of which each holds a first part were all begun
-all_begun : (names : List (List ℕ)) (contents : ℕ → List ℕ) (m : Files) (after : Option Files) → Framed names (Some m) after → BeginsOn names contents after
-    → AllBegun (named names contents) m after
-all_begun names contents m after framed begins =
-    let front : ℕ → List ℕ = λ k. or_nothing (file begins.now (name_of names k)) in
-    let x = framed.others m refl in
-    record {
-      stands = named names front;
-      names = names-named names front ∙ sym (names-named names contents);
-      is_part = parts names front contents (λ k within.
-          let b = begins.begins k within in subst (λ l. IsPrefix l (contents k)) (sym (ap or_nothing b.there)) b.part);
-      after_is = x.1 ∙ ap Some (all_laid names front m x.0
-          (λ k within.
-          let b = begins.begins k within in
-          ap (λ f. file f (name_of names k)) (same_some x.0 begins.now after x.1 begins.told) ∙ b.there ∙ ap Some (sym (ap or_nothing b.there)))
-          x.2);
-    }
 
 -- a run whose read failed among its lines had begun its files
 pub broken_begun : (t : Network) (all : List (List ℕ)) (begun : Option (List ℕ)) (lines : List Line) (found names : List (List ℕ)) (base : Files)

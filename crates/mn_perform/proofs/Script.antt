@@ -1,6 +1,7 @@
 -- From line to line of a script.
-use Rattle.std.proofs.Common.{◌≡◌, ℕ, ◌+◌, ◌<◌, zero, suc, Bool, true, false, List, [], ◌∷◌, length, drop, get_or, Option, Result, Ok, Err, refl, sym}
-use Rattle.std.proofs.Common.{◌∙◌, ap, subst, arith}
+use Rattle.std.proofs.Common.{◌≡◌, ℕ, ◌+◌, ◌<◌, Bool, true, false, List, [], ◌∷◌, length, drop, get_or, Option, Result, Ok, Err, refl, sym}
+use Rattle.std.proofs.lemmas.List.{drop_more}
+use Rattle.std.proofs.Common.{◌∙◌, ap, subst}
 use Rattle.mn_edge.specs.Files.{Files}
 use Rattle.mn_edge.specs.KeptLaws.{begins_on_more}
 use Rattle.mn_topo.specs.Network.{Network}
@@ -19,10 +20,7 @@ use Rattle.mn_perform.proofs.Growing.{Grows, script_grows, contents_first, prefi
 
 -- a line, and those after it
 pub drop_at : (lines : List Line) (i : ℕ) (line : Line) → i < length lines → line ≡ get_or lines i line → drop i lines ≡ line ∷ drop (i + 1) lines
-drop_at [] i line within is = absurd (omega arith)
-drop_at (l ∷ ls) zero line within is = ap (λ x. x ∷ ls) (sym is)
-drop_at (l ∷ ls) (suc i) line within is =
-    drop_at ls i line (omega (arith, within)) is ∙ ap (λ n. line ∷ drop n (l ∷ ls)) (let e : suc (i + 1) ≡ suc i + 1 = omega arith in e)
+drop_at lines i line within is = drop_more lines i line within ∙ ap (λ x. x ∷ drop (i + 1) lines) (sym is)
 
 unstopped : (b : Bool) (now later : Expansion) → b ≡ false → unless_stopped b now later ≡ later
 unstopped false now later h = refl

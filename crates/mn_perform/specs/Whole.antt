@@ -2,7 +2,7 @@
 use Rattle.std.specs.Prelude.{◌≡◌, ◌⊎◌, ℕ, cond, List, ◌++◌, map, Option, Some, Result, Ok, Err, codes, ⊤}
 use Rattle.std.specs.Option.{ForSome}
 use Rattle.mn_edge.specs.Files.{Files, file}
-use Rattle.mn_edge.specs.Written.{laid, IsPart, PartWritten}
+use Rattle.mn_edge.specs.Written.{laid, PartWritten, AllBegun}
 use Rattle.mn_topo.specs.Network.{Network}
 use Rattle.mn_topo.specs.declared.steps.JournalEntry.{JournalEntry}
 use Rattle.mn_script.specs.declared.command.Line.{Line}
@@ -44,13 +44,6 @@ FilesOf answer m after (Err fault) = PartWritten answer.files m after
 -- the same where only its packets and the shelf are asked for
 abbrev pub ForPackets : (List (List ℕ) → Files → Type 0) → CaptureView → Option Files → Type 0
 ForPackets P capture files = ForSome files (λ m. ForSome (file m capture.name) (λ bytes. P (packets_in capture bytes) m))
-
--- each of the files was begun: it has a first part of its bytes, and no other file has changed
-pub record AllBegun (files : List (List ℕ × List ℕ)) (m : Files) (after : Option Files) : Type 0 where
-  pub stands : List (List ℕ × List ℕ)
-  pub names : map (λ f. f.0) stands ≡ map (λ f. f.0) files
-  pub is_part : IsPart stands files
-  pub after_is : after ≡ Some (laid stands m)
 
 -- the files of a run while its lines are played, in order: no label is written yet
 abbrev pub running : List ℕ → Network → List (List ℕ) → List JournalEntry → List (List ℕ × List ℕ)

@@ -1,5 +1,6 @@
 use Rattle.mn_lines.proofs.Putting.{part_of, part_of_more}
-use Rattle.mn_perform.proofs.Ending.{whole_part, sink_reads_none, write_reads_none}
+use Rattle.mn_edge.specs.Laid.{whole_part}
+use Rattle.mn_perform.proofs.Ending.{sink_reads_none, write_reads_none}
 use Rattle.mn_course_laws.specs.Course.{inputs_of}
 use Rattle.mn_perform.proofs.Results.{err, err_is}
 use Rattle.std.proofs.lemmas.Result.{err_from_is_err_and}
