@@ -10,18 +10,6 @@ use Rattle.mn_join_run.specs.Inside.{is_inside}
 use Rattle.mn_run.specs.declared.words.Job.TheVariants.{Run, Check, Flood, Reflect, Join, Generate}
 use Rattle.mn_run.specs.Words.{word, is_run, is_check, is_flood, is_reflect, is_join, generator_number, generating, job_of}
 
-pub is_five : (n : ℕ) → (n == 5) ≡ true → n ≡ 5
-is_five n h = grind (arith, nat_tests)
-
-pub is_seven : (n : ℕ) → (n == 7) ≡ true → n ≡ 7
-is_seven n h = grind (arith, nat_tests)
-
-pub is_three : (n : ℕ) → (n == 3) ≡ true → n ≡ 3
-is_three n h = grind (arith, nat_tests)
-
-pub is_two : (n : ℕ) → (n == 2) ≡ true → n ≡ 2
-is_two n h = grind (arith, nat_tests)
-
 -- the capture of a run lies outside its folder
 pub apart : (words : List (List ℕ)) → is_run words ≡ true → is_inside (word words 3) (word words 4) ≡ false
 apart words run =
@@ -49,33 +37,14 @@ joined_apart words join =
     outside false false false true true h = cc
     outside false false false false true h = cc
 
--- seven words are those of two joined networks where the first is `join` and no input lies in the folder
-abbrev joined : ℕ → Bool → (one two three four five six : List ℕ) → Bool
-joined n is_named one two three four five six =
-    (n == 7) && (is_named && not (is_inside one six || (is_inside two six || (is_inside three six || (is_inside four six || is_inside five six)))))
+-- the generator's words are two, so none of a run, of a flood, of reflected routes or of two joined networks
+no_number : (k n : ℕ) (a b : Bool) (x : Option ℕ) (number : ℕ) → (k == 2) ≡ false → ((n == k) && a) ≡ true → (if (n == 2) && b then x else None) ≡ Some number → ⊥
+no_number k n a b x number other h e =
+    let many : (n == k) ≡ true = and_left (n == k) a h in
+    let is : n ≡ k = grind (arith, nat_tests) in
+    let none : None ≡ Some number = sym (ap (λ two. if two && b then x else None) (ap (λ n. n == 2) is ∙ other)) ∙ e in cc
 
-pub join_said : (ws : List (List ℕ)) (one two three four five six : List ℕ) → length ws ≡ 7 → pointwise nat_eq (word ws 0) (codes "join") ≡ true →
-    word ws 1 ≡ one → word ws 2 ≡ two → word ws 3 ≡ three → word ws 4 ≡ four → word ws 5 ≡ five → word ws 6 ≡ six →
-    is_join ws ≡ not (is_inside one six || (is_inside two six || (is_inside three six || (is_inside four six || is_inside five six))))
-join_said ws one two three four five six seven named a b c d e f =
-    ap (λ n. joined n (pointwise nat_eq (word ws 0) (codes "join")) (word ws 1) (word ws 2) (word ws 3) (word ws 4) (word ws 5) (word ws 6)) seven
-    ∙ ap (λ is. joined 7 is (word ws 1) (word ws 2) (word ws 3) (word ws 4) (word ws 5) (word ws 6)) named
-    ∙ ap (λ w. joined 7 true w (word ws 2) (word ws 3) (word ws 4) (word ws 5) (word ws 6)) a
-    ∙ ap (λ w. joined 7 true one w (word ws 3) (word ws 4) (word ws 5) (word ws 6)) b
-    ∙ ap (λ w. joined 7 true one two w (word ws 4) (word ws 5) (word ws 6)) c
-    ∙ ap (λ w. joined 7 true one two three w (word ws 5) (word ws 6)) d
-    ∙ ap (λ w. joined 7 true one two three four w (word ws 6)) e
-    ∙ ap (joined 7 true one two three four five) f
-
--- the generator's words are none of a run, of a check, of a flood, of reflected routes or of two joined networks
-no_number_run : (words : List (List ℕ)) (number : ℕ) → is_run words ≡ true → generator_number words ≡ Some number → ⊥
-no_number_run words number run is = not_both (length words) _ _ (number_up_to (word words 1) 99) run is
-  where
-    not_both : (n : ℕ) (a b : Bool) (x : Option ℕ) → ((n == 5) && a) ≡ true → (if (n == 2) && b then x else None) ≡ Some number → ⊥
-    not_both n a b x h e =
-        let five : n ≡ 5 = is_five n (and_left (n == 5) a h) in
-        let none : None ≡ Some number = sym (ap (λ n. if (n == 2) && b then x else None) five) ∙ e in cc
-
+-- nor are they those of a check
 no_number_check : (words : List (List ℕ)) (number : ℕ) → is_check words ≡ true → generator_number words ≡ Some number → ⊥
 no_number_check words number check is = not_both (length words == 2) (word words 0) (number_up_to (word words 1) 99) (and_right (length words == 2) _ check) is
   where
@@ -85,38 +54,16 @@ no_number_check words number check is = not_both (length words == 2) (word words
         let none : None ≡ Some number = sym (ap (λ w. if pointwise nat_eq w (codes "generate") then x else None) (text-eq w (codes "check") h)) ∙ e in cc
     not_both false w x h e = let none : None ≡ Some number = e in cc
 
-no_number_flood : (words : List (List ℕ)) (number : ℕ) → is_flood words ≡ true → generator_number words ≡ Some number → ⊥
-no_number_flood words number flood is = not_both (length words) _ _ (number_up_to (word words 1) 99) flood is
-  where
-    not_both : (n : ℕ) (a b : Bool) (x : Option ℕ) → ((n == 3) && a) ≡ true → (if (n == 2) && b then x else None) ≡ Some number → ⊥
-    not_both n a b x h e =
-        let three : n ≡ 3 = is_three n (and_left (n == 3) a h) in
-        let none : None ≡ Some number = sym (ap (λ n. if (n == 2) && b then x else None) three) ∙ e in cc
-
-no_number_reflect : (words : List (List ℕ)) (number : ℕ) → is_reflect words ≡ true → generator_number words ≡ Some number → ⊥
-no_number_reflect words number reflect is = not_both (length words) _ _ (number_up_to (word words 1) 99) reflect is
-  where
-    not_both : (n : ℕ) (a b : Bool) (x : Option ℕ) → ((n == 3) && a) ≡ true → (if (n == 2) && b then x else None) ≡ Some number → ⊥
-    not_both n a b x h e =
-        let three : n ≡ 3 = is_three n (and_left (n == 3) a h) in
-        let none : None ≡ Some number = sym (ap (λ n. if (n == 2) && b then x else None) three) ∙ e in cc
-
-no_number_join : (words : List (List ℕ)) (number : ℕ) → is_join words ≡ true → generator_number words ≡ Some number → ⊥
-no_number_join words number join is = not_both (length words) _ _ (number_up_to (word words 1) 99) join is
-  where
-    not_both : (n : ℕ) (a b : Bool) (x : Option ℕ) → ((n == 7) && a) ≡ true → (if (n == 2) && b then x else None) ≡ Some number → ⊥
-    not_both n a b x h e =
-        let seven : n ≡ 7 = is_seven n (and_left (n == 7) a h) in
-        let none : None ≡ Some number = sym (ap (λ n. if (n == 2) && b then x else None) seven) ∙ e in cc
-
 -- words with a number ask for its run
 pub number_job : (words : List (List ℕ)) (number : ℕ) → generator_number words ≡ Some number → job_of words ≡ Generate number
 number_job words number is =
-    by (is_run words) (is_check words) (is_flood words) (is_reflect words) (is_join words) (λ run. no_number_run words number run is)
-    (λ check. no_number_check words number check is) (λ flood. no_number_flood words number flood is)
-    (λ reflect. no_number_reflect words number reflect is) (λ join. no_number_join words number join is)
+    by (is_run words) (is_check words) (is_flood words) (is_reflect words) (is_join words) (λ run. other 5 refl _ run)
+    (λ check. no_number_check words number check is) (λ flood. other 3 refl _ flood) (λ reflect. other 3 refl _ reflect) (λ join. other 7 refl _ join)
     ∙ ap generating is
   where
+    other : (k : ℕ) → (k == 2) ≡ false → (a : Bool) → ((length words == k) && a) ≡ true → ⊥
+    other k differs a h = no_number k (length words) a _ (number_up_to (word words 1) 99) number differs h is
+
     by : (run check flood reflect join : Bool) → (run ≡ true → ⊥) → (check ≡ true → ⊥) → (flood ≡ true → ⊥) → (reflect ≡ true → ⊥) → (join ≡ true → ⊥) →
         (if run then Run else if check then Check else if flood then Flood else if reflect then Reflect else if join then Join else
         generating (generator_number words)) ≡ generating (generator_number words)

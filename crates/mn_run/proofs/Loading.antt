@@ -1,9 +1,6 @@
 -- The answer, input by input.
-use Rattle.std.proofs.Common.{◌≡◌, ℕ, ◌<◌, true, List, length, get_or, [], String, Global, string_bytes, Some, Result, Ok, Err, sym, ◌∙◌, ap, subst}
-use Rattle.std.proofs.lemmas.List.{get_or-map, length-map}
-use Rattle.mn_base.proofs.Bools.{and_left}
-use Rattle.mn_edge.specs.Written.{texts}
-use Rattle.mn_run.specs.Words.{word, is_run, is_check, is_flood, is_reflect, is_join}
+use Rattle.std.proofs.Common.{◌≡◌, ℕ, List, Some, Result, Ok, Err, sym, ◌∙◌, ap, subst}
+use Rattle.mn_run.specs.Words.{word}
 use Rattle.mn_edge.specs.Files.{Files, file}
 use Rattle.mn_topo.specs.Network.{Network}
 use Rattle.mn_capture.specs.Packets.{packets_in}
@@ -12,30 +9,6 @@ use Rattle.mn_answer.specs.declared.outcome.Outcome.{Outcome}
 use Rattle.mn_run.specs.Answer.{run_done, answer_over, run_over}
 use Rattle.mn_answer.specs.Inputs.{TopologyIs}
 use Rattle.mn_run.specs.Jobs.{OverIs, LoadedIs, AreOver, AreRead}
-use Rattle.mn_run.proofs.Forms.{is_two, is_three, is_five, is_seven}
-
-pub word_at : (words : List (String Global)) (i : ℕ) (s : String Global) (name : List ℕ) → i < length words → s ≡ get_or words i s → name ≡ string_bytes s →
-    word (texts words) i ≡ name
-word_at words i s name within is text = get_or-map string_bytes words i s [] within ∙ ap string_bytes (sym is) ∙ sym text
-
--- a run has five words
-pub run_len : (words : List (String Global)) → is_run (texts words) ≡ true → length words ≡ 5
-run_len words h = rw length-map at (is_five (length (texts words)) (and_left _ _ h))
-
--- a check has two words
-pub check_len : (words : List (String Global)) → is_check (texts words) ≡ true → length words ≡ 2
-check_len words h = rw length-map at (is_two (length (texts words)) (and_left _ _ h))
-
--- a flood has three words, and so have reflected routes
-pub flood_len : (words : List (String Global)) → is_flood (texts words) ≡ true → length words ≡ 3
-flood_len words h = rw length-map at (is_three (length (texts words)) (and_left _ _ h))
-
-pub reflect_len : (words : List (String Global)) → is_reflect (texts words) ≡ true → length words ≡ 3
-reflect_len words h = rw length-map at (is_three (length (texts words)) (and_left _ _ h))
-
--- two joined networks have seven words
-pub join_len : (words : List (String Global)) → is_join (texts words) ≡ true → length words ≡ 7
-join_len words h = rw length-map at (is_seven (length (texts words)) (and_left _ _ h))
 
 -- a topology, and what was read over it
 pub loaded : (t : Network) (topology script capture : List ℕ) (files : Files) (l : Result Inputs Outcome) → TopologyIs (file files topology) (Ok t) →

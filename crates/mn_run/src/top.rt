@@ -10,7 +10,7 @@ ghost use Rattle.mn_run.specs.Jobs.{ForDone, outcome_of};
 use crate::check::check_line;
 use crate::generate::generate;
 use crate::load::{Inputs, load};
-use crate::words::{Job, parse_job};
+use crate::words::{Job, parse_job, word};
 use mn_answer::{Limit, Outcome, load_topology, put_line, refuse};
 use mn_base::MOST_STEPS;
 use mn_edge::{DeviceBad, Shelf, Sink};
@@ -107,14 +107,8 @@ fn run<S: Shelf, O: Sink>(alloc: Global, words: &[String], shelf: &mut S, out: &
         (S.read_faults shelf.new, S.write_faults shelf.new, O.faults out.new) result }
     ensures usage { result ≢ Outcome.Usage }
 {
-    let folder = words[4].as_str();
-    match load(
-        alloc,
-        words[1].as_str(),
-        words[2].as_str(),
-        words[3].as_str(),
-        shelf,
-    ) {
+    let folder = word(words, 4);
+    match load(alloc, word(words, 1), word(words, 2), word(words, 3), shelf) {
         Ok(Ok(inputs)) => {
             inputs.topology.laws();
             run_inputs(alloc, inputs, folder, shelf, out)
@@ -186,7 +180,7 @@ fn check<S: Shelf, O: Sink>(alloc: Global, words: &[String], shelf: &mut S, out:
         (S.read_faults shelf.new, S.write_faults shelf.new, O.faults out.new) result }
     ensures usage { result ≢ Outcome.Usage }
 {
-    match load_topology(alloc, words[1].as_str(), shelf) {
+    match load_topology(alloc, word(words, 1), shelf) {
         Ok(Ok(topology)) => tell(alloc, &topology, out),
         Ok(Err(outcome)) => refuse(alloc, out, outcome),
         Err(DeviceBad::Failed) => Outcome::ReadFault,
@@ -220,7 +214,7 @@ fn flood<S: Shelf, O: Sink>(alloc: Global, words: &[String], shelf: &mut S, out:
         (S.read_faults shelf.new, S.write_faults shelf.new, O.faults out.new) result }
     ensures usage { result ≢ Outcome.Usage }
 {
-    mn_flood_run::flood(alloc, words[1].as_str(), words[2].as_str(), shelf, out)
+    mn_flood_run::flood(alloc, word(words, 1), word(words, 2), shelf, out)
 }
 
 /// Reflects routes by a script, by the words `reflect TOPOLOGY SCRIPT`.
@@ -237,7 +231,7 @@ fn reflect<S: Shelf, O: Sink>(
         (S.read_faults shelf.new, S.write_faults shelf.new, O.faults out.new) result }
     ensures usage { result ≢ Outcome.Usage }
 {
-    mn_reflect_run::reflect(alloc, words[1].as_str(), words[2].as_str(), shelf, out)
+    mn_reflect_run::reflect(alloc, word(words, 1), word(words, 2), shelf, out)
 }
 
 /// Plays a script on two joined networks, by the words `join TOPOLOGY1 TOPOLOGY2 JOINTS SCRIPT CAPTURE FOLDER`.
@@ -251,12 +245,12 @@ fn join<S: Shelf, O: Sink>(alloc: Global, words: &[String], shelf: &mut S, out: 
 {
     mn_join_run::join(
         alloc,
-        words[1].as_str(),
-        words[2].as_str(),
-        words[3].as_str(),
-        words[4].as_str(),
-        words[5].as_str(),
-        words[6].as_str(),
+        word(words, 1),
+        word(words, 2),
+        word(words, 3),
+        word(words, 4),
+        word(words, 5),
+        word(words, 6),
         shelf,
         out,
     )

@@ -1,8 +1,8 @@
 //! The words of the command line.
-ghost use Rattle.std.specs.Prelude.{◌≡◌, ◌≤◌, ◌||◌, IfSome};
+ghost use Rattle.std.specs.Prelude.{◌≡◌, ◌≤◌, IfSome};
 ghost use Rattle.mn_edge.specs.Written.{texts};
 ghost use Rattle.mn_join_run.specs.Inside.{is_inside};
-ghost use Rattle.mn_run.specs.Words.{is_run, is_check, is_flood, is_reflect, is_join, generator_number, job_of, IsForm};
+ghost use Rattle.mn_run.specs.Words.{word, is_run, is_check, is_flood, is_reflect, is_join, generator_number, job_of, IsForm};
 
 use mn_text::number_up_to;
 
@@ -26,6 +26,16 @@ pub(crate) enum Job {
     Generate(u32),
     /// Nothing that the program does.
     Nothing,
+}
+
+/// The word at a place, from 0; the empty one where there is none.
+pub(crate) fn word(words: &[String], place: usize) -> &str
+    ensures { result.now ≡ word (texts words.now) place }
+{
+    match words.get(place) {
+        Some(word) => word.as_str(),
+        None => "",
+    }
 }
 
 /// What the words ask for.
@@ -55,85 +65,49 @@ pub(crate) fn parse_job(words: &[String]) -> Job
 fn is_run(words: &[String]) -> bool
     ensures { result ≡ is_run (texts words.now) }
 {
-    let [command, topology, script, capture, folder] = words else {
-        return false;
-    };
-    if command.as_str() != "run" {
+    if words.len() != 5 || word(words, 0) != "run" {
         return false;
     }
-    let folder = folder.as_str();
-    !(is_inside(topology.as_str(), folder)
-        || is_inside(script.as_str(), folder)
-        || is_inside(capture.as_str(), folder))
+    let folder = word(words, 4);
+    !(is_inside(word(words, 1), folder)
+        || is_inside(word(words, 2), folder)
+        || is_inside(word(words, 3), folder))
 }
 
 /// Whether the words are `check TOPOLOGY`.
 fn is_check(words: &[String]) -> bool
     ensures { result ≡ is_check (texts words.now) }
 {
-    let [command, _] = words else {
-        return false;
-    };
-    command.as_str() == "check"
+    words.len() == 2 && word(words, 0) == "check"
 }
 
 /// Whether the words are `flood TOPOLOGY SCRIPT`.
 fn is_flood(words: &[String]) -> bool
     ensures { result ≡ is_flood (texts words.now) }
 {
-    let [command, _, _] = words else {
-        return false;
-    };
-    command.as_str() == "flood"
+    words.len() == 3 && word(words, 0) == "flood"
 }
 
 /// Whether the words are `reflect TOPOLOGY SCRIPT`.
 fn is_reflect(words: &[String]) -> bool
     ensures { result ≡ is_reflect (texts words.now) }
 {
-    let [command, _, _] = words else {
-        return false;
-    };
-    command.as_str() == "reflect"
+    words.len() == 3 && word(words, 0) == "reflect"
 }
 
 /// Whether the words are `join TOPOLOGY1 TOPOLOGY2 JOINTS SCRIPT CAPTURE FOLDER`, and no input lies in the folder that is written.
 fn is_join(words: &[String]) -> bool
     ensures { result ≡ is_join (texts words.now) }
 {
-    let [command, first, second, joints, script, capture, folder] = words else {
-        return false;
-    };
-    if command.as_str() != "join" {
+    if words.len() != 7 || word(words, 0) != "join" {
         return false;
     }
-    !is_any_inside(
-        first.as_str(),
-        second.as_str(),
-        joints.as_str(),
-        script.as_str(),
-        capture.as_str(),
-        folder.as_str(),
-    )
-}
-
-/// Whether one of the five inputs lies in the folder.
-fn is_any_inside(
-    first: &str,
-    second: &str,
-    joints: &str,
-    script: &str,
-    capture: &str,
-    folder: &str,
-) -> bool
-    ensures { result ≡ (is_inside first.now folder.now || (is_inside second.now folder.now || (is_inside joints.now folder.now
-        || (is_inside script.now folder.now || is_inside capture.now folder.now)))) }
-{
-    is_inside(first, folder)
-        || is_inside(second, folder)
-        || is_inside(joints, folder)
-        || is_inside(script, folder)
-        || is_inside(capture, folder)
+    let folder = word(words, 6);
+    !(is_inside(word(words, 1), folder)
+        || is_inside(word(words, 2), folder)
+        || is_inside(word(words, 3), folder)
+        || is_inside(word(words, 4), folder)
+        || is_inside(word(words, 5), folder))
 }
 
 /// The number of `generate NUMBER`, from 0 to 99.
@@ -141,13 +115,10 @@ fn generator_number(words: &[String]) -> Option<u32>
     ensures number { result ≡ generator_number (texts words.now) }
     ensures small { IfSome result (λ number. number ≤ 99) }
 {
-    let [command, number] = words else {
-        return None;
-    };
-    if command.as_str() != "generate" {
+    if words.len() != 2 || word(words, 0) != "generate" {
         return None;
     }
-    match number_up_to(number.as_bytes(), MOST_NUMBER) {
+    match number_up_to(word(words, 1).as_bytes(), MOST_NUMBER) {
         Some(number) => Some(number as u32),
         None => None,
     }

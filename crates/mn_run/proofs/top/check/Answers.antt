@@ -1,34 +1,26 @@
-use Rattle.std.proofs.Common.{◌≡◌, Some, Ok, Err, length, ap, refl, sym, ◌∙◌, subst, arith}
+use Rattle.std.proofs.Common.{Some, Ok, Err, ap, refl, sym, ◌∙◌, subst}
 use Rattle.mn_edge.specs.Files.{file}
 use Rattle.mn_edge.specs.Written.{texts}
 use Rattle.mn_answer.specs.Answer.{with_topology}
 use Rattle.mn_answer.specs.Inputs.{TopologyIs}
 use Rattle.mn_answer.proofs.Ending.{sink_caused, caused_read}
 use Rattle.mn_run.specs.declared.words.Job.TheVariants.{Check}
-use Rattle.mn_run.specs.Words.{word}
 use Rattle.mn_run.specs.Answer.{checked}
 use Rattle.mn_run.proofs.Doing.{check_makes_none, check_ends, refusal_ends, fault_ends, memory_ends}
-use Rattle.mn_run.proofs.Loading.{word_at, check_len}
 use Rattle.mn_run.proofs.top.check.Goals as goal
 
 pub returns-in-Ok-Ok-clause-ends : goal.returns-in-Ok-Ok-clause-ends
 returns-in-Ok-Ok-clause-ends g c =
-    let two : length c.args.words.now ≡ 2 = check_len c.args.words.now c.requires in
-    let name : word (texts c.args.words.now) 1 ≡ c.as_str.result.now =
-    word_at c.args.words.now 1 c.index-words-1.result c.as_str.result.now (omega (arith, two)) c.index-words-1.is c.as_str.ensures.value in
     check_ends (texts c.args.words.now) c.in-Ok-Ok.topology _ _ _ _ _ _ c.tell.result
-    (λ m is. subst (λ n. TopologyIs (file m n) (Ok c.in-Ok-Ok.topology)) (sym name)
-    (subst (TopologyIs (file m c.as_str.result.now)) c.in-Ok-Ok.field-0-is (c.in-Ok-Ok.ensures.answer m is)))
+    (λ m is. subst (λ n. TopologyIs (file m n) (Ok c.in-Ok-Ok.topology)) c.word.ensures
+    (subst (TopologyIs (file m c.word.result.now)) c.in-Ok-Ok.field-0-is (c.in-Ok-Ok.ensures.answer m is)))
     c.load_topology.ensures.same c.tell.ensures.outcome c.tell.ensures.text c.tell.ensures.cause
 
 pub returns-in-Ok-Err-clause-ends : goal.returns-in-Ok-Err-clause-ends
 returns-in-Ok-Err-clause-ends g c =
-    let two : length c.args.words.now ≡ 2 = check_len c.args.words.now c.requires in
-    let name : word (texts c.args.words.now) 1 ≡ c.as_str.result.now =
-    word_at c.args.words.now 1 c.index-words-1.result c.as_str.result.now (omega (arith, two)) c.index-words-1.is c.as_str.ensures.value in
     refusal_ends Check (texts c.args.words.now) c.in-Ok-Err.outcome _ _ _ _ _ _ c.refuse.result check_makes_none
-    (λ m is. subst (λ n. TopologyIs (file m n) (Err c.in-Ok-Err.outcome)) (sym name)
-    (subst (TopologyIs (file m c.as_str.result.now)) c.in-Ok-Err.field-0-is (c.in-Ok-Err.ensures.answer m is)) (λ t. Some (checked t)))
+    (λ m is. subst (λ n. TopologyIs (file m n) (Err c.in-Ok-Err.outcome)) c.word.ensures
+    (subst (TopologyIs (file m c.word.result.now)) c.in-Ok-Err.field-0-is (c.in-Ok-Err.ensures.answer m is)) (λ t. Some (checked t)))
     c.load_topology.ensures.same c.refuse.ensures.outcome c.refuse.ensures.text c.refuse.ensures.cause c.refuse.ensures.undone
 
 pub returns-in-Err-Failed-clause-ends : goal.returns-in-Err-Failed-clause-ends
@@ -45,8 +37,5 @@ returns-in-Ok-Err-clause-cause g c = sink_caused _ _ _ c.refuse.result c.in-Ok-E
 
 pub returns-in-Err-Failed-clause-cause : goal.returns-in-Err-Failed-clause-cause
 returns-in-Err-Failed-clause-cause g c =
-    let two : length c.args.words.now ≡ 2 = check_len c.args.words.now c.requires in
-    let name : word (texts c.args.words.now) 1 ≡ c.as_str.result.now =
-    word_at c.args.words.now 1 c.index-words-1.result c.as_str.result.now (omega (arith, two)) c.index-words-1.is c.as_str.ensures.value in
     caused_read _ _ _ _ c.load_topology.ensures.writes refl
-    (λ absent m is. ap (λ input. with_topology input (λ t. Some (checked t))) (ap (file m) name ∙ absent m is)) (rw c.in-Err-Failed.field-0-is at c.in-Err-Failed.ensures.reads)
+    (λ absent m is. ap (λ input. with_topology input (λ t. Some (checked t))) (ap (file m) (sym c.word.ensures) ∙ absent m is)) (rw c.in-Err-Failed.field-0-is at c.in-Err-Failed.ensures.reads)

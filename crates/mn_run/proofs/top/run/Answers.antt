@@ -1,4 +1,4 @@
-use Rattle.std.proofs.Common.{◌≡◌, Ok, Err, length, refl, sym, ◌∙◌, ap, subst, arith}
+use Rattle.std.proofs.Common.{Ok, Err, refl, sym, ◌∙◌, ap, subst}
 use Rattle.std.specs.Prelude.{is_some}
 use Rattle.mn_edge.specs.Files.{file}
 use Rattle.mn_edge.specs.Written.{texts}
@@ -10,54 +10,33 @@ use Rattle.mn_answer.proofs.Ending.{caused_after, sink_caused, caused_read}
 use Rattle.mn_run.specs.Jobs.{AreRead, LoadedIs, InputsFit, ForDone}
 use Rattle.mn_run.proofs.Doing.{run_makes_none, run_ends, refusal_ends, fault_ends, memory_ends}
 use Rattle.mn_run.proofs.Forms.{apart}
-use Rattle.mn_run.proofs.Loading.{word_at, run_len, loaded_by_words}
+use Rattle.mn_run.proofs.Loading.{loaded_by_words}
 use Rattle.mn_run.proofs.top.run.Goals as goal
 
 pub run_inputs-requires-clause-apart : goal.run_inputs-requires-clause-apart
 run_inputs-requires-clause-apart g c =
-    let five : length c.args.words.now ≡ 5 = run_len c.args.words.now c.requires in
-    let three : word (texts c.args.words.now) 3 ≡ c.as_str-3.result.now =
-    word_at c.args.words.now 3 c.index-words-3.result c.as_str-3.result.now (omega (arith, five)) c.index-words-3.is c.as_str-3.ensures.value in
-    let four : word (texts c.args.words.now) 4 ≡ c.as_str-folder.result.now =
-    word_at c.args.words.now 4 c.index-words-4.result c.as_str-folder.result.now (omega (arith, five)) c.index-words-4.is c.as_str-folder.ensures.value in
-    let fit : InputsFit c.as_str-3.result.now (Ok c.in-Ok-Ok.inputs) = subst (InputsFit c.as_str-3.result.now) c.in-Ok-Ok.field-0-is c.in-Ok-Ok.ensures.fits in
-    ap (λ name. is_inside name c.as_str-folder.result.now) (fit.2 ∙ sym three) ∙ ap (is_inside (word (texts c.args.words.now) 3)) (sym four)
+    let fit : InputsFit c.word-3.result.now (Ok c.in-Ok-Ok.inputs) = subst (InputsFit c.word-3.result.now) c.in-Ok-Ok.field-0-is c.in-Ok-Ok.ensures.fits in
+    ap (λ name. is_inside name c.word-folder.result.now) (fit.2 ∙ c.word-3.ensures) ∙ ap (is_inside (word (texts c.args.words.now) 3)) c.word-folder.ensures
     ∙ apart (texts c.args.words.now) c.requires
 
 pub returns-in-Ok-Ok-clause-ends : goal.returns-in-Ok-Ok-clause-ends
 returns-in-Ok-Ok-clause-ends g c =
-    let five : length c.args.words.now ≡ 5 = run_len c.args.words.now c.requires in
-    let one : word (texts c.args.words.now) 1 ≡ c.as_str.result.now =
-    word_at c.args.words.now 1 c.index-words-1.result c.as_str.result.now (omega (arith, five)) c.index-words-1.is c.as_str.ensures.value in
-    let two : word (texts c.args.words.now) 2 ≡ c.as_str-2.result.now =
-    word_at c.args.words.now 2 c.index-words-2.result c.as_str-2.result.now (omega (arith, five)) c.index-words-2.is c.as_str-2.ensures.value in
-    let three : word (texts c.args.words.now) 3 ≡ c.as_str-3.result.now =
-    word_at c.args.words.now 3 c.index-words-3.result c.as_str-3.result.now (omega (arith, five)) c.index-words-3.is c.as_str-3.ensures.value in
-    let four : word (texts c.args.words.now) 4 ≡ c.as_str-folder.result.now =
-    word_at c.args.words.now 4 c.index-words-4.result c.as_str-folder.result.now (omega (arith, five)) c.index-words-4.is c.as_str-folder.ensures.value in
-    let fit : InputsFit c.as_str-3.result.now (Ok c.in-Ok-Ok.inputs) = subst (InputsFit c.as_str-3.result.now) c.in-Ok-Ok.field-0-is c.in-Ok-Ok.ensures.fits in
+    let fit : InputsFit c.word-3.result.now (Ok c.in-Ok-Ok.inputs) = subst (InputsFit c.word-3.result.now) c.in-Ok-Ok.field-0-is c.in-Ok-Ok.ensures.fits in
     run_ends (texts c.args.words.now) c.in-Ok-Ok.inputs _ _ _ _ c.run_inputs.result
-    (λ m is. loaded_by_words (texts c.args.words.now) _ _ _ m (Ok c.in-Ok-Ok.inputs) one two three
-    (subst (LoadedIs c.as_str.result.now c.as_str-2.result.now c.as_str-3.result.now m) c.in-Ok-Ok.field-0-is (c.in-Ok-Ok.ensures.answer m is)))
-    (fit.2 ∙ sym three) c.laws.ensures fit.0 fit.1
+    (λ m is. loaded_by_words (texts c.args.words.now) _ _ _ m (Ok c.in-Ok-Ok.inputs) (sym c.word.ensures) (sym c.word-2.ensures) (sym c.word-3.ensures)
+    (subst (LoadedIs c.word.result.now c.word-2.result.now c.word-3.result.now m) c.in-Ok-Ok.field-0-is (c.in-Ok-Ok.ensures.answer m is)))
+    (fit.2 ∙ c.word-3.ensures) c.laws.ensures fit.0 fit.1
     (subst (λ n. ForDone (λ answer m. Answers answer m (g.S.Shelf.files c.run_inputs.new.shelf) (g.O.Sink.written c.args.out.now) (g.O.Sink.written c.run_inputs.new.out)
-    c.run_inputs.result) n c.in-Ok-Ok.inputs.topology c.in-Ok-Ok.inputs.lines.items c.in-Ok-Ok.inputs.capture (g.S.Shelf.files c.args.shelf.now)) (sym four)
+    c.run_inputs.result) n c.in-Ok-Ok.inputs.topology c.in-Ok-Ok.inputs.lines.items c.in-Ok-Ok.inputs.capture (g.S.Shelf.files c.args.shelf.now)) c.word-folder.ensures
     (subst (ForDone (λ answer m. Answers answer m (g.S.Shelf.files c.run_inputs.new.shelf) (g.O.Sink.written c.args.out.now) (g.O.Sink.written c.run_inputs.new.out)
-    c.run_inputs.result) c.as_str-folder.result.now c.in-Ok-Ok.inputs.topology c.in-Ok-Ok.inputs.lines.items c.in-Ok-Ok.inputs.capture) c.load.ensures.same
+    c.run_inputs.result) c.word-folder.result.now c.in-Ok-Ok.inputs.topology c.in-Ok-Ok.inputs.lines.items c.in-Ok-Ok.inputs.capture) c.load.ensures.same
     c.run_inputs.ensures.answers))
 
 pub returns-in-Ok-Err-clause-ends : goal.returns-in-Ok-Err-clause-ends
 returns-in-Ok-Err-clause-ends g c =
-    let five : length c.args.words.now ≡ 5 = run_len c.args.words.now c.requires in
-    let one : word (texts c.args.words.now) 1 ≡ c.as_str.result.now =
-    word_at c.args.words.now 1 c.index-words-1.result c.as_str.result.now (omega (arith, five)) c.index-words-1.is c.as_str.ensures.value in
-    let two : word (texts c.args.words.now) 2 ≡ c.as_str-2.result.now =
-    word_at c.args.words.now 2 c.index-words-2.result c.as_str-2.result.now (omega (arith, five)) c.index-words-2.is c.as_str-2.ensures.value in
-    let three : word (texts c.args.words.now) 3 ≡ c.as_str-3.result.now =
-    word_at c.args.words.now 3 c.index-words-3.result c.as_str-3.result.now (omega (arith, five)) c.index-words-3.is c.as_str-3.ensures.value in
     refusal_ends Run (texts c.args.words.now) c.in-Ok-Err.outcome _ _ _ _ _ _ c.refuse.result run_makes_none
-    (λ m is. loaded_by_words (texts c.args.words.now) _ _ _ m (Err c.in-Ok-Err.outcome) one two three
-    (subst (LoadedIs c.as_str.result.now c.as_str-2.result.now c.as_str-3.result.now m) c.in-Ok-Err.field-0-is (c.in-Ok-Err.ensures.answer m is))
+    (λ m is. loaded_by_words (texts c.args.words.now) _ _ _ m (Err c.in-Ok-Err.outcome) (sym c.word.ensures) (sym c.word-2.ensures) (sym c.word-3.ensures)
+    (subst (LoadedIs c.word.result.now c.word-2.result.now c.word-3.result.now m) c.in-Ok-Err.field-0-is (c.in-Ok-Err.ensures.answer m is))
     (word (texts c.args.words.now) 4))
     c.load.ensures.same c.refuse.ensures.outcome c.refuse.ensures.text c.refuse.ensures.cause c.refuse.ensures.undone
 
@@ -70,9 +49,9 @@ returns-in-Err-NoMemory-clause-ends g c = memory_ends Run (texts c.args.words.no
 pub run_inputs-requires-clause-there : goal.run_inputs-requires-clause-there
 run_inputs-requires-clause-there g c = λ m is.
     let before = sym c.load.ensures.same ∙ is in
-    let fit : InputsFit c.as_str-3.result.now (Ok c.in-Ok-Ok.inputs) = subst (InputsFit c.as_str-3.result.now) c.in-Ok-Ok.field-0-is c.in-Ok-Ok.ensures.fits in
-    let read : AreRead c.as_str.result.now c.as_str-2.result.now c.as_str-3.result.now m c.in-Ok-Ok.inputs =
-    subst (LoadedIs c.as_str.result.now c.as_str-2.result.now c.as_str-3.result.now m) c.in-Ok-Ok.field-0-is (c.in-Ok-Ok.ensures.answer m before) in
+    let fit : InputsFit c.word-3.result.now (Ok c.in-Ok-Ok.inputs) = subst (InputsFit c.word-3.result.now) c.in-Ok-Ok.field-0-is c.in-Ok-Ok.ensures.fits in
+    let read : AreRead c.word.result.now c.word-2.result.now c.word-3.result.now m c.in-Ok-Ok.inputs =
+    subst (LoadedIs c.word.result.now c.word-2.result.now c.word-3.result.now m) c.in-Ok-Ok.field-0-is (c.in-Ok-Ok.ensures.answer m before) in
     ap is_some (ap (file m) fit.2 ∙ read.over.there)
 
 pub returns-in-Ok-Ok-clause-cause : goal.returns-in-Ok-Ok-clause-cause
@@ -84,12 +63,5 @@ returns-in-Ok-Err-clause-cause g c = sink_caused _ _ _ c.refuse.result c.in-Ok-E
 
 pub returns-in-Err-Failed-clause-cause : goal.returns-in-Err-Failed-clause-cause
 returns-in-Err-Failed-clause-cause g c =
-    let five : length c.args.words.now ≡ 5 = run_len c.args.words.now c.requires in
-    let one : word (texts c.args.words.now) 1 ≡ c.as_str.result.now =
-    word_at c.args.words.now 1 c.index-words-1.result c.as_str.result.now (omega (arith, five)) c.index-words-1.is c.as_str.ensures.value in
-    let two : word (texts c.args.words.now) 2 ≡ c.as_str-2.result.now =
-    word_at c.args.words.now 2 c.index-words-2.result c.as_str-2.result.now (omega (arith, five)) c.index-words-2.is c.as_str-2.ensures.value in
-    let three : word (texts c.args.words.now) 3 ≡ c.as_str-3.result.now =
-    word_at c.args.words.now 3 c.index-words-3.result c.as_str-3.result.now (omega (arith, five)) c.index-words-3.is c.as_str-3.ensures.value in
     caused_read _ _ _ _ c.load.ensures.writes refl
-    (λ none m is. rw (one, two, three) (none (word (texts c.args.words.now) 4) m is)) (rw c.in-Err-Failed.field-0-is at c.in-Err-Failed.ensures.reads)
+    (λ none m is. rw (sym c.word.ensures, sym c.word-2.ensures, sym c.word-3.ensures) (none (word (texts c.args.words.now) 4) m is)) (rw c.in-Err-Failed.field-0-is at c.in-Err-Failed.ensures.reads)
