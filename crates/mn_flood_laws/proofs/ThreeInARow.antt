@@ -29,18 +29,7 @@ unfolding next
 to_pe2 = refl
 
 pub is_flooded : IsFlooded
-is_flooded = record {
-  joins = joins;
-  differ = apart;
-  five = refl;
-  six_leave_one = refl;
-  seven_end = refl;
-  bound = refl;
-  none_known = refl;
-  all_known = refl;
-  first_hop = to_pe2;
-  cost = refl;
-}
+is_flooded = assumption (joins, apart, to_pe2)
 
 pub are_run : AreRun
 unfolding every_hearing
