@@ -149,14 +149,7 @@ row-closed t a l m tick far active r (suc (suc n)) inside h = get_or-set_same r.
 pub message-off : (tick : ℕ) (m : Message) (st : Option LdpState) (far other : ℕ) (r : Resting) → other ≢ far → row_of (rested_by_message tick m st far r) other ≡ row_of r other
 message-off tick (Release g) st far other r d = get_or-set_other r.owed far other _ None d
 message-off tick KeepAlive (Some OpenRec) far other r d = get_or-set_other r.owed far other _ None d
-message-off tick KeepAlive (Some Initialized) far other r d = refl
-message-off tick KeepAlive (Some OpenSent) far other r d = refl
-message-off tick KeepAlive (Some Operational) far other r d = refl
-message-off tick KeepAlive None far other r d = refl
-message-off tick Initialization st far other r d = refl
-message-off tick Address st far other r d = refl
-message-off tick (Mapping fec) st far other r d = refl
-message-off tick (Withdraw fec) st far other r d = refl
+message-off tick _ _ far other r d = refl
 
 pub end-off : (tick : ℕ) (st : Option LdpState) (far other : ℕ) (r : Resting) → other ≢ far → row_of (rested_by_end tick st far r) other ≡ row_of r other
 end-off tick (Some Operational) far other r d = get_or-set_other r.owed far other _ None d
@@ -178,14 +171,7 @@ is-same r = record { owed = refl; rested = refl; life = refl }
 pub message-long : (tick : ℕ) (m : Message) (st : Option LdpState) (far : ℕ) (r : Resting) → IsLong r (rested_by_message tick m st far r)
 message-long tick (Release g) st far r = record { owed = length-set r.owed far _; rested = length-set r.rested g tick; life = refl }
 message-long tick KeepAlive (Some OpenRec) far r = record { owed = length-set r.owed far _; rested = refl; life = refl }
-message-long tick KeepAlive (Some Initialized) far r = is-same r
-message-long tick KeepAlive (Some OpenSent) far r = is-same r
-message-long tick KeepAlive (Some Operational) far r = is-same r
-message-long tick KeepAlive None far r = is-same r
-message-long tick Initialization st far r = is-same r
-message-long tick Address st far r = is-same r
-message-long tick (Mapping fec) st far r = is-same r
-message-long tick (Withdraw fec) st far r = is-same r
+message-long tick _ _ far r = is-same r
 
 pub end-long : (tick : ℕ) (st : Option LdpState) (far : ℕ) (r : Resting) → IsLong r (rested_by_end tick st far r)
 end-long tick (Some Operational) far r = record { owed = length-set r.owed far _; rested = length-replicate (length r.rested) tick; life = refl }
@@ -215,14 +201,7 @@ message-still tick (Release g) st far p r h = elim (eqb_tells p g) [
   | inr e ↦ get_or-set_other r.rested g p tick 0 e.1
 ]
 message-still tick KeepAlive (Some OpenRec) far p r h = refl
-message-still tick KeepAlive (Some Initialized) far p r h = refl
-message-still tick KeepAlive (Some OpenSent) far p r h = refl
-message-still tick KeepAlive (Some Operational) far p r h = refl
-message-still tick KeepAlive None far p r h = refl
-message-still tick Initialization st far p r h = refl
-message-still tick Address st far p r h = refl
-message-still tick (Mapping fec) st far p r h = refl
-message-still tick (Withdraw fec) st far p r h = refl
+message-still tick _ _ far p r h = refl
 
 -- the end of a session that was OPERATIONAL lays all to rest
 all-at : (n tick p : ℕ) → p < n → slice_index_or (replicate n tick) p 0 ≡ tick

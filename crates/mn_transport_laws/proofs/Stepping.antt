@@ -131,10 +131,6 @@ pub spoken-is : (t : Network) (w : World) (s : Step) → is_transport s ≡ true
     (said_in t w.config w.views w.sessions (config_after w.config s) (views_after w.views s) (ldp_counted t w.sessions s) s)
 unfolding sessions_after
 spoken-is t w (step.LinkUp l) e = refl
-spoken-is t w (step.LinkDown l) e = refl
-spoken-is t w (step.LdpAdmin l on) e = refl
-spoken-is t w (step.Learn node l) e = refl
-spoken-is t w (step.HearLdp l dir) e = refl
 spoken-is t w _ e = cc
 
 all-by : (w : Wiring) (n : Node) (me : ℕ) (xs : List Said) → AllOwn w n me xs → AllSaidBy w me xs

@@ -4,10 +4,11 @@ use Rattle.std.specs.List.{Contains}
 use Rattle.mn_topo.specs.Network.{Network}
 use Rattle.mn_topo.specs.Steps.{fits}
 use Rattle.mn_topo.specs.declared.steps.Step.{Step}
-use Rattle.mn_topo.specs.declared.steps.Step.TheVariants.{LinkUp, LinkDown, LdpAdmin, Learn, HearLdp, Attach, Detach}
+use Rattle.mn_topo.specs.declared.steps.Step.TheVariants.{Attach, Detach}
 use Rattle.mn_topo.specs.declared.steps.JournalEntry.{JournalEntry}
 use Rattle.mn_ledger.specs.World.{World, Message}
 use Rattle.mn_ledger.specs.Ledger.{world_of, no_packets}
+use Rattle.mn_ledger.specs.Transport.{is_transport}
 use Rattle.mn_ledger.specs.Refusal.{is_unchanged, is_empty}
 use Rattle.mn_ledger.specs.Lawful.{IsLawfulJournal}
 use Rattle.mn_ledger.specs.Turns.{IsInTurn}
@@ -56,11 +57,6 @@ pub record Did (topology : Network) (tick number : ℕ) (step : Step) (old new :
 
 -- the steps that change the transport
 abbrev pub touches : Step → Bool
-touches (LinkUp l) = true
-touches (LinkDown l) = true
-touches (LdpAdmin l on) = true
-touches (Learn node l) = true
-touches (HearLdp l dir) = true
 touches (Attach site) = true
 touches (Detach site) = true
-touches _ = false
+touches step = is_transport step
