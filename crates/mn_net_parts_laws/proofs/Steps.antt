@@ -12,6 +12,7 @@ use Rattle.mn_topo.specs.Network.{Network}
 use Rattle.mn_topo.specs.declared.steps.Step.{Step}
 use Rattle.mn_topo.specs.declared.steps.Step.TheVariants.{Carry, Lose, Inject, LinkDown, Tick}
 use Rattle.mn_topo.specs.declared.steps.JournalEntry.{JournalEntry}
+use Rattle.mn_ledger.specs.Parts.{is_moving}
 use Rattle.mn_ledger.specs.World.{World}
 use Rattle.mn_ledger.specs.Packets.{Packets, channel, before_step, packets_after}
 use Rattle.mn_ledger.specs.Verdicts.{one_if}
@@ -165,12 +166,8 @@ cut_down t es tick l b ps old new h may said moved left =
 -- 6. A step that moves no packet: `Transit::begin`, and the part of which the step is
 
 abbrev pub moves : Step → Bool
-moves (Inject s n) = true
-moves (Carry l d p) = true
-moves (Lose l d p) = true
-moves (LinkDown l) = true
 moves (Tick ticks) = true
-moves _ = false
+moves step = is_moving step
 
 no_frames : (s : Step) → moves s ≡ false → (w v : Packets) → frames_in w v s ≡ []
 no_frames (Inject s n) h w v = absurd (clash h)
