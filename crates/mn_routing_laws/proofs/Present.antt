@@ -18,6 +18,7 @@ use Rattle.mn_targets.specs.Targets.{meet}
 use Rattle.mn_pe.specs.Held.{Exported, site_label, export_at}
 use Rattle.mn_pe.specs.Held as held
 use Rattle.mn_bgp_spelling_laws.specs.Spelling.{Labels, as_targets}
+use Rattle.mn_routing_laws.specs.Laws.{exported_in}
 use Rattle.mn_routing_laws.specs.Standing.{static_of, statics_in, vrf_in, site_label_now, edge_in}
 use Rattle.mn_routing_laws.proofs.Tables.{map_numbers_at}
 use Rattle.mn_base.proofs.Kept.{fold_in, in_fold}
@@ -26,15 +27,7 @@ use Rattle.mn_base.proofs.Bools.{no}
 
 -- an export as its edge has it
 abbrev pub exported : Network → Labels → Export → Exported
-exported t l x = record {
-  vrf = x.vrf;
-  rd = (vrf_at t x.vrf).rd;
-  prefix = x.prefix;
-  label = l x.site x.attachment;
-  site = x.site;
-  targets =
-      as_targets x.targets;
-}
+exported = exported_in
 
 some_is : (f : ℕ → ℕ) (o : Option ℕ) → is_some o ≡ true → option_map f o ≡ Some (f (unwrap_or o 0))
 some_is f None h = absurd (no h)

@@ -4,9 +4,10 @@ use Rattle.mn_topo.specs.Network.{Network}
 use Rattle.mn_topo.specs.Lawful.{IsLawful}
 use Rattle.mn_topo.specs.Steps.{fits}
 use Rattle.mn_topo.specs.declared.steps.Step.{Step}
-use Rattle.mn_topo.specs.declared.steps.Step.TheVariants.{BgpUp, BgpDown, HearBgp, AddRoute, DelRoute, Import, Export, Attach, Detach}
+use Rattle.mn_topo.specs.declared.steps.Step.TheVariants.{Attach}
 use Rattle.mn_topo.specs.declared.steps.JournalEntry.{JournalEntry}
 use Rattle.mn_base.specs.declared.numbers.SiteNo.{SiteNo}
+use Rattle.mn_ledger.specs.Bgp.{is_routing}
 use Rattle.mn_ledger.specs.Refusal.{refusal}
 use Rattle.mn_ledger.specs.Lawful.{IsLawfulJournal}
 use Rattle.mn_ledger.specs.Items.{numbered}
@@ -40,16 +41,7 @@ pub record Did (topology : Network) (tick number : ℕ) (step : Step) (old new :
 
 -- the steps that the routes do
 abbrev pub is_its : Step → Bool
-is_its (BgpUp a b) = true
-is_its (BgpDown a b) = true
-is_its (HearBgp a b) = true
-is_its (AddRoute s prefix) = true
-is_its (DelRoute s prefix) = true
-is_its (Import v on target) = true
-is_its (Export v on target) = true
-is_its (Attach s) = true
-is_its (Detach s) = true
-is_its _ = false
+is_its = is_routing
 
 -- after any other they stand as they did
 abbrev pub StayAsTheyWere : Type 0
