@@ -1,10 +1,11 @@
 -- How many items a step makes at most.
-use Rattle.std.proofs.Common.{ℕ, zero, suc, ◌≡◌, ◌+◌, ◌*◌, ◌<◌, ◌≤◌, Bool, true, false, cond, List, [], ◌∷◌, ◌++◌, map, filter, length, refl, arith, ap, length-append}
+use Rattle.std.proofs.Common.{ℕ, zero, suc, ◌≡◌, ◌+◌, ◌*◌, ◌≤◌, Bool, true, false, cond, List, [], ◌∷◌, ◌++◌, map, filter, length, refl, arith, ap, length-append}
 use Rattle.std.proofs.Common.{Option, Some, None}
 use Rattle.std.specs.Prelude.{◌==◌, ◌&&◌, not, nat_le, if◌then◌else◌, slice_get, slice_index_or}
 use Rattle.std.specs.List.{flat_map, range_with_len, list_any}
 use Rattle.std.proofs.Math.Nat.{mul-suc}
 use Rattle.std.proofs.lemmas.List.{length-map}
+use Rattle.std.proofs.lemmas.List.Filters.{length-filter_both}
 use Rattle.mn_base.proofs.Bools.{same_numbers, at_most_tells, not_at_most_tells}
 use Rattle.mn_states.specs.declared.states.LdpState.{LdpState}
 use Rattle.mn_states.specs.declared.states.LdpState.TheVariants as ldp
@@ -40,12 +41,7 @@ each f k h [] = omega arith
 each f k h (x ∷ xs) = omega (arith, length-append (f x) (flat_map f xs), h x, each f k h xs, mul-suc k (length xs))
 
 pub fewer : {A : Type 0} (p : A → Bool) (xs : List A) → length (filter p xs) ≤ length xs
-fewer p [] = omega arith
-fewer p (x ∷ xs) = split (p x) (fewer p xs)
-  where
-    split : (b : Bool) → length (filter p xs) ≤ length xs → length (cond b (x ∷ filter p xs) (filter p xs)) ≤ suc (length xs)
-    split true h = omega (arith, h)
-    split false h = omega (arith, h)
+fewer p xs = omega (arith, length-filter_both p (λ x. not (p x)) (λ x. refl) xs)
 
 range-long : (a n : ℕ) → length (range_with_len a n) ≡ n
 range-long a zero = refl
