@@ -1,13 +1,14 @@
 -- What flies stands in the order in which it was made: no item was made before those in front of it.
 use Rattle.std.proofs.Common.{ℕ, zero, suc, ◌+◌, ◌≤◌, Bool, true, false, cond, not, List, [], ◌∷◌, ◌++◌, filter, arith}
 use Rattle.std.specs.List.{AllByRecursion}
+use Rattle.mn_base.proofs.Places.{all_filter}
 use Rattle.mn_wiring.specs.Wiring.{sender}
 use Rattle.mn_topo.specs.Network.{Network, wiring_of}
 use Rattle.mn_topo.specs.declared.steps.Step.{Step}
 use Rattle.mn_topo.specs.declared.steps.Step.TheVariants.{LinkUp, LinkDown, Learn, LdpAdmin, HearLdp, BgpUp, BgpDown, HearBgp, Carry, Lose, Tick}
 use Rattle.mn_topo.specs.declared.steps.JournalEntry.{JournalEntry}
 use Rattle.mn_ledger.specs.World.{World}
-use Rattle.mn_ledger.specs.Packets.{Packets, packets_after}
+use Rattle.mn_ledger.specs.Packets.{Packets}
 use Rattle.mn_ledger.specs.Ledger.{after, start, no_packets, next_of, left_by}
 use Rattle.mn_ledger.specs.Lawful.{IsLawfulFrom, IsLawfulJournal}
 use Rattle.mn_ledger.specs.Items.{Channel, Notices, Messages, Routes, Frames, Load, Item, Flight, same_channel, delay_on, numbered, without, is_session_of}
@@ -71,14 +72,6 @@ order_both t now tick n (x ∷ xs) new h by order = (
 by_later : (t : Network) (now tick : ℕ) (xs : List Item) → now ≤ tick → MadeBy t now xs → MadeBy t tick xs
 by_later t now tick [] h by = tt
 by_later t now tick (x ∷ xs) h by = let first : x.due ≤ now + delay_on t x.on = by.0 in (omega (arith, h, first), by_later t now tick xs h by.1)
-
-all_filter : (P : Item → Type 0) (test : Item → Bool) (xs : List Item) → AllByRecursion P xs → AllByRecursion P (filter test xs)
-all_filter P test [] h = tt
-all_filter P test (x ∷ xs) h = by (test x) (all_filter P test xs h.1)
-  where
-    by : (b : Bool) → AllByRecursion P (filter test xs) → AllByRecursion P (cond b (x ∷ filter test xs) (filter test xs))
-    by true g = (h.0, g)
-    by false g = g
 
 all_without : (P : Item → Type 0) (on : Channel) (n : ℕ) (xs : List Item) → AllByRecursion P xs → AllByRecursion P (without on n xs)
 all_without P on n [] h = tt
