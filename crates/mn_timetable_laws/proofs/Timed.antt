@@ -1,10 +1,10 @@
 -- What is left of each flight as time goes on, by keys.
 use Rattle.std.proofs.Common.{ℕ, ◌≡◌, ◌+◌, ◌*◌, ◌<◌, ◌≤◌, Bool, true, false, not, cond, List, [], ◌∷◌, length, filter, refl, arith, sym, ap, ◌∙◌, inl, inr}
-use Rattle.std.proofs.Common.{Option, Some, None}
-use Rattle.std.specs.Prelude.{◌/◌, ◌&&◌, nat_lt, ⊤}
-use Rattle.std.specs.List.{AllByRecursion}
-use Rattle.mn_base.proofs.Bools.{less_is, less_tells, not_less}
+use Rattle.std.proofs.Common.{None}
+use Rattle.std.specs.Prelude.{◌/◌, ◌&&◌, nat_lt}
+use Rattle.mn_base.proofs.Bools.{less_is, less_tells}
 use Rattle.mn_base.proofs.Members.{In, contained_in}
+use Rattle.mn_base.proofs.Places.{all_filter}
 use Rattle.mn_flight.specs.declared.Item.{Item as ItemOf}
 use Rattle.mn_wiring.specs.Wiring.{link}
 use Rattle.mn_wiring.specs.declared.links.Dir.{Dir}
@@ -150,18 +150,10 @@ module _ {T : Type 0} where
       by false e = e
 
 -- what stays in flight flies in order
-all_kept : (P : Key → Type 0) (p : Key → Bool) (ks : List Key) → AllByRecursion P ks → AllByRecursion P (filter p ks)
-all_kept P p [] h = h
-all_kept P p (k ∷ ks) h = by (p k) (all_kept P p ks h.1)
-  where
-    by : (b : Bool) → AllByRecursion P (filter p ks) → AllByRecursion P (cond b (k ∷ filter p ks) (filter p ks))
-    by true e = (h.0, e)
-    by false e = e
-
 pub order_kept : (p : Key → Bool) (ks : List Key) → FlyInOrder ks → FlyInOrder (filter p ks)
 order_kept p [] h = h
 order_kept p (k ∷ ks) h = by (p k) (order_kept p ks h.1)
   where
     by : (b : Bool) → FlyInOrder (filter p ks) → FlyInOrder (cond b (k ∷ filter p ks) (filter p ks))
-    by true e = (all_kept (λ other. other.channel ≡ k.channel → k.due ≤ other.due) p ks h.0, e)
+    by true e = (all_filter (λ other. other.channel ≡ k.channel → k.due ≤ other.due) p ks h.0, e)
     by false e = e
