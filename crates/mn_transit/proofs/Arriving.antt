@@ -1,5 +1,5 @@
 -- What the packets in transit stand for once a node has forwarded the frame of one of them.
-use Rattle.std.proofs.Common.{ℕ, ◌≡◌, ◌+◌, ◌-◌, ◌<◌, ◌∷◌, ◌++◌, [], true, List, length, refl, arith, sym, ◌∙◌, ap, subst, Some}
+use Rattle.std.proofs.Common.{ℕ, ◌≡◌, ◌+◌, ◌-◌, ◌<◌, ◌≤◌, ◌∷◌, ◌++◌, [], true, List, length, refl, arith, sym, ◌∙◌, ap, subst, Some}
 use Rattle.std.specs.Prelude.{slice_get, slice_set, Result, Ok, Err, OnOk, IsOk}
 use Rattle.mn_base.proofs.Bools.{no}
 use Rattle.mn_drops.specs.declared.drops.Rule.{Rule}
@@ -22,7 +22,7 @@ use Rattle.mn_ledger.specs.declared.verdict.Verdict.TheVariants.{Delivered, Drop
 use Rattle.mn_ledger.specs.World.{World}
 use Rattle.mn_ledger.specs.Packets.{Token, Packets, channel, arrive, drop_at, deliver, stamped}
 use Rattle.mn_frame_laws.specs.Given.{Labelling}
-use Rattle.mn_frame_laws.specs.Frames.{IsFrameOf}
+use Rattle.mn_frame_laws.specs.Frames.{IsFrameOf, IsSound}
 use Rattle.mn_frame_laws.specs.Tables.{AreMapped, TableStands}
 use Rattle.mn_frame_laws.specs.Arrivals.{sent, hopped, Becomes}
 use Rattle.mn_frame_laws.proofs.Forwarding.{forwarded_as_told, top_of}
@@ -31,23 +31,14 @@ use Rattle.mn_transit.specs.Moving.{Moving}
 use Rattle.mn_transit.specs.Stands.{IsFlown, StandsFor}
 use Rattle.mn_transit.proofs.Standing.{stands_judged, stands_sent}
 
--- what comes to a node, and how its frame is forwarded
-record Comes (t : Network) (g : Labelling) (w : World) (m : Moving) (k : Packets) (token : Token) (y : ℕ) (uses : List (ℕ × Use)) (flown : Flown)
-    (answer : Forwarded) (after : Labelled) : Type 0 where
-  lawful : IsLawful t
-  there : y < length t.loopbacks
-  mapped : AreMapped t g w
-  table : TableStands t g w y uses
-  stands : StandsFor t g m k
-  flies : IsFlown t g y flown token
-  forwards : (answer, after) ≡ forwarded uses flown.frame
-
-becomes : (t : Network) (g : Labelling) (w : World) (m : Moving) (k : Packets) (token : Token) (y : ℕ) (uses : List (ℕ × Use)) (flown : Flown)
+-- what becomes of a packet that comes to a node, by how its frame is forwarded there
+becomes : (t : Network) (g : Labelling) (w : World) (k : Packets) (token : Token) (y : ℕ) (uses : List (ℕ × Use)) (flown : Flown)
     (answer : Forwarded) (after : Labelled) →
-    Comes t g w m k token y uses flown answer after → Becomes t g k token y (arrive t w k token y) answer after
-becomes t g w m k token y uses flown answer after h =
-    subst (λ (p : Forwarded × Labelled). Becomes t g k token y (arrive t w k token y) p.0 p.1) (sym h.forwards)
-    (forwarded_as_told t g w k token y uses flown.frame h.lawful h.there h.mapped h.table h.flies.sound h.flies.frame)
+    IsLawful t → y < length t.loopbacks → (answer, after) ≡ forwarded uses flown.frame → AreMapped t g w → TableStands t g w y uses →
+    IsFlown t g y flown token → Becomes t g k token y (arrive t w k token y) answer after
+becomes t g w k token y uses flown answer after lawful there forwards mapped table flies =
+    subst (λ (p : Forwarded × Labelled). Becomes t g k token y (arrive t w k token y) p.0 p.1) (sym forwards)
+    (forwarded_as_told t g w k token y uses flown.frame lawful there mapped table flies.sound flies.frame)
 
 pub stands_dropped : (t : Network) (g : Labelling) (w : World) (m new : Moving) (k : Packets) (token : Token) (y : NodeNo) (uses : List (ℕ × Use))
     (flown : Flown) (cause : Rule) (after : Labelled) →
@@ -56,16 +47,7 @@ pub stands_dropped : (t : Network) (g : Labelling) (w : World) (m new : Moving) 
     AreMapped t g w → TableStands t g w y.0 uses → StandsFor t g m k → IsFlown t g y.0 flown token → StandsFor t g new (arrive t w k token y.0)
 stands_dropped t g w m new k token y uses flown cause after lawful there forwards is mapped table stands flies =
     let told : arrive t w k token y.0 ≡ drop_at k token.packet cause y.0 =
-    becomes t g w m k token y.0 uses flown (Drop cause) after (record {
-      lawful = lawful;
-      there = there;
-      mapped = mapped;
-      table = table;
-      stands = stands;
-      flies =
-          flies;
-      forwards = forwards;
-    }) in
+    becomes t g w k token y.0 uses flown (Drop cause) after lawful there forwards mapped table flies in
     subst (λ n. StandsFor t g n (arrive t w k token y.0)) (sym is)
     (subst (λ p. StandsFor t g (record m { verdicts = slice_set m.verdicts flown.packet (Dropped cause y) }) p) (sym told)
     (subst (λ p. StandsFor t g (record m { verdicts = slice_set m.verdicts p (Dropped cause y) }) (drop_at k token.packet cause y.0)) (sym flies.packet)
@@ -96,16 +78,7 @@ pub stands_delivered : (t : Network) (g : Labelling) (w : World) (m new : Moving
     AreMapped t g w → TableStands t g w y uses → StandsFor t g m k → IsFlown t g y flown token → StandsFor t g new (arrive t w k token y)
 stands_delivered t g w m new k token y uses flown site after top ttl lawful there forwards is_top lower is mapped table stands flies =
     let told =
-    becomes t g w m k token y uses flown (Site site) after (record {
-      lawful = lawful;
-      there = there;
-      mapped = mapped;
-      table = table;
-      stands = stands;
-      flies =
-          flies;
-      forwards = forwards;
-    }) in
+    becomes t g w k token y uses flown (Site site) after lawful there forwards mapped table flies in
     let first = top_of g token y flown.frame flies.frame in
     let same : first.0 ≡ top = (let e : Some first.0 ≡ Some top = sym first.1 ∙ is_top in cc) in
     let level : ttl ≡ token.ttl - 1 = lower ∙ ap (λ (e : Entry). e.ttl - 1) (sym same) ∙ ap (λ n. n - 1) first.2 in
@@ -142,21 +115,25 @@ stands_delivered t g w m new k token y uses flown site after top ttl lawful ther
     }) p) (sym told.0)
     (delivers t g m k token.packet site.0 (token.ttl - 1) token.bytes stands))
 
+-- neither hops that it has gone nor when it was sent is anything by which a packet is sound
+sound_later : (t : Network) (g : Labelling) (token : Token) (ttl when : ℕ) → ttl ≤ token.pushed → IsSound t g token →
+    IsSound t g (record token { ttl = ttl; sent = when })
+sound_later t g token ttl when within sound = record {
+  home = sound.home;
+  node = sound.node;
+  labelled = sound.labelled;
+  within = within;
+  pushed = sound.pushed;
+  packet = sound.packet;
+}
+
 -- the frame of the packet with one hop less
 flies_on : (t : Network) (g : Labelling) (token : Token) (y next : ℕ) (flown : Flown) (after : Labelled) → IsFlown t g y flown token →
     IsFrameOf g (hopped token) next after →
     IsFlown t g next (record { packet = flown.packet; frame = after }) (hopped token)
 flies_on t g token y next flown after flies frame = record {
   packet = flies.packet;
-  sound = record {
-    home = flies.sound.home;
-    node = flies.sound.node;
-    labelled = flies.sound.labelled;
-    within = omega (arith, flies.sound.within);
-    pushed =
-        flies.sound.pushed;
-    packet = flies.sound.packet;
-  };
+  sound = sound_later t g token (token.ttl - 1) token.sent (omega (arith, flies.sound.within)) flies.sound;
   frame = frame;
 }
 
@@ -165,14 +142,7 @@ pub flown_stamped : (t : Network) (g : Labelling) (k : Packets) (to : ℕ) (flow
     IsFlown t g to flown (stamped k token)
 flown_stamped t g k to flown token flies = record {
   packet = flies.packet;
-  sound = record {
-    home = flies.sound.home;
-    node = flies.sound.node;
-    labelled = flies.sound.labelled;
-    within = flies.sound.within;
-    pushed = flies.sound.pushed;
-    packet = flies.sound.packet;
-  };
+  sound = sound_later t g token token.ttl k.clock flies.sound.within flies.sound;
   frame = record { stack = flies.frame.stack; packet = flies.frame.packet; outer = flies.frame.outer };
 }
 
@@ -185,16 +155,7 @@ pub stands_hopped : (t : Network) (g : Labelling) (w : World) (m new : Moving) (
     AreMapped t g w → TableStands t g w y.0 uses → StandsFor t g m k → IsFlown t g y.0 flown token → StandsFor t g new (arrive t w k token y.0)
 stands_hopped t g w m new k token y next uses flown after lawful there forwards goes mapped table stands flies =
     let told =
-    becomes t g w m k token y.0 uses flown (Next next) after (record {
-      lawful = lawful;
-      there = there;
-      mapped = mapped;
-      table = table;
-      stands = stands;
-      flies =
-          flies;
-      forwards = forwards;
-    }) in
+    becomes t g w k token y.0 uses flown (Next next) after lawful there forwards mapped table flies in
     let flown_on : Flown = record { packet = flown.packet; frame = after } in
     let gone =
     goes g k (stamped k (hopped token)) stands

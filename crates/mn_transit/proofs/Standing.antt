@@ -1,5 +1,5 @@
 -- What the packets in transit stand for as they move.
-use Rattle.std.proofs.Common.{ℕ, zero, suc, ◌≡◌, ◌≢◌, false, List, [], ◌∷◌, ◌++◌, map, refl, arith, sym, ◌∙◌, ap, subst, Some, None, eq-eqb, inl, inr}
+use Rattle.std.proofs.Common.{ℕ, zero, suc, ◌≡◌, ◌≢◌, true, false, List, [], ◌∷◌, ◌++◌, map, refl, arith, sym, ◌∙◌, ap, subst, Some, None, eq-eqb, inl, inr}
 use Rattle.std.specs.Prelude.{◌==◌, slice_get, slice_set, slice_index_or}
 use Rattle.std.proofs.lemmas.Bool.Decides.{nat_tests, eqb_tells}
 use Rattle.mn_wiring.specs.Wiring.{receiver}
@@ -117,6 +117,29 @@ stands_judged t g m k packet verdict stands = record {
 }
 
 -- a packet takes the last place of a direction
+module _ (t : Network) (g : Labelling) (m : Moving) (k : Packets) (token : Token) (l : ℕ) (dir : Dir) (item : Item Flown) (at : item.channel ≡ channel l dir)
+    (stands : StandsFor t g m k) (is : IsFlown t g (receiver (wiring_of t) l dir) item.item token) where
+  there : (item.channel == channel l dir) ≡ true
+  there = eq-eqb item.channel (channel l dir) at
+
+  elsewhere : (o : ℕ) (to : Dir) → (channel o to ≢ channel l dir) → (item.channel == channel o to) ≡ false
+  elsewhere o to apart = rw at (grind (arith, nat_tests, apart))
+
+  last : (o : ℕ) (to : Dir) → (o ≡ l) × (to ≡ dir) →
+      AreFlown t g (receiver (wiring_of t) o to) (on_channel (channel l dir) m.flying ++ item ∷ []) (flying_on k l dir ++ token ∷ [])
+  last o to one =
+      subst (λ n. AreFlown t g n (on_channel (channel l dir) m.flying ++ item ∷ []) (flying_on k l dir ++ token ∷ []))
+      (ap (λ n. receiver (wiring_of t) n dir) (sym one.0) ∙ ap (receiver (wiring_of t) o) (sym one.1))
+      (flown_more t g (receiver (wiring_of t) l dir) _ _ item token (stands.frames l dir) is)
+
+  frames_sent : (o : ℕ) (to : Dir) →
+      AreFlown t g (receiver (wiring_of t) o to) (on_channel (channel o to) (m.flying ++ item ∷ [])) (flying_on (sent k token l dir) o to)
+  frames_sent o to = elim (eqb_tells (channel o to) (channel l dir)) [
+    | inl q ↦ rw (q.0, ap (λ c. on_channel c (m.flying ++ item ∷ [])) q.1 ∙ one_more_on (channel l dir) m.flying item there)
+        (last o to (one_channel o l to dir q.1))
+    | inr q ↦ rw (q.0, one_more_off (channel o to) m.flying item (elsewhere o to q.1)) (stands.frames o to)
+  ]
+
 pub stands_sent : (t : Network) (g : Labelling) (m : Moving) (k : Packets) (token : Token) (l : ℕ) (dir : Dir) (spare due number : ℕ) (flown : Flown) →
     StandsFor t g m k → IsFlown t g (receiver (wiring_of t) l dir) flown token →
     StandsFor t g (record m {
@@ -130,42 +153,5 @@ stands_sent t g m k token l dir spare due number flown stands is = record {
   paths = stands.paths;
   copies = stands.copies;
   delivered = stands.delivered;
-  frames = frames;
+  frames = frames_sent t g m k token l dir (record { channel = channel l dir; due = due; number = number; item = flown }) refl stands is;
 }
-  where
-    item : Item Flown
-    item = record { channel = channel l dir; due = due; number = number; item = flown }
-
-    frames : (o : ℕ) (to : Dir) →
-        AreFlown t g (receiver (wiring_of t) o to)
-        (on_channel (channel o to) (m.flying ++ record { channel = channel l dir; due = due; number = number; item = flown } ∷ []))
-        (flying_on (sent k token l dir) o to)
-    frames o to = elim (eqb_tells (channel o to) (channel l dir)) [
-      | inl q ↦ (let one = one_channel o l to dir q.1 in
-          rw (
-            q.0,
-            ap (λ c. on_channel c (m.flying ++ record { channel = channel l dir; due = due; number = number; item = flown } ∷ [])) q.1
-                ∙ one_more_on (channel l dir) m.flying (record { channel = channel l dir; due = due; number = number; item = flown })
-                (eq-eqb (channel l dir) (channel l dir) refl),
-          )
-          (subst (λ d. AreFlown t g (receiver (wiring_of t) d to) (on_channel (channel l dir) m.flying ++ record {
-            channel = channel l dir;
-            due =
-                due;
-            number = number;
-            item = flown;
-          } ∷ []) (flying_on k l dir ++ token ∷ [])) (sym one.0)
-          (subst (λ d. AreFlown t g (receiver (wiring_of t) l d) (on_channel (channel l dir) m.flying ++ record {
-            channel = channel l dir;
-            due =
-                due;
-            number = number;
-            item = flown;
-          } ∷ []) (flying_on k l dir ++ token ∷ [])) (sym one.1)
-          (flown_more t g (receiver (wiring_of t) l dir) _ _ _ token (stands.frames l dir) is))))
-      | inr q ↦ rw (q.0, one_more_off (channel o to) m.flying (record { channel = channel l dir; due = due; number = number; item = flown }) (other q.1))
-          (stands.frames o to)
-    ]
-      where
-        other : (channel o to ≢ channel l dir) → (channel l dir == channel o to) ≡ false
-        other apart = grind (arith, nat_tests, apart)

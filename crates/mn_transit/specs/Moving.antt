@@ -1,10 +1,11 @@
 -- What contracts see of the packets in transit.
-use Rattle.std.specs.Prelude.{◌≡◌, ◌≢◌, ◌+◌, ◌<◌, ◌≤◌, ℕ, List, [], ◌∷◌, length, Option}
+use Rattle.std.specs.Prelude.{◌≡◌, ◌≢◌, ◌+◌, ◌*◌, ◌^◌, ◌<◌, ◌≤◌, ℕ, List, [], ◌∷◌, length, Option}
 use Rattle.std.specs.List.{All, AllPairs}
 use Rattle.mn_flight.specs.declared.Item.{Item}
 use Rattle.mn_flight.specs.Flying.{IsFlight}
 use Rattle.mn_lfib.specs.Hop.{carried_ttl}
 use Rattle.mn_stack.specs.Labelled.{Labelled}
+use Rattle.mn_topo.specs.Network.{Network}
 use Rattle.mn_ledger.specs.declared.verdict.Verdict.{Verdict}
 use Rattle.mn_transit.specs.declared.flown.Flown.{Flown}
 use Rattle.mn_paths.specs.Visits.{Visits, path_of}
@@ -27,6 +28,23 @@ bytes_in (item ∷ items) = length item.item.frame.packet + bytes_in items
 pub record HoldsHops (room : ℕ) (frame : Labelled) : Type 0 where
   pub one : 0 < room
   pub hops : carried_ttl frame ≤ room
+
+-- A packet of which no frame flies has a place in flight at this time: there is memory for one frame more, whose number comes
+-- after all that fly.
+pub record HasPlace (topology : Network) (tick number packet : ℕ) (moving : Moving) : Type 0 where
+  pub channels : moving.channels ≡ 2 * length topology.links
+  pub clock : tick ≤ 2 ^ 63
+  pub last : All (λ item. item.number < number) moving.flying
+  pub bytes : bytes_in moving.flying < 2 ^ 32
+  pub room : 0 < moving.spare
+  pub injected : packet < length moving.verdicts
+  pub apart : All (λ other. other.item.packet ≢ packet) moving.flying
+
+-- this frame may take its packet's place in flight
+pub record MayFly (topology : Network) (tick number : ℕ) (flown : Flown) (moving : Moving) : Type 0 where
+  pub place : HasPlace topology tick number flown.packet moving
+  pub hops : HoldsHops (path_of moving.paths flown.packet).room flown.frame
+  pub entry : 0 < length flown.frame.entries
 
 -- Each frame in flight has an entry, and carries a packet that was injected and of which no other frame flies; the packet's path
 -- has room for the frame's hops. Each packet has one verdict and one path; and so many bytes fly.

@@ -4,7 +4,7 @@ ghost use Rattle.std.specs.List.{All};
 ghost use Rattle.mn_ledger.specs.Prelude.{receiver, Dir, are_joined, Leads, wiring_of, channel, Token, Packets, arrive, packets_after, World};
 ghost use Rattle.mn_transit.specs.Prelude.{on_channel, without, carried_ttl, sent, Labelling, AreMapped, TableStands, path_of};
 ghost use Rattle.mn_topo.specs.declared.steps.Step.TheVariants as Step;
-ghost use Rattle.mn_transit.specs.Moving.{bytes_in, HoldsHops, CountsOn};
+ghost use Rattle.mn_transit.specs.Moving.{bytes_in, HasPlace, MayFly, CountsOn};
 ghost use Rattle.mn_transit.specs.Stands.{IsFlown, StandsFor, Makes};
 
 use crate::flown::Flown;
@@ -61,15 +61,7 @@ impl Transit {
         flown: Flown,
         clock: Clock,
     ) -> bool
-        requires channels { self.old.channels ≡ 2 * length topology.now.links }
-        requires clock { clock.tick ≤ 2 ^ 63 }
-        requires number { All (λ item. item.number < clock.number) self.old.flying }
-        requires bytes { bytes_in self.old.flying < 2 ^ 32 }
-        requires room { 0 < self.old.spare }
-        requires packet { flown.packet < length self.old.verdicts }
-        requires apart { All (λ other. other.item.packet ≢ flown.packet) self.old.flying }
-        requires hops { HoldsHops (path_of self.old.paths flown.packet).room flown.frame }
-        requires entry { 0 < length flown.frame.entries }
+        requires may { MayFly topology.now clock.tick clock.number flown self.old }
         ensures stands { (given : Labelling) (packets : Packets) (token : Token) →
             StandsFor topology.now given self.old packets → IsFlown topology.now given next.0 flown token → are_joined topology.now.links node.0 next.0 ≡ true →
             (link : ℕ) × (dir : Dir) × Leads topology.now node.0 next.0 link dir × StandsFor topology.now given self.new (sent packets token link dir) }
@@ -93,13 +85,7 @@ impl Transit {
         clock: Clock,
     ) -> bool
         requires node { node.0 < length topology.now.loopbacks }
-        requires channels { self.old.channels ≡ 2 * length topology.now.links }
-        requires clock { clock.tick ≤ 2 ^ 63 }
-        requires number { All (λ item. item.number < clock.number) self.old.flying }
-        requires bytes { bytes_in self.old.flying < 2 ^ 32 }
-        requires room { 0 < self.old.spare }
-        requires packet { flown.packet < length self.old.verdicts }
-        requires apart { All (λ other. other.item.packet ≢ flown.packet) self.old.flying }
+        requires place { HasPlace topology.now clock.tick clock.number flown.packet self.old }
         requires hops { carried_ttl flown.frame ≤ (path_of self.old.paths flown.packet).room + 1 }
         requires entry { 0 < length flown.frame.entries }
         requires copies { self.old.copies + 1 < 2 ^ 32 }

@@ -6,7 +6,7 @@ ghost use Rattle.mn_transit.specs.Prelude.{is_packet, carried_ttl, with_outer, I
 ghost use Rattle.mn_drops.specs.declared.drops.Rule.TheVariants as Rule;
 ghost use Rattle.mn_topo.specs.declared.steps.Step.TheVariants as Step;
 ghost use Rattle.mn_transit.specs.Entering.{IsWayOut, HasRoom, IsLabel, OuterFits, IfTunnel, size_of};
-ghost use Rattle.mn_transit.specs.Moving.{bytes_in, HoldsHops, CountsOn};
+ghost use Rattle.mn_transit.specs.Moving.{bytes_in, HoldsHops, MayFly, CountsOn};
 ghost use Rattle.mn_transit.specs.Stands.{StandsFor, Makes};
 
 use crate::flown::Flown;
@@ -70,15 +70,7 @@ impl Transit {
         flown: Flown,
         clock: Clock,
     ) -> bool
-        requires channels { self.old.channels ≡ 2 * length topology.now.links }
-        requires clock { clock.tick ≤ 2 ^ 63 }
-        requires number { All (λ item. item.number < clock.number) self.old.flying }
-        requires bytes { bytes_in self.old.flying < 2 ^ 32 }
-        requires room { 0 < self.old.spare }
-        requires packet { flown.packet < length self.old.verdicts }
-        requires apart { All (λ other. other.item.packet ≢ flown.packet) self.old.flying }
-        requires hops { HoldsHops (path_of self.old.paths flown.packet).room flown.frame }
-        requires entry { 0 < length flown.frame.entries }
+        requires may { MayFly topology.now clock.tick clock.number flown self.old }
         requires push { 0 < flown.frame.room }
         requires label { OuterFits outer }
         ensures stands { (given : Labelling) (world : World) (packets : Packets) (route : HeldRoute) (bytes : List ℕ) →

@@ -6,7 +6,7 @@ ghost use Rattle.mn_wiring.specs.Wiring.{link as link_of};
 ghost use Rattle.mn_drops.specs.declared.drops.Rule.TheVariants as Rule;
 ghost use Rattle.mn_transit.specs.Prelude.{IsFlight, on_channel, off_channel, without, Labelling, path_of, further};
 ghost use Rattle.mn_ledger.specs.declared.verdict.Verdict.TheVariants as verdict;
-ghost use Rattle.mn_transit.specs.Moving.{bytes_in, HoldsHops};
+ghost use Rattle.mn_transit.specs.Moving.{HoldsHops, MayFly};
 ghost use Rattle.mn_transit.specs.Stands.{StandsFor};
 
 use crate::flown::Flown;
@@ -172,15 +172,7 @@ impl Transit {
         clock: Clock,
     )
         requires link { link.0 < length topology.now.links }
-        requires channels { self.old.channels ≡ 2 * length topology.now.links }
-        requires clock { clock.tick ≤ 2 ^ 63 }
-        requires number { All (λ item. item.number < clock.number) self.old.flying }
-        requires bytes { bytes_in self.old.flying < 2 ^ 32 }
-        requires room { 0 < self.old.spare }
-        requires packet { flown.packet < length self.old.verdicts }
-        requires apart { All (λ other. other.item.packet ≢ flown.packet) self.old.flying }
-        requires hops { HoldsHops (path_of self.old.paths flown.packet).room flown.frame }
-        requires entry { 0 < length flown.frame.entries }
+        requires may { MayFly topology.now clock.tick clock.number flown self.old }
         ensures { self.new ≡ record self.old {
           flying = self.old.flying ++ record { channel = channel link.0 dir; due = clock.tick + (link_of (wiring_of topology.now) link.0).delay; number = clock.number; item = flown } ∷ [];
           spare = self.new.spare;

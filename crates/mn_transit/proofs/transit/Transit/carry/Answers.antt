@@ -1,5 +1,6 @@
 use Rattle.std.proofs.Common.{◌≡◌, ◌<◌, arith, Some, ap, subst, ◌∙◌}
 use Rattle.std.specs.Prelude.{slice_get}
+use Rattle.std.proofs.lemmas.Grind.{common_steps}
 use Rattle.mn_flight.specs.declared.Item.{Item}
 use Rattle.mn_flight.specs.Flying.{on_channel, without}
 use Rattle.mn_ledger.specs.Packets.{channel}
@@ -12,16 +13,21 @@ use Rattle.mn_transit.proofs.Taking.{holds_left}
 use Rattle.mn_transit.proofs.Going.{stands_carried}
 use Rattle.mn_transit.proofs.transit.Transit.carry.Goals as goal
 
-pub arrive-requires-clause-number : goal.arrive-requires-clause-number
-arrive-requires-clause-number c =
-    rw (c.visit.ensures, c.in-Some.ensures.left, c.begin.ensures.begun)
-    (holds_left (λ (item : Item Flown). item.number < c.args.clock.number) c.args.self.now.flying (Some c.in-Some.taken) c.requires.number)
-
-pub arrive-requires-clause-bytes : goal.arrive-requires-clause-bytes
-arrive-requires-clause-bytes c =
-    let less = bytes_left _ _ _ _ c.take.ensures.flight.ascending c.in-Some.ensures.taken in
-    let same : bytes_in c.begin.new.self.flying ≡ bytes_in c.args.self.now.flying = ap (λ (m : Moving). bytes_in m.flying) c.begin.ensures.begun in
-    rw (c.visit.ensures, c.in-Some.ensures.left) (omega (arith, less, same, c.requires.bytes))
+pub arrive-requires-clause-place : goal.arrive-requires-clause-place
+arrive-requires-clause-place c = record {
+  channels = grind (arith, common_steps);
+  clock = c.requires.clock;
+  last =
+      rw (c.visit.ensures, c.in-Some.ensures.left, c.begin.ensures.begun)
+      (holds_left (λ (item : Item Flown). item.number < c.args.clock.number) c.args.self.now.flying (Some c.in-Some.taken) c.requires.number);
+  bytes =
+      let less = bytes_left _ _ _ _ c.take.ensures.flight.ascending c.in-Some.ensures.taken in
+      let same : bytes_in c.begin.new.self.flying ≡ bytes_in c.args.self.now.flying = ap (λ (m : Moving). bytes_in m.flying) c.begin.ensures.begun in
+      rw (c.visit.ensures, c.in-Some.ensures.left) (omega (arith, less, same, c.requires.bytes));
+  room = grind (arith, common_steps);
+  injected = grind (arith, common_steps);
+  apart = grind (arith, common_steps);
+}
 
 pub returns-clause-moved : goal.returns-clause-moved
 returns-clause-moved c = λ given world packets bytes.

@@ -1,9 +1,14 @@
 use Rattle.std.proofs.Common.{sym, subst, length}
-use Rattle.mn_transit.specs.Moving.{Moving, CountsOn}
+use Rattle.mn_transit.specs.Moving.{Moving, MayFly, CountsOn}
 use Rattle.mn_transit.specs.Stands.{StandsFor}
 use Rattle.mn_transit.proofs.Arriving.{stands_over}
 use Rattle.mn_transit.proofs.Counts.{counts_sent}
 use Rattle.mn_transit.proofs.transit.Transit.hop.Goals as goal
+
+pub send-requires-clause-may : goal.send-requires-clause-may
+send-requires-clause-may c =
+    subst (λ (transit : Moving). MayFly c.args.topology.now c.args.clock.tick c.args.clock.number c.args.flown transit) (sym c.way.ensures.same)
+    c.requires.may
 
 pub returns-clause-stands : goal.returns-clause-stands
 returns-clause-stands c = λ given packets token stands flies joined.

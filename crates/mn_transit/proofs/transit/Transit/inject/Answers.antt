@@ -1,10 +1,26 @@
-use Rattle.std.proofs.Common.{sym, ◌∙◌, ap, subst}
+use Rattle.std.proofs.Common.{arith, sym, ◌∙◌, ap, subst}
+use Rattle.std.proofs.lemmas.Grind.{common_steps}
 use Rattle.mn_ipv4.specs.Header.{ttl_of}
 use Rattle.mn_frame_laws.specs.Entries.{outer_for}
 use Rattle.mn_pe.specs.Entries.{IsItsFate}
 use Rattle.mn_transit.specs.Entering.{IsWayOut}
 use Rattle.mn_transit.proofs.Injecting.{ready, stands_fallen, stands_stayed, leaves_home, stands_gone}
 use Rattle.mn_transit.proofs.transit.Transit.inject.Goals as goal
+
+pub depart-requires-clause-may : goal.depart-requires-clause-may
+depart-requires-clause-may c = record {
+  place = record {
+    channels = grind (arith, common_steps);
+    clock = c.requires.clock;
+    last = grind (arith, common_steps);
+    bytes = grind (arith, common_steps);
+    room = grind (arith, common_steps);
+    injected = grind (arith, common_steps);
+    apart = grind (arith, common_steps);
+  };
+  hops = grind (arith, common_steps);
+  entry = grind (arith, common_steps);
+}
 
 pub returns-in-Drop-clause-moved : goal.returns-in-Drop-clause-moved
 returns-in-Drop-clause-moved c = λ given world packets site number bytes home mapped is out stands.

@@ -11,16 +11,16 @@ use Rattle.mn_transit.proofs.transit.Transit.send.Goals as goal
 
 pub invariant_of-self : goal.invariant_of-self
 invariant_of-self c =
-    let pushed = was_ok _ c.push.result (c.push.ensures.room (rw (← c.self.view_is) at c.requires.room)) c.push.ensures.pushed in
+    let pushed = was_ok _ c.push.result (c.push.ensures.room (rw (← c.self.view_is) at c.requires.may.place.room)) c.push.ensures.pushed in
     record {
       flight = c.push.ensures.flight;
-      entries = rw pushed (All-push (λ (item : Item Flown). 0 < length item.item.frame.entries) _ _ c.self.invariant.entries c.requires.entry);
+      entries = rw pushed (All-push (λ (item : Item Flown). 0 < length item.item.frame.entries) _ _ c.self.invariant.entries c.requires.may.entry);
       injected =
           rw pushed
           (All-push (λ (item : Item Flown). item.item.packet < length c.self.inside.verdicts.items) _ _ c.self.invariant.injected
-          (rw (← c.self.view_is) at c.requires.packet));
-      once = rw pushed (all_pairs_push Apart _ _ c.self.invariant.once (rw (← c.self.view_is) at c.requires.apart));
-      room = rw pushed (All-push (HasWay c.self.inside.paths) _ _ c.self.invariant.room (rw (← c.self.view_is) at c.requires.hops));
+          (rw (← c.self.view_is) at c.requires.may.place.injected));
+      once = rw pushed (all_pairs_push Apart _ _ c.self.invariant.once (rw (← c.self.view_is) at c.requires.may.place.apart));
+      room = rw pushed (All-push (HasWay c.self.inside.paths) _ _ c.self.invariant.room (rw (← c.self.view_is) at c.requires.may.hops));
       paths = c.self.invariant.paths;
       bytes =
           let more = ap bytes_in pushed ∙ bytes_more c.self.inside.frames.items _ in
