@@ -4,6 +4,7 @@ use Rattle.std.proofs.Common.{ap, subst, lit<}
 use Rattle.std.specs.Prelude.{◌==◌, not, nat_lt, nat_le, fold, slice_index_or, ⊤}
 use Rattle.std.specs.List.{list_all, AllByRecursion, Contains}
 use Rattle.std.proofs.lemmas.Bool.Decides.{nat_tests}
+use Rattle.std.proofs.lemmas.List.Filters.{length-filter_both}
 use Rattle.mn_base.specs.Numbers.{has_rd_form, has_rt_form}
 use Rattle.mn_base.specs.declared.numbers.Rt.{Rt}
 use Rattle.mn_base.proofs.Bools.{and_left, and_right, none_below}
@@ -61,12 +62,7 @@ formed_with x (y ∷ ys) h all = split (nat_lt x y) (formed_with x ys h all.1)
     split false more = (all.0, more)
 
 pub no_longer : {A : Type 0} (p : A → Bool) (xs : List A) → length (filter p xs) ≤ length xs
-no_longer p [] = omega arith
-no_longer p (x ∷ xs) = split (p x) (no_longer p xs)
-  where
-    split : (b : Bool) → length (filter p xs) ≤ length xs → length (cond b (x ∷ filter p xs) (filter p xs)) ≤ suc (length xs)
-    split true more = omega (arith, more)
-    split false more = omega (arith, more)
+no_longer p xs = omega (arith, length-filter_both p (λ x. not (p x)) (λ x. refl) xs)
 
 room : (n : ℕ) → nat_le 16 n ≡ false → suc n ≤ 16
 room n h = grind (arith, nat_tests, h)
