@@ -1,5 +1,5 @@
 -- The arrays of a document, read one after another.
-use Rattle.std.proofs.Common.{◌≡◌, false, List, [], codes, Result, Ok, Err, refl, ap, ◌∙◌, sym}
+use Rattle.std.proofs.Common.{◌≡◌, List, [], codes, Result, Ok, Err, refl, ap, ◌∙◌, sym}
 use Rattle.toml.specs.Data.{Members}
 use Rattle.toml.specs.View.{items_view}
 use Rattle.mn_wiring.specs.declared.links.LinkEnds.{LinkEnds}
@@ -69,23 +69,27 @@ refused_sites top head nodes links vrfs bad h s =
     rw (up_to_sites top head nodes links vrfs h)
     (refused_on bad (sites_from vrfs.names (tables_of (items_view head.sites.now)) no_sites) (after_sites top nodes links vrfs) s)
 
+-- the network that the head and the tables make
+abbrev network_by : Head → NodeTable → List LinkEnds → VrfTable → SiteTable → Network
+network_by head nodes links vrfs sites = record {
+  asn = head.asn;
+  notice_delay = head.notice_delay;
+  bgp_delay = head.bgp_delay;
+  node_names = nodes.names;
+  loopbacks =
+      nodes.loopbacks;
+  links = links;
+  vrf_names = vrfs.names;
+  vrfs = vrfs.vrfs;
+  site_names = sites.names;
+  sites = sites.sites;
+  resolve = head.resolve;
+}
+
 -- the sites make the whole
 pub whole : (top : Members) (head : Head) (nodes : NodeTable) (links : List LinkEnds) (vrfs : VrfTable) (sites : SiteTable) → TablesRead top head nodes links vrfs
     → sites_from vrfs.names (tables_of (items_view head.sites.now)) no_sites ≡ Ok sites
-    → network_of top ≡ Ok (record {
-      asn = head.asn;
-      notice_delay = head.notice_delay;
-      bgp_delay = head.bgp_delay;
-      node_names = nodes.names;
-      loopbacks =
-          nodes.loopbacks;
-      links = links;
-      vrf_names = vrfs.names;
-      vrfs = vrfs.vrfs;
-      site_names = sites.names;
-      sites = sites.sites;
-      resolve = head.resolve;
-    })
+    → network_of top ≡ Ok (network_by head nodes links vrfs sites)
 whole top head nodes links vrfs sites h s =
     up_to_sites top head nodes links vrfs h
     ∙ ap (λ read. read >>= after_sites top nodes links vrfs) s
@@ -95,18 +99,5 @@ whole top head nodes links vrfs sites h s =
 pub whole_lawful : (top : Members) (head : Head) (nodes : NodeTable) (links : List LinkEnds) (vrfs : VrfTable) (sites : SiteTable) →
     TablesRead top head nodes links vrfs
     → sites_from vrfs.names (tables_of (items_view head.sites.now)) no_sites ≡ Ok sites
-    → IsLawful (record {
-      asn = head.asn;
-      notice_delay = head.notice_delay;
-      bgp_delay = head.bgp_delay;
-      node_names = nodes.names;
-      loopbacks =
-          nodes.loopbacks;
-      links = links;
-      vrf_names = vrfs.names;
-      vrfs = vrfs.vrfs;
-      site_names = sites.names;
-      sites = sites.sites;
-      resolve = head.resolve;
-    })
+    → IsLawful (network_by head nodes links vrfs sites)
 whole_lawful top head nodes links vrfs sites h s = network_lawful top _ (whole top head nodes links vrfs sites h s)

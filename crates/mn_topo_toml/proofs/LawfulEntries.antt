@@ -1,6 +1,6 @@
 -- What is read meets the rules.
 use Rattle.std.proofs.Common.{◌≡◌, ◌+◌, ℕ, arith, length, length-append, Bool, true, false, ◌==◌, if◌then◌else◌, List, [], ◌∷◌, ◌++◌, Option, Some, None}
-use Rattle.std.proofs.Common.{is_none, unwrap_or, option_and_then, codes, Result, Ok, refl, ap, ◌∙◌, subst}
+use Rattle.std.proofs.Common.{is_none, unwrap_or, option_and_then, codes, Result, Ok, refl, ap, sym, ◌∙◌, subst}
 use Rattle.std.specs.List.{list_all, list_any, IsDistinct, AllByRecursion}
 use Rattle.std.specs.Str.{bytes_eq}
 use Rattle.std.specs.Cmp.{nat_eq_equiv}
@@ -40,6 +40,35 @@ pub reads_on : {A : Type 0} (rule : Option TopoRule) (place : Place) (rest : Res
     unless_broken rule place rest ≡ Ok value → (rule ≡ None) × (rest ≡ Ok value)
 reads_on None place rest value h = (refl, h)
 reads_on (Some rule) place rest value h = cc
+
+-- entries are read in turn: each by its rule, and the others behind what it adds
+pub record AreReadInTurn (T : Type 0) (rule : T → Members → Option TopoRule) (place : T → Place) (next : T → Members → T)
+    (from : List Members → T → Result T (TopoRule × Place)) : Type 0 where
+  pub ends : (earlier : T) → from [] earlier ≡ Ok earlier
+  pub goes : (entry : Members) (entries : List Members) (earlier : T) →
+      from (entry ∷ entries) earlier ≡ unless_broken (rule earlier entry) (place earlier) (from entries (next earlier entry))
+
+-- what each entry keeps, all of them keep
+pub kept_in_turn : {T : Type 0} {rule : T → Members → Option TopoRule} {place : T → Place} {next : T → Members → T}
+    {from : List Members → T → Result T (TopoRule × Place)} → AreReadInTurn T rule place next from → (P : T → Type 0) →
+    ((earlier : T) (entry : Members) → P earlier → rule earlier entry ≡ None → P (next earlier entry)) →
+    (entries : List Members) (earlier value : T) → from entries earlier ≡ Ok value → P earlier → P value
+kept_in_turn turn P step [] earlier value h k = let ends = turn.ends earlier in let same : earlier ≡ value = cc in subst P same k
+kept_in_turn {rule} {place} {next} {from} turn P step (entry ∷ entries) earlier value h k =
+    let on = reads_on (rule earlier entry) (place earlier) (from entries (next earlier entry)) value (sym (turn.goes entry entries earlier) ∙ h) in
+    kept_in_turn turn P step entries (next earlier entry) value on.1 (step earlier entry k on.0)
+
+-- each adds one
+pub counted_in_turn : {T : Type 0} {rule : T → Members → Option TopoRule} {place : T → Place} {next : T → Members → T}
+    {from : List Members → T → Result T (TopoRule × Place)} → AreReadInTurn T rule place next from → (count : T → ℕ) →
+    ((earlier : T) (entry : Members) → count (next earlier entry) ≡ count earlier + 1) →
+    (entries : List Members) (earlier value : T) → from entries earlier ≡ Ok value → count value ≡ count earlier + length entries
+counted_in_turn turn count more [] earlier value h = let ends = turn.ends earlier in let same : earlier ≡ value = cc in rw (← same) (omega arith)
+counted_in_turn {rule} {place} {next} {from} turn count more (entry ∷ entries) earlier value h =
+    let on = reads_on (rule earlier entry) (place earlier) (from entries (next earlier entry)) value (sym (turn.goes entry entries earlier) ∙ h) in
+    let counted = counted_in_turn turn count more entries (next earlier entry) value on.1 in
+    let one = more earlier entry in
+    omega (arith, counted, one)
 
 pub all_push : {A : Type 0} (test : A → Bool) (xs : List A) (x : A) → list_all test xs ≡ true → test x ≡ true → list_all test (xs ++ x ∷ []) ≡ true
 all_push test xs x h k = rw (list_all-append test xs (x ∷ []), h, k) refl
@@ -82,7 +111,7 @@ loopback_formed : (text : Option (List ℕ)) → is_none (option_and_then loopba
 loopback_formed None h = cc
 loopback_formed (Some word) h = loopback_within (address_of word) h
 
-node_step : (earlier : NodeTable) (entry : Members) → AreNodes earlier → node_rule earlier entry ≡ None → AreNodes (with_node earlier entry)
+pub node_step : (earlier : NodeTable) (entry : Members) → AreNodes earlier → node_rule earlier entry ≡ None → AreNodes (with_node earlier entry)
 unfolding node_rule
 node_step earlier entry h lawful =
     let all = all_kept (node_rules earlier entry) lawful in
@@ -96,17 +125,5 @@ node_step earlier entry h lawful =
           (kept _ TwiceLoopback all.1.1.1.1.1.0);
     }
 
-pub nodes_lawful : (entries : List Members) (earlier nodes : NodeTable) → nodes_from entries earlier ≡ Ok nodes → AreNodes earlier → AreNodes nodes
-nodes_lawful [] earlier nodes h k = let same : earlier ≡ nodes = cc in subst AreNodes same k
-nodes_lawful (entry ∷ entries) earlier nodes h k =
-    let on = reads_on (node_rule earlier entry) (Node (length earlier.names)) (nodes_from entries (with_node earlier entry)) nodes h in
-    nodes_lawful entries (with_node earlier entry) nodes on.1 (node_step earlier entry k on.0)
-
-pub nodes_count : (entries : List Members) (earlier nodes : NodeTable) → nodes_from entries earlier ≡ Ok nodes →
-    length nodes.names ≡ length earlier.names + length entries
-nodes_count [] earlier nodes h = let same : earlier ≡ nodes = cc in rw (← same) (omega arith)
-nodes_count (entry ∷ entries) earlier nodes h =
-    let on = reads_on (node_rule earlier entry) (Node (length earlier.names)) (nodes_from entries (with_node earlier entry)) nodes h in
-    let count = nodes_count entries (with_node earlier entry) nodes on.1 in
-    let more : length (earlier.names ++ name_of entry ∷ []) ≡ length earlier.names + 1 = rw length-append refl in
-    omega (arith, count, more)
+pub nodes_in_turn : AreReadInTurn NodeTable node_rule (λ earlier. Node (length earlier.names)) with_node nodes_from
+nodes_in_turn = record { ends = λ earlier. refl; goes = λ entry entries earlier. refl }

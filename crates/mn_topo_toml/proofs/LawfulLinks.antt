@@ -1,11 +1,10 @@
 -- The links that are read meet the rules.
-use Rattle.std.proofs.Common.{◌≡◌, ◌<◌, ◌+◌, ℕ, ℤ, pos, negsuc, arith, length, length-append, Bool, true, false, not, cond, ◌&&◌, ◌==◌, nat_lt, nat_le}
-use Rattle.std.proofs.Common.{if◌then◌else◌, List, [], ◌∷◌, ◌++◌, position, min, max, Option, Some, None, is_none, unwrap_or, option_and_then, codes, Ok}
-use Rattle.std.proofs.Common.{refl, subst}
+use Rattle.std.proofs.Common.{◌≡◌, ◌<◌, ℕ, ℤ, pos, negsuc, length, Bool, true, false, not, cond, ◌&&◌, ◌==◌, nat_lt, nat_le}
+use Rattle.std.proofs.Common.{if◌then◌else◌, List, [], ◌∷◌, ◌++◌, position, Option, Some, None, is_none, unwrap_or, option_and_then, codes}
+use Rattle.std.proofs.Common.{refl}
 use Rattle.std.specs.List.{position_or_len}
 use Rattle.std.specs.Option.{option_map_or}
 use Rattle.std.specs.Str.{bytes_eq}
-use Rattle.std.specs.Cmp.{nat_eq_equiv}
 use Rattle.std.proofs.lemmas.Bool.{ltb-true, lt-ltb, and_from, or_parts}
 use Rattle.toml.specs.Data.{Data, Members, get_member, as_integer}
 use Rattle.mn_wiring.specs.declared.links.LinkEnds.{LinkEnds}
@@ -18,7 +17,7 @@ use Rattle.mn_topo.specs.Links.{joins}
 use Rattle.mn_topo_toml.specs.Links.{link_rule, link_rules, link_in, links_from, life_at, delay_at}
 use Rattle.mn_topo.specs.Lawful.{AreLinks, joins_two_of, has_figures}
 use Rattle.mn_topo.proofs.Ends.{joins-flip}
-use Rattle.mn_topo_toml.proofs.LawfulEntries.{all_kept, kept, reads_on, all_push, distinct_push}
+use Rattle.mn_topo_toml.proofs.LawfulEntries.{all_kept, kept, AreReadInTurn, all_push, distinct_push}
 
 number_below : (test : List ℕ → Bool) (names : List (List ℕ)) → is_none (position test names) ≡ false → unwrap_or (position test names) 0 < length names
 number_below test names h =
@@ -67,7 +66,7 @@ pub number_within : (key : List ℕ) (low high default : ℕ) (entry : Members) 
     → (nat_le low (unwrap_or (number_at key low high default entry) 0) && nat_le (unwrap_or (number_at key low high default entry) 0) high) ≡ true
 number_within key low high default entry fine h = value_within low high default (get_member key entry) fine h
 
-link_step : (names : List (List ℕ)) (earlier : List LinkEnds) (entry : Members) → AreLinks (length names) earlier → link_rule names earlier entry ≡ None →
+pub link_step : (names : List (List ℕ)) (earlier : List LinkEnds) (entry : Members) → AreLinks (length names) earlier → link_rule names earlier entry ≡ None →
     AreLinks (length names) (earlier ++ link_in names entry ∷ [])
 unfolding link_rule
 link_step names earlier entry h lawful =
@@ -90,18 +89,6 @@ link_step names earlier entry h lawful =
       figures = all_push has_figures earlier (link_in names entry) h.figures (and_from _ _ (and_from _ _ (and_from _ _ cost delay) loss) (and_from _ _ life lasting));
     }
 
-pub links_lawful : (names : List (List ℕ)) (entries : List Members) (earlier links : List LinkEnds) → links_from names entries earlier ≡ Ok links →
-    AreLinks (length names) earlier → AreLinks (length names) links
-links_lawful names [] earlier links h k = let same : earlier ≡ links = cc in subst (AreLinks (length names)) same k
-links_lawful names (entry ∷ entries) earlier links h k =
-    let on = reads_on (link_rule names earlier entry) (Link (length earlier)) (links_from names entries (earlier ++ link_in names entry ∷ [])) links h in
-    links_lawful names entries (earlier ++ link_in names entry ∷ []) links on.1 (link_step names earlier entry k on.0)
-
-pub links_count : (names : List (List ℕ)) (entries : List Members) (earlier links : List LinkEnds) → links_from names entries earlier ≡ Ok links →
-    length links ≡ length earlier + length entries
-links_count names [] earlier links h = let same : earlier ≡ links = cc in rw (← same) (omega arith)
-links_count names (entry ∷ entries) earlier links h =
-    let on = reads_on (link_rule names earlier entry) (Link (length earlier)) (links_from names entries (earlier ++ link_in names entry ∷ [])) links h in
-    let count = links_count names entries (earlier ++ link_in names entry ∷ []) links on.1 in
-    let more : length (earlier ++ link_in names entry ∷ []) ≡ length earlier + 1 = rw length-append refl in
-    omega (arith, count, more)
+pub links_in_turn : (names : List (List ℕ)) →
+    AreReadInTurn (List LinkEnds) (link_rule names) (λ earlier. Link (length earlier)) (λ earlier entry. earlier ++ link_in names entry ∷ []) (links_from names)
+links_in_turn names = record { ends = λ earlier. refl; goes = λ entry entries earlier. refl }

@@ -1,6 +1,6 @@
 -- The sites that are read meet the rules.
-use Rattle.std.proofs.Common.{◌≡◌, ◌≤◌, ◌+◌, ℕ, arith, length, length-append, append_assoc, false, nat_lt, List, [], ◌∷◌, ◌++◌, None, codes, Ok, refl, ap}
-use Rattle.std.proofs.Common.{◌∙◌, subst}
+use Rattle.std.proofs.Common.{◌≡◌, ◌≤◌, ◌+◌, ℕ, length, length-append, append_assoc, false, nat_lt, List, [], ◌∷◌, ◌++◌, None, codes, refl, ap}
+use Rattle.std.proofs.Common.{◌∙◌}
 use Rattle.std.specs.List.{IsDistinct}
 use Rattle.std.specs.Cmp.{nat_eq_equiv}
 use Rattle.std.proofs.lemmas.Bool.{ltb-false, or_parts, not-false}
@@ -17,7 +17,7 @@ use Rattle.mn_topo_toml.specs.Rules.{broken}
 use Rattle.mn_topo.specs.SiteTable.{SiteTable, Static, in_vrf, statics_of, stands, is_one_taken}
 use Rattle.mn_topo_toml.specs.Sites.{prefixes_of, site_head_rule, site_head_rules, is_prefix_taken, are_too_many, site_rule, site_in, with_site, sites_from}
 use Rattle.mn_topo.specs.Lawful.{AreSites, same_static}
-use Rattle.mn_topo_toml.proofs.LawfulEntries.{all_kept, kept, reads_on, all_push, distinct_push, names_push}
+use Rattle.mn_topo_toml.proofs.LawfulEntries.{all_kept, kept, AreReadInTurn, all_push, distinct_push, names_push}
 use Rattle.mn_topo_toml.proofs.LawfulLinks.{named_within}
 use Rattle.mn_topo_toml.proofs.Prefixes.{statics_lawful}
 
@@ -39,7 +39,7 @@ statics_of-push sites site =
     flat_map-append (λ s. in_vrf s.vrf.0 s.prefixes) sites (site ∷ [])
     ∙ ap (λ last. statics_of sites ++ last) (append-nil (in_vrf site.vrf.0 site.prefixes))
 
-site_step : (vrfs : List (List ℕ)) (earlier : SiteTable) (entry : Members) → AreSites (length vrfs) earlier → site_rule vrfs earlier entry ≡ None →
+pub site_step : (vrfs : List (List ℕ)) (earlier : SiteTable) (entry : Members) → AreSites (length vrfs) earlier → site_rule vrfs earlier entry ≡ None →
     AreSites (length vrfs) (with_site vrfs earlier entry)
 unfolding site_rule site_head_rule
 site_step vrfs earlier entry h lawful =
@@ -61,18 +61,6 @@ site_step vrfs earlier entry h lawful =
       few_prefixes = rw (statics_of-push earlier.sites (site_in vrfs entry), length-append, length-map) few;
     }
 
-pub sites_lawful : (vrfs : List (List ℕ)) (entries : List Members) (earlier sites : SiteTable) → sites_from vrfs entries earlier ≡ Ok sites →
-    AreSites (length vrfs) earlier → AreSites (length vrfs) sites
-sites_lawful vrfs [] earlier sites h k = let same : earlier ≡ sites = cc in subst (AreSites (length vrfs)) same k
-sites_lawful vrfs (entry ∷ entries) earlier sites h k =
-    let on = reads_on (site_rule vrfs earlier entry) (Site (length earlier.names)) (sites_from vrfs entries (with_site vrfs earlier entry)) sites h in
-    sites_lawful vrfs entries (with_site vrfs earlier entry) sites on.1 (site_step vrfs earlier entry k on.0)
-
-pub sites_count : (vrfs : List (List ℕ)) (entries : List Members) (earlier sites : SiteTable) → sites_from vrfs entries earlier ≡ Ok sites →
-    length sites.sites ≡ length earlier.sites + length entries
-sites_count vrfs [] earlier sites h = let same : earlier ≡ sites = cc in rw (← same) (omega arith)
-sites_count vrfs (entry ∷ entries) earlier sites h =
-    let on = reads_on (site_rule vrfs earlier entry) (Site (length earlier.names)) (sites_from vrfs entries (with_site vrfs earlier entry)) sites h in
-    let count = sites_count vrfs entries (with_site vrfs earlier entry) sites on.1 in
-    let more : length (earlier.sites ++ site_in vrfs entry ∷ []) ≡ length earlier.sites + 1 = rw length-append refl in
-    omega (arith, count, more)
+pub sites_in_turn : (vrfs : List (List ℕ)) →
+    AreReadInTurn SiteTable (site_rule vrfs) (λ earlier. Site (length earlier.names)) (with_site vrfs) (sites_from vrfs)
+sites_in_turn vrfs = record { ends = λ earlier. refl; goes = λ entry entries earlier. refl }

@@ -1,7 +1,7 @@
 -- The VRFs that are read meet the rules.
 use Rattle.std.proofs.Common.{◌≡◌, ◌≤◌, ◌<◌, ◌+◌, ℕ, arith, length, length-append, Bool, true, false, not, ◌&&◌, ◌||◌, ◌==◌, nat_le, if◌then◌else◌, List}
-use Rattle.std.proofs.Common.{[], ◌∷◌, ◌++◌, Option, Some, None, is_none, unwrap_or, option_and_then, option_map, codes, Ok, refl, ap, ◌∙◌, subst}
-use Rattle.std.specs.List.{list_any, IsDistinct}
+use Rattle.std.proofs.Common.{[], ◌∷◌, ◌++◌, Option, Some, None, is_none, unwrap_or, option_and_then, option_map, codes, refl, ap, ◌∙◌, subst}
+use Rattle.std.specs.List.{list_any}
 use Rattle.std.specs.Cmp.{nat_eq_equiv}
 use Rattle.std.proofs.lemmas.Bool.{leb-false, and_from, or_parts, not-false}
 use Rattle.std.proofs.lemmas.List.Sums.{fold_push}
@@ -22,7 +22,7 @@ use Rattle.mn_topo.specs.VrfTable.{VrfTable, has_rd, is_edge, with_edge, edges_o
 use Rattle.mn_topo_toml.specs.Vrfs.{rd_at, is_rd_taken, has_target, next_target, targets_from, targets_at, vrf_head_rule, vrf_head_rules, is_65th_edge, vrf_rule}
 use Rattle.mn_topo_toml.specs.Vrfs.{vrf_in, with_vrf, vrfs_from}
 use Rattle.mn_topo.specs.Lawful.{AreTargets, AreVrfs, is_vrf_of}
-use Rattle.mn_topo_toml.proofs.LawfulEntries.{all_kept, kept, reads_on, all_push, apart_push, distinct_push, names_push}
+use Rattle.mn_topo_toml.proofs.LawfulEntries.{all_kept, kept, AreReadInTurn, all_push, apart_push, distinct_push, names_push}
 use Rattle.mn_topo_toml.proofs.LawfulLinks.{named_within}
 use Rattle.mn_topo.proofs.Targets.{no_targets}
 use Rattle.mn_topo.proofs.VrfKeys.{edges_from}
@@ -116,7 +116,7 @@ edges_push earlier vrf few h = rw (fold_push with_edge [] earlier.vrfs vrf) (
           rw (absent, length-append) (omega arith)
     ] refl h)
 
-vrf_step : (nodes : List (List ℕ)) (earlier : VrfTable) (entry : Members) → AreVrfs (length nodes) earlier → vrf_rule nodes earlier entry ≡ None →
+pub vrf_step : (nodes : List (List ℕ)) (earlier : VrfTable) (entry : Members) → AreVrfs (length nodes) earlier → vrf_rule nodes earlier entry ≡ None →
     AreVrfs (length nodes) (with_vrf nodes earlier entry)
 unfolding vrf_rule vrf_head_rule
 vrf_step nodes earlier entry h lawful =
@@ -140,18 +140,6 @@ vrf_step nodes earlier entry h lawful =
       few_edges = edges_push earlier (vrf_in nodes entry) h.few_edges (kept _ TooMany all.1.1.0);
     }
 
-pub vrfs_lawful : (nodes : List (List ℕ)) (entries : List Members) (earlier vrfs : VrfTable) → vrfs_from nodes entries earlier ≡ Ok vrfs →
-    AreVrfs (length nodes) earlier → AreVrfs (length nodes) vrfs
-vrfs_lawful nodes [] earlier vrfs h k = let same : earlier ≡ vrfs = cc in subst (AreVrfs (length nodes)) same k
-vrfs_lawful nodes (entry ∷ entries) earlier vrfs h k =
-    let on = reads_on (vrf_rule nodes earlier entry) (Vrf (length earlier.names)) (vrfs_from nodes entries (with_vrf nodes earlier entry)) vrfs h in
-    vrfs_lawful nodes entries (with_vrf nodes earlier entry) vrfs on.1 (vrf_step nodes earlier entry k on.0)
-
-pub vrfs_count : (nodes : List (List ℕ)) (entries : List Members) (earlier vrfs : VrfTable) → vrfs_from nodes entries earlier ≡ Ok vrfs →
-    length vrfs.vrfs ≡ length earlier.vrfs + length entries
-vrfs_count nodes [] earlier vrfs h = let same : earlier ≡ vrfs = cc in rw (← same) (omega arith)
-vrfs_count nodes (entry ∷ entries) earlier vrfs h =
-    let on = reads_on (vrf_rule nodes earlier entry) (Vrf (length earlier.names)) (vrfs_from nodes entries (with_vrf nodes earlier entry)) vrfs h in
-    let count = vrfs_count nodes entries (with_vrf nodes earlier entry) vrfs on.1 in
-    let more : length (earlier.vrfs ++ vrf_in nodes entry ∷ []) ≡ length earlier.vrfs + 1 = rw length-append refl in
-    omega (arith, count, more)
+pub vrfs_in_turn : (nodes : List (List ℕ)) →
+    AreReadInTurn VrfTable (vrf_rule nodes) (λ earlier. Vrf (length earlier.names)) (with_vrf nodes) (vrfs_from nodes)
+vrfs_in_turn nodes = record { ends = λ earlier. refl; goes = λ entry entries earlier. refl }

@@ -1,6 +1,6 @@
 -- The prefixes that are read have no bit set past their length.
-use Rattle.std.proofs.Common.{◌≡◌, ◌<◌, ◌≤◌, ◌+◌, ◌-◌, ◌*◌, ◌^◌, ◌%◌, ◌==◌, ℕ, arith, Bool, true, false, ◌&&◌, nat_le, nat_lt, if◌then◌else◌, List, [], ◌∷◌}
-use Rattle.std.proofs.Common.{◌++◌, length, Option, Some, None, unwrap_or, codes, Ok, Err, refl, subst}
+use Rattle.std.proofs.Common.{◌≡◌, ◌<◌, ◌≤◌, ◌+◌, ◌-◌, ◌*◌, ◌^◌, ◌%◌, ◌==◌, ℕ, arith, Bool, true, false, ◌&&◌, nat_le, if◌then◌else◌, List, [], ◌∷◌}
+use Rattle.std.proofs.Common.{◌++◌, Option, Some, None, unwrap_or, codes, Ok, Err, refl, subst}
 use Rattle.std.specs.List.{list_all}
 use Rattle.std.specs.Result.{result_ok}
 use Rattle.std.proofs.lemmas.Bool.Decides.{nat_tests}
@@ -9,10 +9,10 @@ use Rattle.std.proofs.lemmas.List.Folds.{list_all-append}
 use Rattle.std.proofs.lemmas.Option.{same_Some}
 use Rattle.std.specs.Str.Parse.{digits_value}
 use Rattle.toml.specs.Data.{Data, Items, no_items, item, Members, as_str}
-use Rattle.mn_prefix.specs.Prefix.{AddressBlock, IsPrefix}
+use Rattle.mn_prefix.specs.Prefix.{AddressBlock}
 use Rattle.mn_text.specs.Numbers.{is_number, number_up_to}
 use Rattle.std.specs.Option.{option_map_or}
-use Rattle.mn_base.proofs.Bools.{and_on, at_most_is, less_is}
+use Rattle.mn_base.proofs.Bools.{and_on}
 use Rattle.mn_text.specs.declared.refusal.TextBad.TheVariants.{BadPrefix, HostBits}
 use Rattle.mn_text.specs.Addresses.{cut, address_of, slashed_of, without_host_bits}
 use Rattle.mn_topo.specs.SiteTable.{Static, in_vrf, is_lawful_prefix}

@@ -1,7 +1,6 @@
 -- The rules of an entry that is a link.
-use Rattle.std.specs.Prelude.{◌≡◌, ℕ, min, max, Bool, false, not, ◌&&◌, ◌||◌, ◌==◌, nat_lt, List, [], ◌∷◌, ◌++◌, length, Option, Some, None, is_none, unwrap_or}
+use Rattle.std.specs.Prelude.{◌≡◌, ℕ, false, not, ◌||◌, ◌==◌, nat_lt, List, [], ◌∷◌, ◌++◌, length, Option, Some, None, is_none, unwrap_or}
 use Rattle.std.specs.Prelude.{codes, Result, Ok, Err}
-use Rattle.std.specs.List.{list_any}
 use Rattle.toml.specs.Data.{Members}
 use Rattle.mn_wiring.specs.declared.links.LinkEnds.{LinkEnds}
 use Rattle.mn_topo_toml.specs.declared.refusal.TopoRule.{TopoRule}

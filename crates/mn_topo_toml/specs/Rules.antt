@@ -1,5 +1,5 @@
 -- Which rule refuses a table, and what a reader answers.
-use Rattle.std.specs.Prelude.{◌≡◌, Bool, true, false, List, [], ◌∷◌, Option, Some, None, Result, Ok, Err, ⊤}
+use Rattle.std.specs.Prelude.{◌≡◌, Option, Some, None, Result, Ok, Err, ⊤}
 use Rattle.mn_topo_toml.specs.declared.refusal.TopoRule.{TopoRule}
 use Rattle.mn_topo_toml.specs.declared.refusal.Place.{Place}
 use Rattle.mn_topo_toml.specs.declared.refusal.TopoBad.{TopoBad}

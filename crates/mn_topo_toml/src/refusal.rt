@@ -2,7 +2,7 @@
 ghost use Rattle.std.specs.Prelude.{◌≡◌};
 ghost use Rattle.mn_topo_toml.specs.declared.refusal.TopoBad.TheVariants.{NoMemory};
 
-use std::alloc::{AllocError, AllocFailed};
+use std::alloc::AllocError;
 use thiserror::Error;
 
 /// A rule of topologies, T1 to T16 in this order. An entry is refused by the first that it breaks.
@@ -68,14 +68,6 @@ impl From<AllocError> for TopoBad {
     ghost from_gives = { λ _ e. e ≡ NoMemory };
 
     fn from(_: AllocError) -> Self {
-        TopoBad::NoMemory
-    }
-}
-
-impl<T: Drop> From<AllocFailed<T>> for TopoBad {
-    ghost from_gives = { λ _ e. e ≡ NoMemory };
-
-    fn from(_: AllocFailed<T>) -> Self {
         TopoBad::NoMemory
     }
 }
