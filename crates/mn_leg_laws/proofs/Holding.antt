@@ -227,24 +227,21 @@ plain_step pairing w a s mark plain h =
     let m = plain_moved pairing w a s mark plain h in record { grow = plain_grows pairing w a s mark m.grows; moved = m }
 
 plain_alike : (w : Which) (a : Both) (s : Step) (mark : Damaged) → AreAlike a (with_marked a w s mark)
-plain_alike First a s mark = record { travels = refl; owners = both; inputs = inputs }
+plain_alike w a s mark = record { travels = travels w; owners = owners w; inputs = inputs w }
   where
-    both : (v : Which) → (side (with_marked a First s mark) v).owners ≡ (side a v).owners
-    both First = refl
-    both Second = refl
+    travels : (w : Which) → (with_marked a w s mark).travels ≡ a.travels
+    travels First = refl
+    travels Second = refl
 
-    inputs : (v : Which) → (side (with_marked a First s mark) v).inputs ≡ (side a v).inputs
-    inputs First = refl
-    inputs Second = refl
-plain_alike Second a s mark = record { travels = refl; owners = both; inputs = inputs }
-  where
-    both : (v : Which) → (side (with_marked a Second s mark) v).owners ≡ (side a v).owners
-    both First = refl
-    both Second = refl
+    owners : (w v : Which) → (side (with_marked a w s mark) v).owners ≡ (side a v).owners
+    owners First First = refl
+    owners _ First = refl
+    owners _ _ = refl
 
-    inputs : (v : Which) → (side (with_marked a Second s mark) v).inputs ≡ (side a v).inputs
-    inputs First = refl
-    inputs Second = refl
+    inputs : (w v : Which) → (side (with_marked a w s mark) v).inputs ≡ (side a v).inputs
+    inputs First First = refl
+    inputs _ First = refl
+    inputs _ _ = refl
 
 plain_each : (pairing : Pairing) (w : Which) (a : Both) (s : Step) (mark : Damaged) → IsStep pairing w a (with_marked a w s mark) → Holds pairing a → (v : Which)
     → length (side (with_marked a w s mark) v).inputs ≡ injections (side (with_marked a w s mark) v).past.entries
