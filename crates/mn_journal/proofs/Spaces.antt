@@ -72,34 +72,3 @@ put_as (Err bad) new old a b e h = tt
 pub damage_is : (word from to number f t n : List ℕ) → from ≡ f → to ≡ t → number ≡ n
     → spaced (codes "damage" ∷ word ∷ from ∷ to ∷ number ∷ []) ≡ spaced (codes "damage" ∷ word ∷ f ∷ t ∷ n ∷ [])
 damage_is word from to number f t n is_from is_to is_number = rw (is_from, is_to, is_number) refl
-
--- one text behind another
-pub text_then : (old mid new one two : List ℕ) → mid ≡ old ++ one → new ≡ mid ++ two → new ≡ old ++ (one ++ two)
-text_then old mid new one two first then = then ∙ ap (λ l. l ++ two) first ∙ append_assoc old one two
-
--- a line is its tick, its words and a line feed
-pub carried : (b0 b1 b2 b3 b4 b5 b6 b7 b8 tick from to place : List ℕ) → b1 ≡ b0 ++ tick → b2 ≡ b1 ++ codes " carry " → b3 ≡ b2 ++ from
-    → b4 ≡ b3 ++ 32 ∷ [] → b5 ≡ b4 ++ to → b6 ≡ b5 ++ 32 ∷ [] → b7 ≡ b6 ++ place → b8 ≡ b7 ++ 10 ∷ []
-    → b8 ≡ b0 ++ ((tick ++ spaced (codes "carry" ∷ from ∷ to ∷ place ∷ [])) ++ 10 ∷ [])
-carried b0 b1 b2 b3 b4 b5 b6 b7 b8 tick from to place h1 h2 h3 h4 h5 h6 h7 h8 =
-    text_then b0 b7 b8 (tick ++ spaced (codes "carry" ∷ from ∷ to ∷ place ∷ [])) (10 ∷ [])
-    (text_then b0 b1 b7 tick (spaced (codes "carry" ∷ from ∷ to ∷ place ∷ [])) h1
-    (text_then b1 b2 b7 (codes " carry ") (from ++ (32 ∷ (to ++ (32 ∷ (place ++ []))))) h2
-    (text_then b2 b3 b7 from (32 ∷ (to ++ (32 ∷ (place ++ [])))) h3
-    (text_then b3 b4 b7 (32 ∷ []) (to ++ (32 ∷ (place ++ []))) h4
-    (text_then b4 b5 b7 to (32 ∷ (place ++ [])) h5
-    (text_then b5 b6 b7 (32 ∷ []) (place ++ []) h6
-    (h7 ∙ ap (λ l. b6 ++ l) (sym (append-nil place)))))))))
-    h8
-
-pub injected : (b0 b1 b2 b3 b4 b5 b6 tick site number : List ℕ) → b1 ≡ b0 ++ tick → b2 ≡ b1 ++ codes " inject " → b3 ≡ b2 ++ site
-    → b4 ≡ b3 ++ 32 ∷ [] → b5 ≡ b4 ++ number → b6 ≡ b5 ++ 10 ∷ []
-    → b6 ≡ b0 ++ ((tick ++ spaced (codes "inject" ∷ site ∷ number ∷ [])) ++ 10 ∷ [])
-injected b0 b1 b2 b3 b4 b5 b6 tick site number h1 h2 h3 h4 h5 h6 =
-    text_then b0 b5 b6 (tick ++ spaced (codes "inject" ∷ site ∷ number ∷ [])) (10 ∷ [])
-    (text_then b0 b1 b5 tick (spaced (codes "inject" ∷ site ∷ number ∷ [])) h1
-    (text_then b1 b2 b5 (codes " inject ") (site ++ (32 ∷ (number ++ []))) h2
-    (text_then b2 b3 b5 site (32 ∷ (number ++ [])) h3
-    (text_then b3 b4 b5 (32 ∷ []) (number ++ []) h4
-    (h5 ∙ ap (λ l. b4 ++ l) (sym (append-nil number)))))))
-    h6

@@ -2,7 +2,7 @@
 ghost use Rattle.std.specs.Prelude.{◌≡◌};
 ghost use Rattle.mn_journal.specs.declared.refusal.JournalBad.TheVariants.{NoMemory};
 
-use std::alloc::{AllocError, AllocFailed};
+use std::alloc::AllocError;
 use thiserror::Error;
 
 /// Why there are no entries.
@@ -19,14 +19,6 @@ impl From<AllocError> for JournalBad {
     ghost from_gives = { λ _ e. e ≡ NoMemory };
 
     fn from(_: AllocError) -> Self {
-        JournalBad::NoMemory
-    }
-}
-
-impl<T: Drop> From<AllocFailed<T>> for JournalBad {
-    ghost from_gives = { λ _ e. e ≡ NoMemory };
-
-    fn from(_: AllocFailed<T>) -> Self {
         JournalBad::NoMemory
     }
 }
