@@ -1,5 +1,5 @@
 -- A VRF has one static more: all VRFs hold its route that are to.
-use Rattle.std.proofs.Common.{ℕ, zero, suc, ◌≡◌, ◌≢◌, ◌<◌, ◌⊎◌, inl, inr, Bool, true, false, cond, List, [], ◌∷◌, ◌++◌, map, length, refl, arith, sym, ◌∙◌}
+use Rattle.std.proofs.Common.{ℕ, zero, suc, ◌≡◌, ◌<◌, ◌⊎◌, inl, inr, Bool, true, false, cond, List, [], ◌∷◌, ◌++◌, map, length, refl, arith, sym, ◌∙◌}
 use Rattle.std.proofs.Common.{ap, subst, Option, Some, None}
 use Rattle.std.specs.Prelude.{◌==◌, ◌||◌, nat_lt, slice_index_or, option_map, if◌then◌else◌}
 use Rattle.std.specs.List.{flat_map}
@@ -19,8 +19,10 @@ use Rattle.mn_vrf.proofs.Orders.{static_order}
 use Rattle.mn_pe.specs.Edge.{Edge, on_vrf, after_vrf}
 use Rattle.mn_pe.specs.Held.{site_label, held_by}
 use Rattle.mn_pe.specs.Pe.{InOrder, AllHold, IsSound, edge_of, found_in, by_number, IsAbsent, told}
-use Rattle.mn_pe.specs.Changes.{Change, changed, with_changes, spread_to, spread_over, spread_by, present_of, telling, IsSpread, NoVrf, OfVrf}
-use Rattle.mn_pe.proofs.Places.{told_map, absent_on, absent_telling, told_telling}
+use Rattle.mn_pe.specs.Changes.{Change, changed, with_changes, spread_to, spread_over, spread_by, present_of, telling, IsSpread}
+use Rattle.mn_pe.specs.Switched.{Nobody, ByVrf}
+use Rattle.mn_pe.proofs.Becomes.{Becomes, becomes}
+use Rattle.mn_pe.proofs.Places.{told_there, told_else, told_map, absent_on, absent_telling, told_telling}
 use Rattle.mn_pe.proofs.Folds.{changed_held}
 use Rattle.mn_pe.proofs.OnePlaces.{one_of, one_places}
 use Rattle.mn_pe.proofs.Orderly.{vrf_order}
@@ -75,6 +77,14 @@ none_mapped g (Some x) h = absurd (let none : Some (g x) ≡ None → ⊥ = (λ 
 pub dummy : ℕ → Holding
 dummy v = record { vrf = record { number = v; rd = record { 0 = 0 }; statics = []; imports = []; exports = [] }; held = [] }
 
+-- what holds of a VRF that is told something and of one that is not
+pub told_either : (v : ℕ) (f : VrfState → VrfState) (P : VrfState → Type 0) (w : VrfState) → P (f w) → P w → P (cond (w.number == v) (f w) w)
+told_either v f P w told_it as_was = split (w.number == v)
+  where
+    split : (b : Bool) → P (cond b (f w) w)
+    split true = told_it
+    split false = as_was
+
 module _ (v : ℕ) (p : AddressBlock) (site : ℕ) where
   abbrev new_static : Static
   new_static = record { prefix = p; site = site }
@@ -82,17 +92,9 @@ module _ (v : ℕ) (p : AddressBlock) (site : ℕ) where
   abbrev later : VrfState → VrfState
   later w = cond (w.number == v) (with_static new_static w) w
 
-  later_on : (w : VrfState) → w.number ≡ v → later w ≡ with_static new_static w
-  later_on w e = elim (eqb_tells w.number v) [ inl h ↦ ap (λ b. cond b (with_static new_static w) w) h.0 | inr h ↦ absurd (h.1 e) ]
-
-  later_off : (w : VrfState) → w.number ≢ v → later w ≡ w
-  later_off w d = elim (eqb_tells w.number v) [ inl h ↦ absurd (d h.1) | inr h ↦ ap (λ b. cond b (with_static new_static w) w) h.0 ]
-
   alike : (w : VrfState) → AreAlike w (later w)
-  alike w = elim (eqb_tells w.number v) [
-    | inl h ↦ subst (AreAlike w) (sym (later_on w h.1)) (record { number = refl; imports = refl; exports = refl })
-    | inr h ↦ subst (AreAlike w) (sym (later_off w h.1)) (record { number = refl; imports = refl; exports = refl })
-  ]
+  alike w = told_either v (with_static new_static) (AreAlike w) w (record { number = refl; imports = refl; exports = refl })
+      (record { number = refl; imports = refl; exports = refl })
 
   module _ (e : Edge) (order : InOrder e) (free : (w : VrfState) → In e.vrfs w → w.number ≡ v → (x : Static) → In w.statics x →
       (static_before x new_static || static_before new_static x) ≡ true)
@@ -114,16 +116,16 @@ module _ (v : ℕ) (p : AddressBlock) (site : ℕ) where
 
     present_later : (w : VrfState) → In e.vrfs w → (x : Static) → IsPresent e w x → IsPresent more (later w) x
     present_later w i x q = elim (eqb_tells w.number v) [
-      | inl h ↦ subst (λ u. IsPresent more u x) (sym (later_on w h.1)) (q.0, in_with static_before new_static w.statics x q.1 (free w i h.1 x q.1), q.2)
-      | inr h ↦ subst (λ u. IsPresent more u x) (sym (later_off w h.1)) (q.0, q.1, q.2)
+      | inl h ↦ subst (λ u. IsPresent more u x) (sym (told_there v (with_static new_static) w h.1)) (q.0, in_with static_before new_static w.statics x q.1 (free w i h.1 x q.1), q.2)
+      | inr h ↦ subst (λ u. IsPresent more u x) (sym (told_else v (with_static new_static) w h.1)) (q.0, q.1, q.2)
     ]
 
     present_before : (w : VrfState) (teller : VrfState) → teller.number ≡ v → (x : Static) → IsPresent more (later w) x →
         IsPresent e w x ⊎ (((later w).number ≡ teller.number) × In came x)
     present_before w teller is x q = elim (eqb_tells w.number v) [
-      | inr h ↦ inl (let r = subst (λ u. IsPresent more u x) (later_off w h.1) q in (r.0, r.1, r.2))
+      | inr h ↦ inl (let r = subst (λ u. IsPresent more u x) (told_else v (with_static new_static) w h.1) q in (r.0, r.1, r.2))
       | inl h ↦
-          let r = subst (λ u. IsPresent more u x) (later_on w h.1) q in
+          let r = subst (λ u. IsPresent more u x) (told_there v (with_static new_static) w h.1) q in
           elim (with_in static_before new_static w.statics x r.1) [
             | inr k ↦ inl (r.0, k.0, r.2)
             | inl k ↦ inr (
@@ -145,7 +147,7 @@ module _ (v : ℕ) (p : AddressBlock) (site : ℕ) where
       here = λ u j same x c. let m = in_map later e.vrfs u j in
           let k = came_is x (site_label e site) c in
           let number : m.0.number ≡ v = sym (alike m.0).number ∙ ap (λ (z : VrfState). z.number) m.2 ∙ same ∙ is in
-          subst (λ (z : VrfState). IsPresent more z x) (sym (later_on m.0 number) ∙ m.2)
+          subst (λ (z : VrfState). IsPresent more z x) (sym (told_there v (with_static new_static) m.0 number) ∙ m.2)
           (subst (IsPresent more (with_static new_static m.0)) k.0 (k.1.0, in_with_new static_before new_static m.0.statics, k.1.1));
       told_at = λ x c. (teller, there, refl, refl);
       only = λ u j same. ap (λ (z : VrfState). z.exports) (same_number more.vrfs u teller order_more.vrfs j there same);
@@ -177,8 +179,8 @@ module _ (v : ℕ) (p : AddressBlock) (site : ℕ) where
 -- 3. All VRFs
 
 pub told_spread : (labels : List (Option ℕ)) (v : ℕ) (on : Bool) (s : Static) (one new : List Holding) → IsSpread labels v on s one new → told new ≡ told one
-told_spread labels v on s one new (NoVrf absent e) = ap told e
-told_spread labels v on s one new (OfVrf at is made) =
+told_spread labels v on s one new (Nobody absent e) = ap told e
+told_spread labels v on s one new (ByVrf at is made) =
     ap told (made (dummy v))
     ∙ told_map (λ (h : Holding). with_changes (spread_over (slice_index_or one at (dummy v)).vrf on
     (present_of (slice_index_or labels s.site None) s) h.vrf) h) (λ h. refl) one
@@ -253,11 +255,11 @@ module _ (v : ℕ) (p : AddressBlock) (site : ℕ) (old new one : List Holding) 
 
   sound_by : IsSpread labels v true (new_static v p site) one new → IsSound (after_vrf edge v (with_static (new_static v p site))) new
   unfolding spread_one_vrf
-  sound_by (NoVrf absent e) =
+  sound_by (Nobody absent e) =
       let gone : IsAbsent v old = absent_old absent in
       subst (λ (vs : List VrfState). IsSound (record edge { vrfs = vs }) new) (sym (absent_on v (with_static (new_static v p site)) old gone))
       (subst (IsSound edge) (sym (e ∙ one_is ∙ absent_telling v (with_static (new_static v p site)) old gone)) sound)
-  sound_by (OfVrf at is made) =
+  sound_by (ByVrf at is made) =
       let teller : VrfState = (slice_index_or one at (dummy v)).vrf in
       let there : In (on_vrf v (with_static (new_static v p site)) (told old)) teller =
       subst (λ vs. In vs teller) told_one (in_told one at (dummy v) is.there) in
@@ -267,10 +269,10 @@ module _ (v : ℕ) (p : AddressBlock) (site : ℕ) (old new one : List Holding) 
             (all_hold teller (is.is (dummy v)) there old (in_told_all old) sound.held);
       }
 
-  pub added_edge : edge_of new sites labels lbs hs ≡ after_vrf edge v (with_static (record { prefix = p; site = site }))
+  added_edge : edge_of new sites labels lbs hs ≡ after_vrf edge v (with_static (record { prefix = p; site = site }))
   added_edge =
       ap (λ (vs : List VrfState). let x : Edge = record { vrfs = vs; sites = sites; labels = labels; loopbacks = lbs; heard = hs } in x)
       (told_spread labels v true (new_static v p site) one new spread ∙ told_one)
 
-  pub added_sound : IsSound (edge_of new sites labels lbs hs) new
-  added_sound = subst (λ x. IsSound x new) (sym added_edge) (sound_by spread)
+  pub added : Becomes new sites labels lbs hs (after_vrf edge v (with_static (record { prefix = p; site = site })))
+  added = becomes new sites labels lbs hs (after_vrf edge v (with_static (record { prefix = p; site = site }))) added_edge (sound_by spread)

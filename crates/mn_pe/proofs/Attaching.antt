@@ -14,12 +14,13 @@ use Rattle.mn_targets.specs.Targets.{meet}
 use Rattle.mn_vrf.specs.declared.source.Source.{Source}
 use Rattle.mn_vrf.specs.declared.source.Source.TheVariants.{Own, Near, Far}
 use Rattle.mn_vrf.specs.Vrf.{Static, VrfState, Holding}
-use Rattle.mn_pe.specs.Edge.{Edge, vrf_of_site}
+use Rattle.mn_pe.specs.Edge.{Edge, vrf_of_site, after_attach, after_detach}
 use Rattle.mn_pe.specs.Held.{own_over, near_over, held_by}
 use Rattle.mn_pe.specs.Pe.{InOrder, AllHold, IsSound, AreAtHome, edge_of, IsAbsent, told}
 use Rattle.mn_pe.specs.Changes.{change_of}
 use Rattle.mn_pe.specs.Switched.{turned, source_for, after_over, turning_over, attaching, IsBy, Nobody, ByVrf}
 use Rattle.mn_pe.proofs.Adding.{same_number, in_told, dummy}
+use Rattle.mn_pe.proofs.Becomes.{Becomes, becomes}
 use Rattle.mn_pe.proofs.Places.{told_map}
 use Rattle.mn_pe.proofs.Folds.{changed_held}
 use Rattle.mn_pe.proofs.Importing.{from_far}
@@ -334,19 +335,19 @@ module _ (on : Bool) (site : ℕ) (old new : List Holding) (sites : List VrfNo) 
             old (in_vrfs old) sound.held);
       }
 
-  pub switched_edge : edge_of new sites later lbs hs ≡ edge_of old sites later lbs hs
-  switched_edge = ap (λ (vs : List VrfState). let x : Edge = record { vrfs = vs; sites = sites; labels = later; loopbacks = lbs; heard = hs } in x)
-      (told_after on site v old new by)
-
-  pub switched_sound : IsSound (edge_of new sites later lbs hs) new
-  switched_sound = subst (λ x. IsSound x new) (sym switched_edge) (sound_by by)
+  switched : (ls : List (Option ℕ)) → ls ≡ later → Becomes new sites ls lbs hs (edge_of old sites later lbs hs)
+  switched ls e =
+      becomes new sites ls lbs hs (edge_of old sites later lbs hs)
+      (ap (λ (l : List (Option ℕ)). edge_of new sites l lbs hs) e
+      ∙ ap (λ (vs : List VrfState). let x : Edge = record { vrfs = vs; sites = sites; labels = later; loopbacks = lbs; heard = hs } in x)
+      (told_after on site v old new by)) (sound_by by)
 
 module _ (site label : ℕ) (old : List Holding) (sites : List VrfNo) (labels : List (Option ℕ)) (lbs : List ℕ) (hs : List (List Heard))
     (sound : IsSound (edge_of old sites labels lbs hs) old) (below : site < length labels) where
   abbrev now : Edge
   now = edge_of old sites labels lbs hs
 
-  pub attached_are : (teller : VrfState) → ((s : Static) → In teller.statics s → In (told old) teller) →
+  attached_are : (teller : VrfState) → ((s : Static) → In teller.statics s → In (told old) teller) →
       ((u : VrfState) → In (told old) u → (s : Static) → In u.statics s → s.site ≡ site → u ≡ teller) → (w : VrfState) → In (told old) w →
       held_by (edge_of old sites (slice_set labels site (Some label)) lbs hs) w
       ≡ all_changed true (site_routes (source_for w teller site) site teller.statics) (held_by (edge_of old sites labels lbs hs) w)
@@ -359,12 +360,17 @@ module _ (site label : ℕ) (old : List Holding) (sites : List VrfNo) (labels : 
       (with_site site now labels (slice_set labels site (Some label)) (λ k d. get_or-set_other labels site k (Some label) None d) label
       (get_or-set_same labels site (Some label) None below) sound.order teller there home w i))
 
+  pub attached : (new : List Holding) (ls : List (Option ℕ)) (v : ℕ) → ls ≡ slice_set labels site (Some label) → vrf_of_site now site ≡ v →
+      IsBy v (attaching true site) old new → Becomes new sites ls lbs hs (after_attach now site label)
+  attached new ls v later_is of_site by =
+      switched true site old new sites labels (slice_set labels site (Some label)) lbs hs sound v of_site by attached_are ls later_is
+
 module _ (site label : ℕ) (old : List Holding) (sites : List VrfNo) (labels : List (Option ℕ)) (lbs : List ℕ) (hs : List (List Heard))
     (sound : IsSound (edge_of old sites labels lbs hs) old) (has : slice_index_or labels site None ≡ Some label) where
   abbrev was : Edge
   was = edge_of old sites labels lbs hs
 
-  pub detached_are : (teller : VrfState) → ((s : Static) → In teller.statics s → In (told old) teller) →
+  detached_are : (teller : VrfState) → ((s : Static) → In teller.statics s → In (told old) teller) →
       ((u : VrfState) → In (told old) u → (s : Static) → In u.statics s → s.site ≡ site → u ≡ teller) → (w : VrfState) → In (told old) w →
       held_by (edge_of old sites (slice_set labels site None) lbs hs) w
       ≡ all_changed false (site_routes (source_for w teller site) site teller.statics) (held_by (edge_of old sites labels lbs hs) w)
@@ -384,3 +390,8 @@ module _ (site label : ℕ) (old : List Holding) (sites : List VrfNo) (labels : 
         falls = more.falls;
         apart = apart site was (slice_set labels site None) labels others label has sound.order teller there home w i (set_none labels site) one;
       }))
+
+  pub detached : (new : List Holding) (ls : List (Option ℕ)) (v : ℕ) → ls ≡ slice_set labels site None → vrf_of_site was site ≡ v →
+      IsBy v (attaching false site) old new → Becomes new sites ls lbs hs (after_detach was site)
+  detached new ls v later_is of_site by =
+      switched false site old new sites labels (slice_set labels site None) lbs hs sound v of_site by detached_are ls later_is

@@ -1,5 +1,5 @@
 -- A VRF has one static less: no VRF holds its route.
-use Rattle.std.proofs.Common.{ℕ, ◌≡◌, ◌≢◌, ◌<◌, ◌⊎◌, inl, inr, Bool, true, false, cond, List, [], ◌∷◌, map, filter, length, refl, arith, sym, ◌∙◌, ap}
+use Rattle.std.proofs.Common.{ℕ, ◌≡◌, ◌<◌, ◌⊎◌, inl, inr, Bool, true, false, cond, List, [], ◌∷◌, map, filter, length, refl, arith, sym, ◌∙◌, ap}
 use Rattle.std.proofs.Common.{subst, Option, Some, None}
 use Rattle.std.specs.Prelude.{◌==◌, ◌||◌, nat_lt, slice_index_or, if◌then◌else◌}
 use Rattle.std.specs.List.{range_with_len}
@@ -22,13 +22,15 @@ use Rattle.mn_vrf.proofs.Orders.{static_order}
 use Rattle.mn_pe.specs.Edge.{Edge, on_vrf, after_vrf}
 use Rattle.mn_pe.specs.Held.{site_label, held_by, far_over}
 use Rattle.mn_pe.specs.Pe.{InOrder, AllHold, IsSound, edge_of, found_in, IsAbsent, told}
-use Rattle.mn_pe.specs.Changes.{changed, with_changes, spread_over, present_of, telling, IsSpread, NoVrf, OfVrf}
-use Rattle.mn_pe.proofs.Adding.{same_number, in_told, found_there, dummy, told_spread, index_map, length_map}
+use Rattle.mn_pe.specs.Changes.{changed, with_changes, spread_over, present_of, telling, IsSpread}
+use Rattle.mn_pe.specs.Switched.{Nobody, ByVrf}
+use Rattle.mn_pe.proofs.Adding.{told_either, same_number, in_told, found_there, dummy, told_spread, index_map, length_map}
+use Rattle.mn_pe.proofs.Becomes.{Becomes, becomes}
 use Rattle.mn_pe.proofs.Folds.{changed_held}
 use Rattle.mn_pe.proofs.Offers.{neither_less}
 use Rattle.mn_pe.proofs.OnePlaces.{all_in, one_of, one_places}
 use Rattle.mn_pe.proofs.Orderly.{vrf_order}
-use Rattle.mn_pe.proofs.Places.{absent_on, absent_telling, told_telling}
+use Rattle.mn_pe.proofs.Places.{told_there, told_else, absent_on, absent_telling, told_telling}
 use Rattle.mn_pe.proofs.Sound.{kept_of}
 use Rattle.mn_pe.proofs.Spreads.{IsPresent, IsRouteOf, AreAlike, Grows, raw, raw_kinds, far_list, gone_changes}
 
@@ -80,17 +82,9 @@ module _ (v : ℕ) (p : AddressBlock) (site : ℕ) where
   abbrev later : VrfState → VrfState
   later w = cond (w.number == v) (without_static old_static w) w
 
-  later_on : (w : VrfState) → w.number ≡ v → later w ≡ without_static old_static w
-  later_on w e = elim (eqb_tells w.number v) [ inl h ↦ ap (λ b. cond b (without_static old_static w) w) h.0 | inr h ↦ absurd (h.1 e) ]
-
-  later_off : (w : VrfState) → w.number ≢ v → later w ≡ w
-  later_off w d = elim (eqb_tells w.number v) [ inl h ↦ absurd (d h.1) | inr h ↦ ap (λ b. cond b (without_static old_static w) w) h.0 ]
-
   alike : (w : VrfState) → AreAlike (later w) w
-  alike w = elim (eqb_tells w.number v) [
-    | inl h ↦ subst (λ u. AreAlike u w) (sym (later_on w h.1)) (record { number = refl; imports = refl; exports = refl })
-    | inr h ↦ subst (λ u. AreAlike u w) (sym (later_off w h.1)) (record { number = refl; imports = refl; exports = refl })
-  ]
+  alike w = told_either v (without_static old_static) (λ u. AreAlike u w) w (record { number = refl; imports = refl; exports = refl })
+      (record { number = refl; imports = refl; exports = refl })
 
   module _ (e : Edge) (order : InOrder e) (there : (w : VrfState) → In e.vrfs w → w.number ≡ v → In w.statics old_static) where
     abbrev less : Edge
@@ -110,9 +104,9 @@ module _ (v : ℕ) (p : AddressBlock) (site : ℕ) where
 
     rises : (w : VrfState) (x : Static) → IsPresent less (later w) x → IsPresent e w x
     rises w x q = elim (eqb_tells w.number v) [
-      | inl h ↦ let r = subst (λ u. IsPresent less u x) (later_on w h.1) q in
+      | inl h ↦ let r = subst (λ u. IsPresent less u x) (told_there v (without_static old_static) w h.1) q in
           (r.0, (in_filter (λ y. static_before y old_static || static_before old_static y) w.statics x r.1).0, r.2)
-      | inr h ↦ let r = subst (λ u. IsPresent less u x) (later_off w h.1) q in (r.0, r.1, r.2)
+      | inr h ↦ let r = subst (λ u. IsPresent less u x) (told_else v (without_static old_static) w h.1) q in (r.0, r.1, r.2)
     ]
 
     up : (w : VrfState) → In e.vrfs w → w.number ≡ v → (x : Static) → In w.statics x → (static_before x old_static || static_before old_static x) ≡ false →
@@ -126,9 +120,9 @@ module _ (v : ℕ) (p : AddressBlock) (site : ℕ) where
     falls : (w : VrfState) → In e.vrfs w → (teller : VrfState) → teller.number ≡ v → (x : Static) → IsPresent e w x →
         IsPresent less (later w) x ⊎ ((w.number ≡ teller.number) × In came x)
     falls w i teller is x q = elim (eqb_tells w.number v) [
-      | inr h ↦ inl (subst (λ u. IsPresent less u x) (sym (later_off w h.1)) (q.0, q.1, q.2))
+      | inr h ↦ inl (subst (λ u. IsPresent less u x) (sym (told_else v (without_static old_static) w h.1)) (q.0, q.1, q.2))
       | inl h ↦ elim (two_ways (static_before x old_static || static_before old_static x)) [
-        | inl apart ↦ inl (subst (λ u. IsPresent less u x) (sym (later_on w h.1))
+        | inl apart ↦ inl (subst (λ u. IsPresent less u x) (sym (told_there v (without_static old_static) w h.1))
             (q.0, filter_in (λ y. static_before y old_static || static_before old_static y) w.statics x q.1 apart, q.2))
         | inr same ↦
             let k : old_static ≡ x = up w i h.1 x q.1 same in
@@ -164,7 +158,7 @@ module _ (v : ℕ) (p : AddressBlock) (site : ℕ) where
     gone_place w i is x q same =
         let m = in_map later e.vrfs w i in
         let number : m.0.number ≡ v = (alike m.0).number ∙ ap (λ (z : VrfState). z.number) m.2 ∙ is in
-        let r = subst (λ u. IsPresent less u x) (sym m.2 ∙ later_on m.0 number) q in
+        let r = subst (λ u. IsPresent less u x) (sym m.2 ∙ told_there v (without_static old_static) m.0 number) q in
         let apart = (in_filter (λ y. static_before y old_static || static_before old_static y) m.0.statics x r.1).1 in
         not_before_itself old_static (ap (λ z. prefix_before z p || prefix_before p z) (sym same) ∙ apart)
 
@@ -277,11 +271,11 @@ module _ (v : ℕ) (p : AddressBlock) (site : ℕ) (old new one : List Holding) 
 
   sound_by : IsSpread labels v false (record { prefix = p; site = site }) one new → IsSound (after_vrf edge v goes) new
   unfolding spread_one_vrf
-  sound_by (NoVrf absent e) =
+  sound_by (Nobody absent e) =
       let gone : IsAbsent v old = absent_old absent in
       subst (λ (vs : List VrfState). IsSound (record edge { vrfs = vs }) new) (sym (absent_on v goes old gone))
       (subst (IsSound edge) (sym (e ∙ one_is ∙ absent_telling v goes old gone)) sound)
-  sound_by (OfVrf at is made) =
+  sound_by (ByVrf at is made) =
       let d : Holding = dummy v in
       let teller : VrfState = (slice_index_or one at (telling v goes d)).vrf in
       let first : VrfState = (slice_index_or old at d).vrf in
@@ -294,10 +288,10 @@ module _ (v : ℕ) (p : AddressBlock) (site : ℕ) (old new one : List Holding) 
             (all_hold teller first first_in first_is same old (in_told_all old) sound.held);
       }
 
-  pub deleted_edge : edge_of new sites labels lbs hs ≡ after_vrf edge v (without_static (record { prefix = p; site = site }))
+  deleted_edge : edge_of new sites labels lbs hs ≡ after_vrf edge v (without_static (record { prefix = p; site = site }))
   deleted_edge =
       ap (λ (vs : List VrfState). let x : Edge = record { vrfs = vs; sites = sites; labels = labels; loopbacks = lbs; heard = hs } in x)
       (told_spread labels v false (record { prefix = p; site = site }) one new spread ∙ told_one)
 
-  pub deleted_sound : IsSound (edge_of new sites labels lbs hs) new
-  deleted_sound = subst (λ x. IsSound x new) (sym deleted_edge) (sound_by spread)
+  pub deleted : Becomes new sites labels lbs hs (after_vrf edge v (without_static (record { prefix = p; site = site })))
+  deleted = becomes new sites labels lbs hs (after_vrf edge v (without_static (record { prefix = p; site = site }))) deleted_edge (sound_by spread)

@@ -5,7 +5,7 @@ use Rattle.std.specs.Prelude.{◌==◌, ◌&&◌, not, slice_index_or, if◌then
 use Rattle.std.proofs.lemmas.Bool.Decides.{eqb_tells}
 use Rattle.mn_base.specs.declared.numbers.Rt.{Rt}
 use Rattle.mn_base.specs.declared.numbers.VrfNo.{VrfNo}
-use Rattle.mn_base.proofs.Bools.{no, and_on, not_on, other_test, test_same}
+use Rattle.mn_base.proofs.Bools.{no, and_on, not_on, other_test}
 use Rattle.mn_base.proofs.Members.{In, in_map, map_in}
 use Rattle.mn_prefix.specs.Prefix.{AddressBlock}
 use Rattle.mn_rib_in.specs.Heard.{Heard}
@@ -18,8 +18,9 @@ use Rattle.mn_pe.specs.Pe.{InOrder, AllHold, IsSound, edge_of, found_in, IsAbsen
 use Rattle.mn_pe.specs.Changes.{change_of, telling}
 use Rattle.mn_pe.specs.Switched.{import_alone, after_statics, exporting, IsBy, Nobody, ByVrf}
 use Rattle.mn_pe.proofs.Adding.{same_number, in_told, found_there, dummy, index_map, length_map}
+use Rattle.mn_pe.proofs.Becomes.{Becomes, becomes}
 use Rattle.mn_pe.proofs.Alone.{Differ, export_differs, export_differs_off}
-use Rattle.mn_pe.proofs.Places.{told_map, absent_on, absent_telling, told_telling}
+use Rattle.mn_pe.proofs.Places.{told_there, told_else, told_map, absent_on, absent_telling, told_telling}
 use Rattle.mn_pe.proofs.Folds.{changed_held}
 use Rattle.mn_pe.proofs.Importing.{fresh_on, fresh_off, from_far}
 use Rattle.mn_pe.proofs.Offers.{AreApart, HasOnePlaces, far_of}
@@ -27,7 +28,7 @@ use Rattle.mn_pe.proofs.OnePlaces.{one_places, two_vrfs}
 use Rattle.mn_pe.proofs.Orderly.{vrf_order}
 use Rattle.mn_pe.proofs.Retracts.{by_sources}
 use Rattle.mn_pe.proofs.Sound.{kept_of, in_vrfs}
-use Rattle.mn_pe.proofs.Spreads.{raw, raw_kinds, own_to, near_to, far_to}
+use Rattle.mn_pe.proofs.Spreads.{IsNearRoute, raw, raw_kinds, own_to, near_to, far_to}
 use Rattle.mn_pe.proofs.Turned.{exporting_keeps, static_routes, statics_are, from_statics, to_statics, all_changed, AreThese, all_come, all_go}
 
 -- 1. One VRF, with either set of another
@@ -61,6 +62,21 @@ module _ (e : Edge) (ls ms : List VrfState) (v : ℕ) (tl tm : VrfState) (there 
   abbrev routes : List (AddressBlock × Source)
   routes = told_routes (not (w.number == tm.number) && alone) tm e.labels
 
+  -- a route of a VRF is one of those that are like it, where a target is imported
+  like_near : (us xs : List VrfState) (z : AddressBlock × Source) (n : IsNearRoute (record e { vrfs = us }) w z) (x : VrfState) → In xs x →
+      IsLike v n.0 x → meet x.exports w.imports ≡ true → IsNearRoute (record e { vrfs = xs }) w z
+  like_near us xs z n x i like meets = (
+    x,
+    i,
+    λ s. n.2 (sym like.number ∙ s),
+    meets,
+    (
+      n.4.0,
+      (n.4.1.0, subst (λ ss. In ss n.4.0) (sym like.statics) n.4.1.1, n.4.1.2),
+      ap (λ m. let r : AddressBlock × Source = (n.4.0.prefix, near_over m n.4.0.site) in r) like.number ∙ n.4.2,
+    ),
+  )
+
   rises : (z : AddressBlock × Source) → In (raw less lesser) z → In (raw more greater) z
   rises z i = elim (raw_kinds less lesser z i) [
     | inl o ↦ own_to more greater z (o.0, (o.1.0, o.1.1, o.1.2), o.2)
@@ -76,17 +92,7 @@ module _ (e : Edge) (ls ms : List VrfState) (v : ℕ) (tl tm : VrfState) (there 
                 ∙ differ.rises (sym (ap (λ (u : VrfState). meet u.exports w.imports) old) ∙ n.3)
             | inr d ↦ ap (λ ts. meet ts w.imports) (f.2.others d.1) ∙ n.3
           ] in
-          near_to more greater z (
-            f.0,
-            f.1,
-            λ s. n.2 (sym f.2.number ∙ s),
-            meets,
-            (
-              n.4.0,
-              (n.4.1.0, subst (λ ss. In ss n.4.0) (sym f.2.statics) n.4.1.1, n.4.1.2),
-              ap (λ m. let r : AddressBlock × Source = (n.4.0.prefix, near_over m n.4.0.site) in r) f.2.number ∙ n.4.2,
-            ),
-          )
+          near_to more greater z (like_near ls ms z n f.0 f.1 f.2 meets)
     ]
   ]
 
@@ -125,17 +131,8 @@ module _ (e : Edge) (ls ms : List VrfState) (v : ℕ) (tl tm : VrfState) (there 
       | inr f ↦ inl (far_to less lesser z f)
       | inl n ↦
           let b = back n.0 n.1 in
-          let kept : meet b.0.exports w.imports ≡ true → In (raw less lesser) z = λ meets. near_to less lesser z (
-            b.0,
-            b.1,
-            λ s. n.2 (sym b.2.number ∙ s),
-            meets,
-            (
-              n.4.0,
-              (n.4.1.0, subst (λ ss. In ss n.4.0) (sym b.2.statics) n.4.1.1, n.4.1.2),
-              ap (λ m. let r : AddressBlock × Source = (n.4.0.prefix, near_over m n.4.0.site) in r) b.2.number ∙ n.4.2,
-            ),
-          ) in
+          let kept : meet b.0.exports w.imports ≡ true → In (raw less lesser) z =
+          λ meets. near_to less lesser z (like_near ms ls z n b.0 b.1 b.2 meets) in
           elim (eqb_tells n.0.number v) [
             | inr d ↦ inl (kept (ap (λ ts. meet ts w.imports) (b.2.others d.1) ∙ n.3))
             | inl s ↦
@@ -186,16 +183,10 @@ module _ (v : ℕ) (t : Rt) (e : Edge) (order : InOrder e) (told_vrf : VrfState)
   abbrev teller : Bool → VrfState
   teller on = with_exports (target_set t on) told_vrf
 
-  at_number : (on : Bool) (w : VrfState) → w.number ≡ v → new_of on w ≡ with_exports (target_set t on) w
-  at_number on w h = ap (λ b. cond b (with_exports (target_set t on) w) w) (test_same w.number v h)
-
-  at_another : (on : Bool) (w : VrfState) → w.number ≢ v → new_of on w ≡ w
-  at_another on w d = ap (λ b. cond b (with_exports (target_set t on) w) w) (other_test w.number v d)
-
   like : (on : Bool) (u : VrfState) → IsLike v u (new_of on u)
   like on u = elim (eqb_tells u.number v) [
-    | inl h ↦ subst (IsLike v u) (sym (at_number on u h.1)) (record { number = refl; statics = refl; others = λ d. absurd (d h.1) })
-    | inr d ↦ subst (IsLike v u) (sym (at_another on u d.1)) (record { number = refl; statics = refl; others = λ d. refl })
+    | inl h ↦ subst (IsLike v u) (sym (told_there v (with_exports (target_set t on)) u h.1)) (record { number = refl; statics = refl; others = λ d. absurd (d h.1) })
+    | inr d ↦ subst (IsLike v u) (sym (told_else v (with_exports (target_set t on)) u d.1)) (record { number = refl; statics = refl; others = λ d. refl })
   ]
 
   like_back : (u x : VrfState) → IsLike v u x → IsLike v x u
@@ -205,7 +196,7 @@ module _ (v : ℕ) (t : Rt) (e : Edge) (order : InOrder e) (told_vrf : VrfState)
   order_later on = vrf_order v (with_exports (target_set t on)) (λ u up. up) (λ u. refl) e (λ u is h. h) order
 
   teller_there : (on : Bool) → In (later on).vrfs (teller on)
-  teller_there on = subst (In (later on).vrfs) (at_number on told_vrf is) (map_in (new_of on) e.vrfs told_vrf there)
+  teller_there on = subst (In (later on).vrfs) (told_there v (with_exports (target_set t on)) told_vrf is) (map_in (new_of on) e.vrfs told_vrf there)
 
   only_before : (u : VrfState) → In e.vrfs u → u.number ≡ v → u ≡ told_vrf
   only_before u i h = same_number e.vrfs u told_vrf order.vrfs i there (h ∙ sym is)
@@ -269,7 +260,7 @@ module _ (v : ℕ) (t : Rt) (on : Bool) (old new one : List Holding) (sites : Li
   told_by (ByVrf at there made) = ap told (made (dummy v))
       ∙ told_map (exporting on t labels (slice_index_or one at (dummy v)).vrf) (exporting_keeps on t labels (slice_index_or one at (dummy v)).vrf) one
 
-  pub exported_edge : edge_of new sites labels lbs hs ≡ after
+  exported_edge : edge_of new sites labels lbs hs ≡ after
   exported_edge =
       ap (λ (vs : List VrfState). let x : Edge = record { vrfs = vs; sites = sites; labels = labels; loopbacks = lbs; heard = hs } in x) (told_by by ∙ told_one)
 
@@ -359,5 +350,5 @@ module _ (v : ℕ) (t : Rt) (on : Bool) (old new one : List Holding) (sites : Li
       sound_told (slice_index_or one at (dummy v)).vrf
       (subst (λ vs. In vs (slice_index_or one at (dummy v)).vrf) told_one (in_told one at (dummy v) is.there)) (is.is (dummy v)) (made (dummy v))
 
-  pub exported_sound : IsSound (edge_of new sites labels lbs hs) new
-  exported_sound = subst (λ x. IsSound x new) (sym exported_edge) (sound_by by)
+  pub exported : Becomes new sites labels lbs hs after
+  exported = becomes new sites labels lbs hs after exported_edge (sound_by by)

@@ -1,6 +1,6 @@
 -- What an edge that stands for the ledger's world says of a packet is the packet's fate.
 use Rattle.std.proofs.Common.{ℕ, ◌≡◌, ◌<◌, inl, inr, false, List, [], ◌∷◌, filter, refl, arith, sym, ◌∙◌, ap, subst, Option, Some, None}
-use Rattle.std.specs.Prelude.{◌==◌, not, nat_lt, is_none, option_map, slice_index, if◌then◌else◌}
+use Rattle.std.specs.Prelude.{◌==◌, not, nat_lt, is_none, option_map, slice_index, if◌then◌else◌, Result, Ok, Err, IfOk}
 use Rattle.mn_base.proofs.Bools.{test_same, not_true}
 use Rattle.mn_base.proofs.Members.{In, in_append, in_contained, in_map, in_filter, in_flat_map}
 use Rattle.mn_prefix.specs.Prefix.{AddressBlock}
@@ -24,6 +24,7 @@ use Rattle.mn_frame_laws.proofs.Fit.{fits_or_falls}
 use Rattle.mn_pe.specs.Edge.{Edge}
 use Rattle.mn_pe.specs.Held.{site_label}
 use Rattle.mn_vrf.specs.declared.source.Source.{Source}
+use Rattle.mn_pe.specs.declared.entering.Entered.{Entered}
 use Rattle.mn_pe.specs.Entries.{alone, entered_by, entered_over, as_held, source_of, StandsAtEntry, IsItsFate}
 
 -- a route from the edge itself leads to a site of it, and one of a peer to another edge
@@ -101,3 +102,12 @@ module _ (t : Network) (g : Labelling) (w : World) (edge : Edge) (route : Option
   is_its_fate =
       subst (λ o. IsItsFate t g w s bytes (entered_by bytes o route))
       (sym (rules_same (site_label edge s) (w.config.attached s) bytes stands.attached)) (by_cause cause refl)
+
+-- and so is what a call answers, if it does
+pub is_the_fate : {E : Type 0} (r : Result Entered E) (edge : Edge) (route : Option (AddressBlock × Source)) (s : ℕ) (bytes : List ℕ) →
+    ((i : ℕ) → slice_index bytes i < 256) →
+    IfOk r (λ (entered : Entered). entered ≡ entered_by bytes (first_rule (entry_rules (site_label edge s) bytes)) route)
+    → IfOk r (λ (entered : Entered). (t : Network) (g : Labelling) (w : World) → StandsAtEntry edge route t g w s bytes → IsItsFate t g w s bytes entered)
+is_the_fate (Ok entered) edge route s bytes small e = λ t g w stands.
+    subst (IsItsFate t g w s bytes) (sym e) (is_its_fate t g w edge route s bytes stands small)
+is_the_fate (Err bad) edge route s bytes small e = e

@@ -3,8 +3,8 @@ use Rattle.std.proofs.Common.{◌≡◌, ◌⊎◌, inl, inr, List, [], ◌∷�
 use Rattle.std.specs.Prelude.{◌||◌}
 use Rattle.mn_base.proofs.Bools.{or_ways}
 use Rattle.mn_base.proofs.Members.{In, in_filter, filter_in}
-use Rattle.mn_base.proofs.Kept.{with_in, in_with, in_with_new, fold_in, in_fold, ascending_unique}
-use Rattle.mn_base.proofs.Places.{ascends_with, ascends_without, fold_ascends}
+use Rattle.mn_base.proofs.Kept.{with_in, in_with, in_with_new, ascending_unique}
+use Rattle.mn_base.proofs.Places.{ascends_with, ascends_without}
 use Rattle.mn_base.specs.Ordered.{Ascends, with_one, without_one}
 use Rattle.mn_prefix.specs.Prefix.{AddressBlock}
 use Rattle.mn_vrf.specs.declared.source.Source.{Source}
@@ -12,7 +12,7 @@ use Rattle.mn_vrf.specs.Routes.{route_before}
 use Rattle.mn_vrf.proofs.Orders.{route_order}
 use Rattle.mn_pe.specs.Held.{in_order}
 use Rattle.mn_pe.specs.Changes.{Change, Comes, Goes, changed}
-use Rattle.mn_pe.proofs.Offers.{AreApart, HasOnePlaces}
+use Rattle.mn_pe.proofs.Offers.{AreApart, HasOnePlaces, order_up, order_keeps, from_order}
 
 abbrev route_of : Change → AddressBlock × Source
 route_of (Comes r) = r
@@ -85,27 +85,18 @@ pub record AreChanges (raw new : List (AddressBlock × Source)) (cs : List Chang
   pub left : (z : AddressBlock × Source) → In raw z → In new z ⊎ In cs (Goes z)
 
 module _ (raw new : List (AddressBlock × Source)) (cs : List Change) (one : HasOnePlaces raw) (one_new : HasOnePlaces new) (are : AreChanges raw new cs) where
-  up : (ys : List (AddressBlock × Source)) → Ascends route_before (in_order ys)
-  up ys = fold_ascends route_before [] ys route_order tt
-
-  kept : (ys : List (AddressBlock × Source)) → HasOnePlaces ys → (z : AddressBlock × Source) → In ys z → In (in_order ys) z
-  kept ys h z i = in_fold route_before [] ys z (inr i) (λ w j. h z w i j)
-
-  from : (ys : List (AddressBlock × Source)) (z : AddressBlock × Source) → In (in_order ys) z → In ys z
-  from ys z i = elim (fold_in route_before [] ys z i) [ inl n ↦ absurd n | inr j ↦ j ]
-
   to : (z : AddressBlock × Source) → In (in_order new) z → In (changed cs (in_order raw)) z
   to z i =
-      let n : In new z = from new z i in
-      to_changed cs (in_order raw) z (elim (are.only z n) [ inl j ↦ inl (kept raw one z j) | inr j ↦ inr j ])
+      let n : In new z = from_order new z i in
+      to_changed cs (in_order raw) z (elim (are.only z n) [ inl j ↦ inl (order_keeps raw one z j) | inr j ↦ inr j ])
       (λ r j. one_new z r n (are.comes r j)) (λ r j. are.gone z r n j)
 
   back : (z : AddressBlock × Source) → In (changed cs (in_order raw)) z → In (in_order new) z
-  back z i = kept new one_new z (elim (from_changed cs (in_order raw) z i) [
+  back z i = order_keeps new one_new z (elim (from_changed cs (in_order raw) z i) [
     | inr j ↦ are.comes z j
-    | inl j ↦ elim (are.left z (from raw z j)) [ inl n ↦ n | inr g ↦ are.comes z (gone_came cs (in_order raw) z i g) ]
+    | inl j ↦ elim (are.left z (from_order raw z j)) [ inl n ↦ n | inr g ↦ are.comes z (gone_came cs (in_order raw) z i g) ]
   ])
 
   pub changed_held : in_order new ≡ changed cs (in_order raw)
-  changed_held = ascending_unique route_before route_order (in_order new) (changed cs (in_order raw)) (up new)
-      (changed_ascends cs (in_order raw) (up raw)) to back
+  changed_held = ascending_unique route_before route_order (in_order new) (changed cs (in_order raw)) (order_up new)
+      (changed_ascends cs (in_order raw) (order_up raw)) to back

@@ -21,6 +21,7 @@ use Rattle.mn_pe.specs.Pe.{InOrder, AllHold, IsSound, edge_of, found_in, by_numb
 use Rattle.mn_pe.specs.Changes.{change_of, telling}
 use Rattle.mn_pe.specs.Switched.{meet_alone, after_vrfs, at_vrf, importing}
 use Rattle.mn_pe.proofs.Adding.{same_number, found_there}
+use Rattle.mn_pe.proofs.Becomes.{Becomes, becomes}
 use Rattle.mn_pe.proofs.Alone.{Differ, import_differs, import_differs_off}
 use Rattle.mn_pe.proofs.Places.{told_map, told_telling}
 use Rattle.mn_pe.proofs.Folds.{changed_held}
@@ -300,7 +301,7 @@ module _ (v : ℕ) (t : Rt) (on : Bool) (old new one : List Holding) (sites : Li
       split true = refl
       split false = refl
 
-  pub imported_edge : edge_of new sites labels lbs hs ≡ after
+  imported_edge : edge_of new sites labels lbs hs ≡ after
   imported_edge =
       ap (λ (vs : List VrfState). let x : Edge = record { vrfs = vs; sites = sites; labels = labels; loopbacks = lbs; heard = hs } in x)
       (ap told new_is ∙ told_map (at_vrf v (importing on t labels lbs hs (told one))) told_kept one ∙ told_one)
@@ -340,8 +341,8 @@ module _ (v : ℕ) (t : Rt) (on : Bool) (old new one : List Holding) (sites : Li
   all_hold [] h all = tt
   all_hold (x ∷ xs) h all = (one_holds x (h x (inl refl)) all.0, all_hold xs (λ y i. h y (inr i)) all.1)
 
-  pub imported_sound : IsSound (edge_of new sites labels lbs hs) new
-  imported_sound = subst (λ x. IsSound x new) (sym imported_edge) (record {
+  pub imported : Becomes new sites labels lbs hs after
+  imported = becomes new sites labels lbs hs after imported_edge (record {
     order = order_later v t edge sound.order on;
     held = subst (AllHold after) (sym (new_is ∙ ap (λ vs. map (at_vrf v (importing on t labels lbs hs vs)) one) told_one ∙ ap (map (at_vrf v change)) one_is))
         (all_hold old (in_vrfs old) sound.held);

@@ -5,6 +5,7 @@ pub mod Present
 pub mod Offers
 pub mod Retracts
 pub mod OnePlaces
+pub mod Becomes
 pub mod Sound
 pub mod Places
 pub mod Orderly

@@ -31,28 +31,28 @@ HasOnePlaces raw = (g h : AddressBlock × Source) → In raw g → In raw h → 
 
 -- 1. One place of a list in order
 
+pub order_up : (ys : List (AddressBlock × Source)) → Ascends route_before (in_order ys)
+order_up ys = fold_ascends route_before [] ys route_order tt
+
+pub order_keeps : (ys : List (AddressBlock × Source)) → HasOnePlaces ys → (z : AddressBlock × Source) → In ys z → In (in_order ys) z
+order_keeps ys h z i = in_fold route_before [] ys z (inr i) (λ w j. h z w i j)
+
+pub from_order : (ys : List (AddressBlock × Source)) (z : AddressBlock × Source) → In (in_order ys) z → In ys z
+from_order ys z i = elim (fold_in route_before [] ys z i) [ inl n ↦ absurd n | inr j ↦ j ]
+
 module _ (raw new : List (AddressBlock × Source)) (x : AddressBlock × Source) (one : HasOnePlaces raw) (one_new : HasOnePlaces new)
     (there : (z : AddressBlock × Source) → In raw z → AreApart z x → In new z) where
-  up : (ys : List (AddressBlock × Source)) → Ascends route_before (in_order ys)
-  up ys = fold_ascends route_before [] ys route_order tt
-
-  kept : (ys : List (AddressBlock × Source)) → HasOnePlaces ys → (z : AddressBlock × Source) → In ys z → In (in_order ys) z
-  kept ys h z i = in_fold route_before [] ys z (inr i) (λ w j. h z w i j)
-
-  from : (ys : List (AddressBlock × Source)) (z : AddressBlock × Source) → In (in_order ys) z → In ys z
-  from ys z i = elim (fold_in route_before [] ys z i) [ inl n ↦ absurd n | inr j ↦ j ]
-
   pub comes_in : In new x → ((z : AddressBlock × Source) → In new z → (x ≡ z) ⊎ (In raw z × AreApart z x)) →
       in_order new ≡ with_one route_before x (in_order raw)
   comes_in here only =
-      with_is route_before route_order x (in_order raw) (in_order new) (up raw) (up new) (kept new one_new x here)
-      (λ z i h. kept new one_new z (there z (from raw z i) h))
-      (λ z i. elim (only z (from new z i)) [ inl e ↦ inl e | inr j ↦ inr (kept raw one z j.0, j.1) ])
+      with_is route_before route_order x (in_order raw) (in_order new) (order_up raw) (order_up new) (order_keeps new one_new x here)
+      (λ z i h. order_keeps new one_new z (there z (from_order raw z i) h))
+      (λ z i. elim (only z (from_order new z i)) [ inl e ↦ inl e | inr j ↦ inr (order_keeps raw one z j.0, j.1) ])
 
   pub goes_out : ((z : AddressBlock × Source) → In new z → In raw z × AreApart z x) → in_order new ≡ without_one route_before x (in_order raw)
   goes_out only =
-      without_is route_before route_order x (in_order raw) (in_order new) (up raw) (up new) (λ z i h. kept new one_new z (there z (from raw z i) h))
-      (λ z i. let j = only z (from new z i) in (kept raw one z j.0, j.1))
+      without_is route_before route_order x (in_order raw) (in_order new) (order_up raw) (order_up new) (λ z i h. order_keeps new one_new z (there z (from_order raw z i) h))
+      (λ z i. let j = only z (from_order new z i) in (order_keeps raw one z j.0, j.1))
 
 -- 2. One peer's routes
 

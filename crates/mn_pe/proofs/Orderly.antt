@@ -9,6 +9,20 @@ use Rattle.mn_vrf.specs.Vrf.{VrfState, static_before}
 use Rattle.mn_pe.specs.Edge.{Edge, after_vrf}
 use Rattle.mn_pe.specs.Pe.{InOrder, AreAtHome, by_number}
 
+-- other VRFs and labels of an edge
+with_these : (edge : Edge) (vrfs : List VrfState) (labels : List (Option ℕ)) → InOrder edge → AllByRecursion (AreAtHome edge.sites) vrfs →
+    AllByRecursion (λ (vrf : VrfState). Ascends static_before vrf.statics) vrfs → Ascends by_number vrfs →
+    InOrder (record edge { vrfs = vrfs; labels = labels })
+with_these edge vrfs labels order homes statics numbers = record {
+  homes = homes;
+  few = order.few;
+  statics = statics;
+  vrfs = numbers;
+  heard = order.heard;
+  labels = order.labels;
+  loopbacks = order.loopbacks;
+}
+
 module _ (v : ℕ) (f : VrfState → VrfState) (keeps : (u : VrfState) → Ascends static_before u.statics → Ascends static_before (f u).statics)
     (stays : (u : VrfState) → (f u).number ≡ u.number) where
   g : VrfState → VrfState
@@ -64,23 +78,9 @@ module _ (v : ℕ) (f : VrfState → VrfState) (keeps : (u : VrfState) → Ascen
   pub vrf_order : (edge : Edge) → ((u : VrfState) → u.number ≡ v → AreAtHome edge.sites u → AreAtHome edge.sites (f u)) → InOrder edge →
       InOrder (after_vrf edge v f)
   unfolding g
-  vrf_order edge home order = record {
-    homes = all_at_home edge.sites home edge.vrfs order.homes;
-    few = order.few;
-    statics = all_keep edge.vrfs order.statics;
-    vrfs = in_numbers edge.vrfs order.vrfs;
-    heard = order.heard;
-    labels = order.labels;
-    loopbacks = order.loopbacks;
-  }
+  vrf_order edge home order =
+      with_these edge (map g edge.vrfs) edge.labels order (all_at_home edge.sites home edge.vrfs order.homes) (all_keep edge.vrfs order.statics)
+      (in_numbers edge.vrfs order.vrfs)
 
 pub label_order : (edge : Edge) (labels : List (Option ℕ)) → InOrder edge → InOrder (record edge { labels = labels })
-label_order edge labels order = record {
-  homes = order.homes;
-  few = order.few;
-  statics = order.statics;
-  vrfs = order.vrfs;
-  heard = order.heard;
-  labels = order.labels;
-  loopbacks = order.loopbacks;
-}
+label_order edge labels order = with_these edge edge.vrfs labels order order.homes order.statics order.vrfs

@@ -1,16 +1,29 @@
 -- A change of the VRF at the place of its number is the change of the VRF of that number.
 use Rattle.std.proofs.Common.{ℕ, zero, suc, ◌≡◌, ◌≢◌, ◌<◌, Bool, true, false, cond, List, [], ◌∷◌, ◌++◌, map, take, drop, length, refl, arith, sym, ◌∙◌, ap}
-use Rattle.std.proofs.Common.{Option, None}
+use Rattle.std.proofs.Common.{◌+◌, Option, None, subst}
 use Rattle.std.specs.Prelude.{Result, Ok, Err, OnOk, OnErr, slice_set, slice_index_or, ◌==◌, if◌then◌else◌}
 use Rattle.std.specs.List.{AllByRecursion}
-use Rattle.std.proofs.lemmas.List.{set-get_or}
+use Rattle.std.proofs.lemmas.List.{set-get_or, get_or_default, get_or-set_same, set-set}
 use Rattle.mn_base.specs.Ordered.{Ascends}
 use Rattle.mn_base.proofs.Bools.{none_below, test_same, other_test, less_tells}
-use Rattle.mn_vrf.specs.Vrf.{VrfState, Holding}
+use Rattle.mn_prefix.specs.Prefix.{AddressBlock}
+use Rattle.mn_vrf.specs.declared.refusal.VrfBad.{VrfBad}
+use Rattle.mn_vrf.specs.declared.source.Source.{Source}
+use Rattle.mn_vrf.specs.Vrf.{VrfState, Holding, refusal_of}
 use Rattle.mn_pe.specs.Edge.{on_vrf}
-use Rattle.mn_pe.specs.Changes.{telling}
+use Rattle.mn_pe.specs.Changes.{telling, IsTelling}
 use Rattle.mn_pe.specs.Pe.{by_number, found_in, IsAbsent, IsAt, told}
-use Rattle.mn_pe.specs.Switched.{at_vrf}
+use Rattle.mn_pe.specs.Switched.{at_vrf, IsBy, Nobody, ByVrf}
+use Rattle.mn_pe.proofs.Offers.{set_length}
+use Rattle.mn_pe.proofs.Walks.{next}
+
+-- what the VRF of a number is told, and no other
+module _ (v : ℕ) (f : VrfState → VrfState) (w : VrfState) where
+  pub told_there : w.number ≡ v → cond (w.number == v) (f w) w ≡ f w
+  told_there e = ap (λ b. cond b (f w) w) (test_same w.number v e)
+
+  pub told_else : w.number ≢ v → cond (w.number == v) (f w) w ≡ w
+  told_else d = ap (λ b. cond b (f w) w) (other_test w.number v d)
 
 tail_absent : (v : ℕ) (h : Holding) (hs : List Holding) → IsAbsent v (h ∷ hs) → IsAbsent v hs
 tail_absent v h hs absent k d lt = absent (suc k) d (omega (arith, lt))
@@ -140,6 +153,32 @@ pub on_err : {A E : Type 0} (r : Result A E) (P Q : Type 0) → (P → Q) → On
 on_err (Ok x) P Q f h = h
 on_err (Err e) P Q f h = f h
 
+-- what the VRF of a number is told, if there is one
+module _ (v : ℕ) (f : VrfState → VrfState) (g : VrfState → Option VrfBad) (hs seen : List Holding) (same : seen ≡ hs) where
+  pub told_nobody : IsAbsent v seen → IsTelling v f g hs hs (Ok tt)
+  told_nobody absent =
+      let none : IsAbsent v hs = subst (IsAbsent v) same absent in
+      record { ok = sym (absent_telling v f hs none); err = tt; refusal = sym (absent_found {A = VrfBad} v g hs none) }
+
+  pub told_one : (at : ℕ) (one new : Holding) (r : Result (Unit {0}) VrfBad) → Ascends by_number (told hs) → IsAt v seen at → one ≡ slice_index_or hs at one →
+      OnOk r (new ≡ record one { vrf = f one.vrf }) → OnErr r (new ≡ one) → refusal_of r ≡ g one.vrf → IsTelling v f g hs (slice_set hs at new) r
+  told_one at one new r up is one_is ok err refusal =
+      let here : IsAt v hs at = subst (λ xs. IsAt v xs at) same is in
+      record {
+        ok = on_ok r _ _ (telling_at v f hs at one new up here one_is) ok;
+        err = on_err r _ _ (stays_at hs at one new one_is) err;
+        refusal = refusal ∙ sym (found_at {A = VrfBad} v g hs at one up here one_is);
+      }
+
+-- what the VRF of a number changes, if there is one
+module _ (v : ℕ) (change : VrfState → Holding → Holding) (old seen : List Holding) (same : seen ≡ old) where
+  pub by_nobody : IsAbsent v seen → IsBy v change old old
+  by_nobody absent = Nobody (subst (IsAbsent v) same absent) refl
+
+  pub by_one : {E : Type 0} (new : List Holding) (at : ℕ) (r : Result (Unit {0}) E) → IsAt v seen at →
+      OnOk r ((d : Holding) → new ≡ map (change (slice_index_or old at d).vrf) old) → OnOk r (IsBy v change old new)
+  by_one new at r is made = on_ok r _ _ (ByVrf at (subst (λ xs. IsAt v xs at) same is)) made
+
 -- what VRFs were told stays
 pub told_same : (f : Holding → Holding) → ((h : Holding) → (f h).vrf ≡ h.vrf) → (hs : List Holding) (i : ℕ) → told (map f (take i hs) ++ drop i hs) ≡ told hs
 told_same f e [] zero = refl
@@ -150,3 +189,62 @@ told_same f e (h ∷ hs) (suc i) = ap (λ v. v ∷ told (map f (take i hs) ++ dr
 pub told_map : (f : Holding → Holding) → ((h : Holding) → (f h).vrf ≡ h.vrf) → (hs : List Holding) → told (map f hs) ≡ told hs
 told_map f e [] = refl
 told_map f e (h ∷ hs) = ap (λ v. v ∷ told (map f hs)) (e h) ∙ ap (λ vs. h.vrf ∷ vs) (told_map f e hs)
+
+-- One VRF more is changed by what the VRF at a place was told.
+module _ (change : VrfState → Holding → Holding) (keeps : (u : VrfState) (h : Holding) → (change u h).vrf ≡ h.vrf) (old now : List Holding) (at to : ℕ)
+    (d : Holding) (there : to < length old)
+    (so_far : now ≡ map (change (slice_index_or old at d).vrf) (take to old) ++ drop to old) where
+  abbrev teller : VrfState
+  teller = (slice_index_or old at d).vrf
+
+  pub same_teller : (slice_index_or now at d).vrf ≡ teller
+  same_teller =
+      sym (told_at now at d)
+      ∙ ap (λ us. slice_index_or us at d.vrf) (ap told so_far ∙ told_same (change teller) (keeps teller) old to)
+      ∙ told_at old at d
+
+  pub one_more : (new e : Holding) → new ≡ change teller (slice_index_or now to e) →
+      slice_set now to new ≡ map (change teller) (take (to + 1) old) ++ drop (to + 1) old
+  one_more new e made =
+      ap (slice_set now to) made ∙ ap (λ hs. slice_set hs to (change teller (slice_index_or hs to e))) so_far ∙ next (change teller) old to e there
+
+  pub told_one_more : (new : List Holding) → new ≡ slice_set now to (change (slice_index_or now at d).vrf (slice_index_or now to d)) →
+      new ≡ map (change teller) (take (to + 1) old) ++ drop (to + 1) old
+  told_one_more new made =
+      made ∙ one_more (change (slice_index_or now at d).vrf (slice_index_or now to d)) d (ap (λ u. change u (slice_index_or now to d)) same_teller)
+
+pub as_many : (old now new : List Holding) (to : ℕ) (h : Holding) → new ≡ slice_set now to h → length now ≡ length old → length new ≡ length old
+as_many old now new to h made same = ap length made ∙ set_length now to h ∙ same
+
+-- What a VRF holds is taken out, changed by what the VRF at a place was told, and held again.
+module _ (change : VrfState → List (AddressBlock × Source) → List (AddressBlock × Source)) (old : List Holding) (at to : ℕ) (d first bare other again last : Holding)
+    (there : at < length old) (here : to < length old) (first_is : first ≡ slice_index_or old to first) (bare_is : bare ≡ record first { held = [] })
+    (other_is : other ≡ slice_index_or (slice_set old to bare) at other) (again_is : again ≡ slice_index_or (slice_set old to bare) to again) where
+  abbrev one : Holding
+  one = slice_index_or old to d
+
+  abbrev rest : List Holding
+  rest = slice_set old to bare
+
+  first_one : first ≡ one
+  first_one = first_is ∙ get_or_default old to first d here
+
+  bare_one : bare ≡ record one { held = [] }
+  bare_one = bare_is ∙ ap (λ (h : Holding). record h { held = [] }) first_one
+
+  pub other_told : other.vrf ≡ (slice_index_or old at d).vrf
+  other_told =
+      ap (λ (h : Holding). h.vrf) (other_is ∙ get_or_default rest at other d (subst (λ n. at < n) (sym (set_length old to bare)) there))
+      ∙ sym (told_at rest at d)
+      ∙ ap (λ us. slice_index_or us at d.vrf) (told_stays old to d bare (ap (λ (h : Holding). h.vrf) bare_one)) ∙ told_at old at d
+
+  pub held_again : (taken made : List (AddressBlock × Source)) → taken ≡ first.held → made ≡ change other.vrf taken → last ≡ record again { held = made } →
+      slice_set rest to last ≡ slice_set old to (record one { held = change (slice_index_or old at d).vrf one.held })
+  held_again taken made taken_is made_is last_is =
+      ap (slice_set rest to)
+      (last_is
+      ∙ ap (λ (h : Holding). record h { held = made }) (again_is ∙ get_or-set_same old to bare again here ∙ bare_one)
+      ∙ ap (λ ks. record one { held = ks })
+      (made_is ∙ ap (λ u. change u taken) other_told
+      ∙ ap (change (slice_index_or old at d).vrf) (taken_is ∙ ap (λ (h : Holding). h.held) first_one)))
+      ∙ set-set old to bare (record one { held = change (slice_index_or old at d).vrf one.held })

@@ -26,7 +26,8 @@ use Rattle.mn_vpn_nlri.specs.declared.message.VpnRoute.{VpnRoute}
 use Rattle.mn_base.specs.declared.numbers.Rt.{Rt}
 use Rattle.mn_base.specs.declared.numbers.VrfNo.{VrfNo}
 use Rattle.mn_pe.specs.Pe.{InOrder, HaveLabels, AreLabelled, AllHold, IsSound, taking, giving, after_giving, after_taking, edge_of, after_forgetting}
-use Rattle.mn_pe.specs.Pe.{numbered, found_in}
+use Rattle.mn_pe.specs.Pe.{PeNow, numbered, found_in}
+use Rattle.mn_pe.proofs.Becomes.{Becomes, becomes}
 
 pub all_map : {A : Type 0} {B : Type 0} (f : A → B) (P : A → Type 0) (Q : B → Type 0) (xs : List A) → ((x : A) → In xs x → P x → Q (f x)) →
     AllByRecursion P xs → AllByRecursion Q (map f xs)
@@ -249,14 +250,14 @@ module _ (holdings : List Holding) (sites : List VrfNo) (labels : List (Option �
       ∙ vrfs_after_taking (slice_index_or lbs q 0) q says.targets (after_giving (slice_index_or lbs q 0) q holdings says.withdrawn) says.reached
       ∙ vrfs_after_giving (slice_index_or lbs q 0) q holdings says.withdrawn
 
-  pub heard_edge : edge_of taken sites labels lbs (slice_set (slice_set hs q one) q two) ≡ after_update (edge_of holdings sites labels lbs hs) q says
+  heard_edge : edge_of taken sites labels lbs (slice_set (slice_set hs q one) q two) ≡ after_update (edge_of holdings sites labels lbs hs) q says
   heard_edge = edge_now taken holdings sites labels lbs hs q one two same_vrfs
       ∙ ap (λ (xs : List Heard). edge_of holdings sites labels lbs (slice_set hs q xs)) now_heard
 
-  pub heard_sound : AreLabelled says.reached → IsSound (edge_of holdings sites labels lbs hs) holdings →
-      IsSound (edge_of taken sites labels lbs (slice_set (slice_set hs q one) q two)) taken
-  heard_sound fit sound =
-      subst (λ x. IsSound x taken) (sym heard_edge)
+  pub heard_then : AreLabelled says.reached → IsSound (edge_of holdings sites labels lbs hs) holdings →
+      Becomes taken sites labels lbs (slice_set (slice_set hs q one) q two) (after_update (edge_of holdings sites labels lbs hs) q says)
+  heard_then fit sound =
+      becomes taken sites labels lbs (slice_set (slice_set hs q one) q two) (after_update (edge_of holdings sites labels lbs hs) q says) heard_edge
       (subst (IsSound (after_update (edge_of holdings sites labels lbs hs) q says)) (sym now_holding)
       (hears q says.targets says.withdrawn says.reached (edge_of holdings sites labels lbs hs) below holdings fit refl sound))
 
@@ -295,16 +296,18 @@ vrfs_after_forgetting : (loopback peer : ℕ) (hs : List Holding) (heard : List 
 vrfs_after_forgetting loopback peer hs [] = refl
 vrfs_after_forgetting loopback peer hs (r ∷ rs) = vrfs_after_forgetting loopback peer (map (giving _) hs) rs ∙ vrfs_stay (giving _) (λ h. refl) hs
 
-module _ (holdings new : List Holding) (sites : List VrfNo) (labels : List (Option ℕ)) (lbs : List ℕ) (hs : List (List Heard)) (q : ℕ) (below : q < length hs)
-    (new_is : new ≡ after_forgetting (slice_index_or lbs q 0) q holdings (slice_index_or hs q [])) where
-  pub forgot_edge : edge_of new sites labels lbs (slice_set hs q []) ≡ after_forget (edge_of holdings sites labels lbs hs) q
+module _ (holdings new : List Holding) (sites : List VrfNo) (labels : List (Option ℕ)) (lbs : List ℕ) (hs : List (List Heard)) (left : List Heard) (q : ℕ)
+    (below : q < length hs) (new_is : new ≡ after_forgetting (slice_index_or lbs q 0) q holdings (slice_index_or hs q [])) (left_is : left ≡ []) where
+  forgot_edge : edge_of new sites labels lbs (slice_set hs q left) ≡ after_forget (edge_of holdings sites labels lbs hs) q
   forgot_edge =
-      ap (λ (vs : List VrfState). let e : Edge = record { vrfs = vs; sites = sites; labels = labels; loopbacks = lbs; heard = slice_set hs q [] } in e)
+      ap (λ (vs : List VrfState). let e : Edge = record { vrfs = vs; sites = sites; labels = labels; loopbacks = lbs; heard = slice_set hs q left } in e)
       (ap (map (λ (h : Holding). h.vrf)) new_is ∙ vrfs_after_forgetting (slice_index_or lbs q 0) q holdings (slice_index_or hs q []))
+      ∙ ap (λ (xs : List Heard). edge_of holdings sites labels lbs (slice_set hs q xs)) left_is
 
-  pub forgot_sound : IsSound (edge_of holdings sites labels lbs hs) holdings → IsSound (edge_of new sites labels lbs (slice_set hs q [])) new
-  forgot_sound sound =
-      subst (λ x. IsSound x new) (sym forgot_edge)
+  pub forgot : IsSound (edge_of holdings sites labels lbs hs) holdings →
+      Becomes new sites labels lbs (slice_set hs q left) (after_forget (edge_of holdings sites labels lbs hs) q)
+  forgot sound =
+      becomes new sites labels lbs (slice_set hs q left) (after_forget (edge_of holdings sites labels lbs hs) q) forgot_edge
       (subst (IsSound (after_forget (edge_of holdings sites labels lbs hs) q))
       (sym (new_is ∙ forgets (slice_index_or lbs q 0) q holdings (slice_index_or hs q [])))
       (subst (λ (xs : List Heard). IsSound (now (edge_of holdings sites labels lbs hs) q below xs)
@@ -324,3 +327,15 @@ pub by_vrfs : {A : Type 0} (v : ℕ) (f : VrfState → Option A) (holdings : Lis
     numbered v (λ (h : Holding). f h.vrf) holdings ≡ found_in v f (map (λ (h : Holding). h.vrf) holdings)
 by_vrfs v f [] = refl
 by_vrfs v f (h ∷ hs) = ap (λ x. if h.vrf.number == v then f h.vrf else x) (by_vrfs v f hs)
+
+-- what is asked of the VRF of a number, of an edge that hasn't failed: it holds what it should
+pub looked_up : {A : Type 0} (v : ℕ) (f : List (AddressBlock × Source) → Option A) {items holdings : List Holding} {sites : List VrfNo}
+    {labels : List (Option ℕ)} {lbs : List ℕ} {hs : List (List Heard)} {failed : Bool} {p : PeNow} → items ≡ holdings →
+    (let q : PeNow = record { edge = edge_of holdings sites labels lbs hs; failed = failed } in q) ≡ p →
+    (failed ≡ false → IsSound (edge_of holdings sites labels lbs hs) holdings) → p.failed ≡ false →
+    numbered v (λ (h : Holding). f h.held) items ≡ found_in v (λ (state : VrfState). f (held_by p.edge state)) p.edge.vrfs
+looked_up v f {holdings = holdings} {sites = sites} {labels = labels} {lbs = lbs} {hs = hs} same view sound works =
+    ap (numbered v (λ (h : Holding). f h.held)) same
+    ∙ by_number (edge_of holdings sites labels lbs hs) v holdings (sound (ap (λ (q : PeNow). q.failed) view ∙ works)).held f
+    ∙ by_vrfs v (λ (state : VrfState). f (held_by (edge_of holdings sites labels lbs hs) state)) holdings
+    ∙ ap (λ (q : PeNow). found_in v (λ (state : VrfState). f (held_by q.edge state)) q.edge.vrfs) view

@@ -24,6 +24,11 @@ module _ {A : Type 0} (f : A → A) where
       one_more : (i : ℕ) → suc i ≡ i + 1
       one_more i = omega arith
 
+  pub one_changed : (xs now : List A) (i : ℕ) (one new : A) → i < length xs → now ≡ map f (take i xs) ++ drop i xs → one ≡ slice_index_or now i one →
+      new ≡ f one → slice_set now i new ≡ map f (take (i + 1) xs) ++ drop (i + 1) xs
+  one_changed xs now i one new h so_far one_is made =
+      ap (slice_set now i) (made ∙ ap f one_is) ∙ ap (λ ys. slice_set ys i (f (slice_index_or ys i one))) so_far ∙ next xs i one h
+
   -- all are
   pub all_done : (xs : List A) (i : ℕ) → length xs ≤ i → map f (take i xs) ++ drop i xs ≡ map f xs
   all_done [] zero h = refl

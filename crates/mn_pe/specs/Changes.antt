@@ -1,14 +1,16 @@
 -- What VRFs hold, as routes come and go one after another: RFC 4364, section 4.3.
-use Rattle.std.specs.Prelude.{◌≡◌, ℕ, ◌==◌, Bool, true, false, cond, if◌then◌else◌, List, [], ◌∷◌, map, slice_index_or, Option, None, Some}
+use Rattle.std.specs.Prelude.{◌≡◌, ℕ, ◌==◌, Bool, true, false, cond, if◌then◌else◌, List, [], ◌∷◌, map, slice_index_or, Option, None, Some, Result, OnOk, OnErr}
 use Rattle.std.specs.List.{flat_map}
 use Rattle.mn_base.specs.Ordered.{with_one, without_one}
 use Rattle.mn_prefix.specs.Prefix.{AddressBlock}
 use Rattle.mn_targets.specs.Targets.{meet}
 use Rattle.mn_vrf.specs.declared.source.Source.{Source}
 use Rattle.mn_vrf.specs.Routes.{route_before}
-use Rattle.mn_vrf.specs.Vrf.{Static, VrfState, Holding}
+use Rattle.mn_vrf.specs.declared.refusal.VrfBad.{VrfBad}
+use Rattle.mn_vrf.specs.Vrf.{Static, VrfState, Holding, refusal_of}
 use Rattle.mn_pe.specs.Held.{own_over, near_over}
-use Rattle.mn_pe.specs.Pe.{IsAbsent, IsAt}
+use Rattle.mn_pe.specs.Pe.{found_in, told}
+use Rattle.mn_pe.specs.Switched.{IsBy}
 
 -- a route comes into its place, or its place is left empty
 pub data Change : Type 0 where
@@ -55,9 +57,14 @@ present_of None static = []
 present_of (Some label) static = static ∷ []
 
 -- A static of the VRF of this number came to all VRFs, or went; without such a VRF nothing is changed.
-pub data IsSpread (labels : List (Option ℕ)) (v : ℕ) (on : Bool) (static : Static) (old new : List Holding) : Type 0 where
-  NoVrf : IsAbsent v old → new ≡ old → IsSpread labels v on static old new
-  OfVrf : (at : ℕ) → IsAt v old at →
-      ((d : Holding) → new ≡ map (λ (h : Holding). with_changes
-      (spread_over (slice_index_or old at d).vrf on (present_of (slice_index_or labels static.site None) static) h.vrf) h) old) →
-      IsSpread labels v on static old new
+abbrev pub IsSpread : List (Option ℕ) → ℕ → Bool → Static → List Holding → List Holding → Type 0
+IsSpread labels v on static old new =
+    IsBy v (λ (teller : VrfState) (h : Holding). with_changes (spread_over teller on (present_of (slice_index_or labels static.site None) static) h.vrf) h)
+    old new
+
+-- The VRF of this number was told something that is refused in these cases; a refusal changes nothing.
+pub record IsTelling (v : ℕ) (change : VrfState → VrfState) (refused : VrfState → Option VrfBad) (old new : List Holding) (result : Result (Unit {0}) VrfBad) :
+    Type 0 where
+  pub ok : OnOk result (new ≡ map (telling v change) old)
+  pub err : OnErr result (new ≡ old)
+  pub refusal : refusal_of result ≡ found_in v refused (told old)

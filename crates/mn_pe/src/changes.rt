@@ -1,8 +1,8 @@
 // What the VRF of a number is told.
-ghost use Rattle.std.specs.Prelude.{◌≡◌, ◌≢◌, ◌<◌, ℕ, map, length, true, OnOk, OnErr, MatchOption, slice_index_or, slice_set, None};
-ghost use Rattle.mn_pe.specs.Prelude.{Ascends, target_set, VrfState, with_static, without_static, with_imports, with_exports, add_refused, del_refused, set_refused, refusal_of};
-ghost use Rattle.mn_pe.specs.Changes.{telling};
-ghost use Rattle.mn_pe.specs.Pe.{found_in, by_number, IsAbsent, IsAt, is_want, told};
+ghost use Rattle.std.specs.Prelude.{◌≡◌, MatchOption, slice_set};
+ghost use Rattle.mn_pe.specs.Prelude.{Ascends, target_set, VrfState, with_static, without_static, with_imports, with_exports, add_refused, del_refused, set_refused};
+ghost use Rattle.mn_pe.specs.Changes.{IsTelling};
+ghost use Rattle.mn_pe.specs.Pe.{by_number, IsAbsent, IsAt, is_want, told};
 
 use mn_base::{Rt, SiteNo, VrfNo};
 use mn_prefix::Prefix;
@@ -49,9 +49,7 @@ pub(crate) fn import_in(
     on: bool,
 ) -> Result<(), VrfBad>
     requires { Ascends by_number (told vrfs.old.items) }
-    ensures ok { OnOk result (vrfs.new.items ≡ map (telling number.0 (with_imports (target_set target on))) vrfs.old.items) }
-    ensures err { OnErr result (vrfs.new.items ≡ vrfs.old.items) }
-    ensures refusal { refusal_of result ≡ found_in number.0 (λ (vrf : VrfState). set_refused target on vrf.imports) (told vrfs.old.items) }
+    ensures { IsTelling number.0 (with_imports (target_set target on)) (λ (vrf : VrfState). set_refused target on vrf.imports) vrfs.old.items vrfs.new.items result }
 {
     match place_of(vrfs, number) {
         None => Ok(()),
@@ -67,9 +65,7 @@ pub(crate) fn export_in(
     on: bool,
 ) -> Result<(), VrfBad>
     requires { Ascends by_number (told vrfs.old.items) }
-    ensures ok { OnOk result (vrfs.new.items ≡ map (telling number.0 (with_exports (target_set target on))) vrfs.old.items) }
-    ensures err { OnErr result (vrfs.new.items ≡ vrfs.old.items) }
-    ensures refusal { refusal_of result ≡ found_in number.0 (λ (vrf : VrfState). set_refused target on vrf.exports) (told vrfs.old.items) }
+    ensures { IsTelling number.0 (with_exports (target_set target on)) (λ (vrf : VrfState). set_refused target on vrf.exports) vrfs.old.items vrfs.new.items result }
 {
     match place_of(vrfs, number) {
         None => Ok(()),
@@ -85,9 +81,7 @@ pub(crate) fn add_in(
     site: SiteNo,
 ) -> Result<(), VrfBad>
     requires { Ascends by_number (told vrfs.old.items) }
-    ensures ok { OnOk result (vrfs.new.items ≡ map (telling number.0 (with_static (record { prefix = prefix; site = site.0 }))) vrfs.old.items) }
-    ensures err { OnErr result (vrfs.new.items ≡ vrfs.old.items) }
-    ensures refusal { refusal_of result ≡ found_in number.0 (λ (vrf : VrfState). add_refused prefix vrf) (told vrfs.old.items) }
+    ensures { IsTelling number.0 (with_static (record { prefix = prefix; site = site.0 })) (λ (vrf : VrfState). add_refused prefix vrf) vrfs.old.items vrfs.new.items result }
 {
     match place_of(vrfs, number) {
         None => Ok(()),
@@ -103,9 +97,7 @@ pub(crate) fn del_in(
     site: SiteNo,
 ) -> Result<(), VrfBad>
     requires { Ascends by_number (told vrfs.old.items) }
-    ensures ok { OnOk result (vrfs.new.items ≡ map (telling number.0 (without_static (record { prefix = prefix; site = site.0 }))) vrfs.old.items) }
-    ensures err { OnErr result (vrfs.new.items ≡ vrfs.old.items) }
-    ensures refusal { refusal_of result ≡ found_in number.0 (λ (vrf : VrfState). del_refused prefix site.0 vrf) (told vrfs.old.items) }
+    ensures { IsTelling number.0 (without_static (record { prefix = prefix; site = site.0 })) (λ (vrf : VrfState). del_refused prefix site.0 vrf) vrfs.old.items vrfs.new.items result }
 {
     match place_of(vrfs, number) {
         None => Ok(()),

@@ -1,15 +1,13 @@
-use Rattle.std.proofs.Common.{◌≡◌, ◌<◌, ◌++◌, ℕ, List, length, map, take, drop, arith, refl, sym, ◌∙◌, ap, subst}
-use Rattle.std.specs.Prelude.{slice_set, slice_index_or}
+use Rattle.std.proofs.Common.{◌≡◌, ◌<◌, ℕ, List, length, arith, refl, sym, ◌∙◌, ap, subst}
+use Rattle.std.specs.Prelude.{slice_index_or}
 use Rattle.std.proofs.lemmas.List.{get_or_default}
 use Rattle.mn_base.specs.declared.numbers.Rt.{Rt}
 use Rattle.mn_base.specs.declared.numbers.VrfNo.{VrfNo}
 use Rattle.mn_targets.specs.Targets.{meet}
 use Rattle.mn_vrf.specs.Vrf.{VrfState, Holding}
 use Rattle.mn_pe.specs.Changes.{with_changes, spread_by, spreading}
-use Rattle.mn_pe.specs.Pe.{told}
-use Rattle.mn_pe.proofs.Places.{told_same, told_at}
+use Rattle.mn_pe.proofs.Places.{same_teller, one_more}
 use Rattle.mn_pe.proofs.Offers.{set_length}
-use Rattle.mn_pe.proofs.Walks.{next}
 use Rattle.mn_pe.proofs.spreading.spread.Goals as goal
 
 -- it came to one VRF more
@@ -22,7 +20,6 @@ loop-i-preserved c = record {
       let now : List Holding = c.loop-i.vrfs.items in
       let teller : VrfState = (slice_index_or old at d).vrf in
       let f : Holding → Holding = spreading teller c.args.on c.args.route in
-      let so_far : now ≡ map f (take i old) ++ drop i old = c.loop-i.invariant.so_far d in
       let there : i < length old = grind (arith, c.loop-i-test.true, c.loop-i.auto.i-end, c.len-i-end.ensures) in
       let there_now : i < length now = subst (λ n. i < n) (sym c.loop-i.invariant.as_many) there in
       let at_now : at < length now = subst (λ n. at < n) (sym c.loop-i.invariant.as_many) c.requires.there in
@@ -30,12 +27,12 @@ loop-i-preserved c = record {
       let number_is : c.number-teller.result.0 ≡ teller.number =
       ap (λ (n : VrfNo). n.0) c.number-teller.ensures ∙ ap (λ (h : Holding). h.vrf.number)
       (c.index.ensures ∙ get_or_default old at c.index.result.now d c.requires.there) in
-      let same_teller : (slice_index_or now at d).vrf ≡ teller =
-      sym (told_at now at d) ∙ ap (λ us. slice_index_or us at d.vrf) (ap told so_far ∙ told_same f (λ h. refl) old i) ∙ told_at old at d in
+      let same : (slice_index_or now at d).vrf ≡ teller =
+      same_teller (λ u h. spreading u c.args.on c.args.route h) (λ u h. refl) old now at i d there (c.loop-i.invariant.so_far d) in
       let exports_are : c.as_slice.result.now ≡ teller.exports =
       c.as_slice.ensures.all ∙ c.exports.ensures
       ∙ ap (λ (h : Holding). h.vrf.exports) (c.index-in-loop-i-2.ensures ∙ get_or_default now at c.index-in-loop-i-2.result.now d at_now)
-      ∙ ap (λ (v : VrfState). v.exports) same_teller in
+      ∙ ap (λ (v : VrfState). v.exports) same in
       let imports_are : c.imports.result.now ≡ one.vrf.imports =
       c.imports.ensures
       ∙ ap (λ (h : Holding). h.vrf.imports) (c.index-in-loop-i.ensures ∙ get_or_default now i c.index-in-loop-i.result.now one there_now
@@ -45,8 +42,7 @@ loop-i-preserved c = record {
       ∙ ap (λ n. with_changes (spread_by n c.meets-meets.result c.args.on c.args.route one.vrf) one) number_is
       ∙ ap (λ b. with_changes (spread_by teller.number b c.args.on c.args.route one.vrf) one)
       (c.meets-meets.ensures.test ∙ ap (λ (es : List Rt). meet es c.imports.result.now) exports_are ∙ ap (meet teller.exports) imports_are) in
-      ap (slice_set now i) (made ∙ ap f c.index_mut.ensures.value)
-      ∙ ap (λ hs. slice_set hs i (f (slice_index_or hs i one))) so_far
-      ∙ next f old i one there;
+      one_more (λ u h. spreading u c.args.on c.args.route h) (λ u h. refl) old now at i d there (c.loop-i.invariant.so_far d) c.spread_one.new.vrf one
+      (made ∙ ap f c.index_mut.ensures.value);
   as_many = set_length c.loop-i.vrfs.items c.loop-i.i c.spread_one.new.vrf ∙ c.loop-i.invariant.as_many;
 }

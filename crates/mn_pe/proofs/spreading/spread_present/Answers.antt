@@ -1,13 +1,9 @@
-use Rattle.std.proofs.Common.{refl, subst}
-use Rattle.mn_pe.specs.Pe.{IsAbsent, IsAt}
-use Rattle.mn_pe.specs.Changes.{NoVrf, OfVrf}
-use Rattle.mn_pe.proofs.Places.{on_ok}
+use Rattle.mn_pe.proofs.Places.{by_nobody, by_one}
 use Rattle.mn_pe.proofs.spreading.spread_present.Goals as goal
 
 pub returns-in-None : goal.returns-in-None
-returns-in-None c = NoVrf (subst (IsAbsent c.args.number.0) c.deref.ensures.value c.in-None.ensures) refl
+returns-in-None c = by_nobody c.args.number.0 _ c.args.vrfs.now.items c.deref.result.now c.deref.ensures.value c.in-None.ensures
 
 pub returns-in-Some : goal.returns-in-Some
-returns-in-Some c =
-    on_ok c.spread_if.result _ _ (λ made. OfVrf c.in-Some.at
-    (subst (λ hs. IsAt c.args.number.0 hs c.in-Some.at) c.deref.ensures.value c.in-Some.ensures) made) c.spread_if.ensures
+returns-in-Some c = by_one c.args.number.0 _ c.args.vrfs.now.items c.deref.result.now c.deref.ensures.value c.spread_if.new.vrfs.items c.in-Some.at
+    c.spread_if.result c.in-Some.ensures c.spread_if.ensures

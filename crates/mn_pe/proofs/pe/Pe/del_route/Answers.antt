@@ -1,56 +1,25 @@
-use Rattle.std.proofs.Common.{◌≡◌, ℕ, None, List, Option, false, ◌∙◌, ap, subst}
-use Rattle.mn_vrf.specs.Vrf.{Static, VrfState, without_static, del_refused}
-use Rattle.mn_pe.specs.Changes.{IsSpread}
-use Rattle.mn_pe.specs.Edge.{Edge, after_vrf}
-use Rattle.mn_pe.specs.Pe.{PeNow, found_in, told}
-use Rattle.mn_pe.proofs.Deleting.{deleted_edge, deleted_sound}
+use Rattle.std.proofs.Common.{false}
+use Rattle.mn_vrf.specs.Vrf.{without_static}
+use Rattle.mn_pe.specs.Edge.{after_vrf, vrf_of_site}
+use Rattle.mn_pe.proofs.Deleting.{deleted}
+use Rattle.mn_pe.proofs.Becomes.{Becomes}
+use Rattle.mn_pe.proofs.OneStatic.{spread_as, seen_vrf}
 use Rattle.mn_pe.proofs.pe.Pe.del_route.Goals as goal
+use Rattle.mn_pe.proofs.pe.Pe.del_route.Goals.{In-Ok}
 
--- each VRF holds what it should without the static
+-- the VRF has the static no longer
+has_none : (c : In-Ok) → Becomes c.spread_present.new.vrfs.items c.self.inside.sites.items c.self.inside.labels.items c.self.inside.loopbacks.items
+    c.self.inside.heard.items (after_vrf c.args.self.now.edge (vrf_of_site c.args.self.now.edge c.args.site.0)
+    (without_static (record { prefix = c.args.prefix; site = c.args.site.0 })))
+has_none c =
+    seen_vrf (without_static (record { prefix = c.args.prefix; site = c.args.site.0 })) c.self.view_is c.vrf_of-vrf.ensures
+    (deleted c.vrf_of-vrf.result.0 c.args.prefix c.args.site.0 c.self.inside.vrfs.items c.spread_present.new.vrfs.items c.del_in.new.vrfs.items
+    c.self.inside.sites.items c.self.inside.labels.items c.self.inside.loopbacks.items c.self.inside.heard.items c.in_default.ensures.ok
+    (spread_as c.vrf_of-vrf.result.0 false c.deref.ensures.value c.new-route.ensures c.in-Ok.ensures) c.in_default.ensures.refusal
+    (c.self.invariant c.if-self.false))
+
 pub invariant_of-self-2 : goal.invariant_of-self-2
-invariant_of-self-2 c _ =
-    let v : ℕ = c.vrf_of-vrf.result.0 in
-    let fresh : None ≡ found_in v (λ (vrf : VrfState). del_refused c.args.prefix c.args.site.0 vrf) (told c.self.inside.vrfs.items) =
-    c.in_default.ensures.refusal in
-    let spread : IsSpread c.self.inside.labels.items v false
-    (record { prefix = c.args.prefix; site = c.args.site.0 }) c.del_in.new.vrfs.items c.spread_present.new.vrfs.items =
-    subst (λ (ls : List (Option ℕ)). IsSpread ls v false (record {
-      prefix = c.args.prefix;
-      site =
-          c.args.site.0;
-    }) c.del_in.new.vrfs.items c.spread_present.new.vrfs.items) c.deref.ensures.value
-    (subst (λ (r : Static). IsSpread c.deref.result.now v false r c.del_in.new.vrfs.items c.spread_present.new.vrfs.items) c.new-route.ensures
-    c.in-Ok.ensures) in
-    deleted_sound v c.args.prefix c.args.site.0 c.self.inside.vrfs.items c.spread_present.new.vrfs.items c.del_in.new.vrfs.items c.self.inside.sites.items
-    c.self.inside.labels.items
-    c.self.inside.loopbacks.items c.self.inside.heard.items c.in_default.ensures.ok spread fresh (c.self.invariant c.if-self.false)
+invariant_of-self-2 c _ = (has_none (goal.at.invariant_of-self-2 c).In-Ok).sound
 
--- and the edge is as after it
 pub returns-clause-ok : goal.returns-clause-ok
-returns-clause-ok c =
-    let v : ℕ = c.vrf_of-vrf.result.0 in
-    let fresh : None ≡ found_in v (λ (vrf : VrfState). del_refused c.args.prefix c.args.site.0 vrf) (told c.self.inside.vrfs.items) =
-    c.in_default.ensures.refusal in
-    let spread : IsSpread c.self.inside.labels.items v false
-    (record { prefix = c.args.prefix; site = c.args.site.0 }) c.del_in.new.vrfs.items c.spread_present.new.vrfs.items =
-    subst (λ (ls : List (Option ℕ)). IsSpread ls v false (record {
-      prefix = c.args.prefix;
-      site =
-          c.args.site.0;
-    }) c.del_in.new.vrfs.items c.spread_present.new.vrfs.items) c.deref.ensures.value
-    (subst (λ (r : Static). IsSpread c.deref.result.now v false r c.del_in.new.vrfs.items c.spread_present.new.vrfs.items) c.new-route.ensures
-    c.in-Ok.ensures) in
-    ap (λ (e : Edge). let p : PeNow = record { edge = e; failed = false } in p)
-    (deleted_edge v c.args.prefix c.args.site.0 c.self.inside.vrfs.items c.spread_present.new.vrfs.items c.del_in.new.vrfs.items c.self.inside.sites.items
-    c.self.inside.labels.items
-    c.self.inside.loopbacks.items c.self.inside.heard.items c.in_default.ensures.ok spread fresh (c.self.invariant c.if-self.false))
-    ∙ ap (λ (n : PeNow). let p : PeNow = record {
-      edge = after_vrf n.edge v
-          (without_static (record { prefix = c.args.prefix; site = c.args.site.0 }));
-      failed = false;
-    } in p) c.self.view_is
-    ∙ ap (λ (w : ℕ). let p : PeNow = record {
-      edge = after_vrf c.args.self.now.edge w
-          (without_static (record { prefix = c.args.prefix; site = c.args.site.0 }));
-      failed = false;
-    } in p) c.vrf_of-vrf.ensures
+returns-clause-ok c = (has_none (goal.at.returns-clause-ok c).In-Ok).is

@@ -1,12 +1,14 @@
-use Rattle.std.proofs.Common.{◌≡◌, ◌<◌, [], List, length, arith, refl, sym, ◌∙◌, ap, subst, false}
-use Rattle.std.specs.Prelude.{slice_index_or}
+use Rattle.std.proofs.Common.{◌≡◌, ◌<◌, [], List, length, arith, refl, sym, ◌∙◌, ap, subst}
+use Rattle.std.specs.Prelude.{slice_index_or, slice_set}
 use Rattle.std.proofs.lemmas.List.{get_or-set_same, get_or_default}
 use Rattle.mn_rib_in.specs.Heard.{Heard}
 use Rattle.mn_pe.specs.Pe.{AreOfEdge, AreLabelled, edge_of}
-use Rattle.mn_pe.specs.Edge.{Edge, after_withdrawn, after_reached, after_update}
+use Rattle.mn_pe.specs.Edge.{after_withdrawn, after_reached, after_update}
 use Rattle.mn_pe.specs.Pe.{PeNow, after_giving, after_taking}
-use Rattle.mn_pe.proofs.Sound.{heard_edge, heard_sound}
+use Rattle.mn_pe.proofs.Becomes.{Becomes, seen}
+use Rattle.mn_pe.proofs.Sound.{heard_then}
 use Rattle.mn_pe.proofs.pe.Pe.hear.Goals as goal
+use Rattle.mn_pe.proofs.pe.Pe.hear.Goals.{In-Ok}
 
 -- the VRFs and what was heard are the edge's
 pub hear_withdrawn-requires : goal.hear_withdrawn-requires
@@ -34,13 +36,16 @@ hear_reached-requires-clause-edge c =
 pub hear_reached-requires-clause-labels : goal.hear_reached-requires-clause-labels
 hear_reached-requires-clause-labels c = subst AreLabelled (sym c.reached.ensures) c.requires.labels
 
--- each VRF holds what it should after the UPDATE
-pub invariant_of-self-2 : goal.invariant_of-self-2
-invariant_of-self-2 c _ =
+-- the edge has heard the UPDATE
+heard : (c : In-Ok) → Becomes c.hear_reached.new.vrfs.items c.self.inside.sites.items c.self.inside.labels.items c.self.inside.loopbacks.items
+    (slice_set (slice_set c.self.inside.heard.items c.args.peer.0 c.hear_withdrawn.new.heard) c.args.peer.0 c.hear_reached.new.heard)
+    (after_update c.args.self.now.edge c.args.peer.0 c.args.update.now)
+heard c =
     let address : c.args.loopback ≡ slice_index_or c.self.inside.loopbacks.items c.args.peer.0 0 = c.requires.address
     ∙ ap (λ (p : PeNow). slice_index_or p.edge.loopbacks c.args.peer.0 0) (sym c.self.view_is) in
     let below : c.args.peer.0 < length c.self.inside.heard.items = omega arith in
-    heard_sound c.self.inside.vrfs.items c.self.inside.sites.items c.self.inside.labels.items c.self.inside.loopbacks.items c.self.inside.heard.items
+    seen (λ edge. after_update edge c.args.peer.0 c.args.update.now) c.self.view_is
+    (heard_then c.self.inside.vrfs.items c.self.inside.sites.items c.self.inside.labels.items c.self.inside.loopbacks.items c.self.inside.heard.items
     c.args.peer.0 c.args.update.now c.index_mut.result.now c.index_mut-2.result.now c.hear_withdrawn.new.heard c.hear_reached.new.heard
     c.hear_withdrawn.new.vrfs.items c.hear_reached.new.vrfs.items
     below
@@ -55,30 +60,10 @@ invariant_of-self-2 c _ =
       taken_is = c.in-Ok.ensures.vrfs ∙ ap (after_taking c.args.loopback c.args.peer.0 c.targets.result.now c.hear_withdrawn.new.vrfs.items) c.reached.ensures
           ∙ ap (λ ts. after_taking c.args.loopback c.args.peer.0 ts c.hear_withdrawn.new.vrfs.items c.args.update.now.reached) c.targets.ensures
           ∙ ap (λ n. after_taking n c.args.peer.0 c.args.update.now.targets c.hear_withdrawn.new.vrfs.items c.args.update.now.reached) address;
-    })
-    c.requires.labels (c.self.invariant c.if-self.false)
+    }) c.requires.labels (c.self.invariant c.if-self.false))
 
--- and the edge is as after it
+pub invariant_of-self-2 : goal.invariant_of-self-2
+invariant_of-self-2 c _ = (heard (goal.at.invariant_of-self-2 c).In-Ok).sound
+
 pub returns-clause-ok : goal.returns-clause-ok
-returns-clause-ok c =
-    let address : c.args.loopback ≡ slice_index_or c.self.inside.loopbacks.items c.args.peer.0 0 = c.requires.address
-    ∙ ap (λ (p : PeNow). slice_index_or p.edge.loopbacks c.args.peer.0 0) (sym c.self.view_is) in
-    let below : c.args.peer.0 < length c.self.inside.heard.items = omega arith in
-    ap (λ (e : Edge). let p : PeNow = record { edge = e; failed = false } in p)
-    (heard_edge c.self.inside.vrfs.items c.self.inside.sites.items c.self.inside.labels.items c.self.inside.loopbacks.items c.self.inside.heard.items
-    c.args.peer.0 c.args.update.now c.index_mut.result.now c.index_mut-2.result.now c.hear_withdrawn.new.heard c.hear_reached.new.heard
-    c.hear_withdrawn.new.vrfs.items c.hear_reached.new.vrfs.items
-    below
-    (record {
-      first_is = c.index_mut.ensures.value;
-      one_is = c.hear_withdrawn.ensures.heard ∙ ap (after_withdrawn c.index_mut.result.now) c.withdrawn.ensures;
-      given_is = c.hear_withdrawn.ensures.vrfs ∙ ap (after_giving c.args.loopback c.args.peer.0 c.self.inside.vrfs.items) c.withdrawn.ensures
-          ∙ ap (λ n. after_giving n c.args.peer.0 c.self.inside.vrfs.items c.args.update.now.withdrawn) address;
-      last_is = c.index_mut-2.ensures.value;
-      two_is = c.in-Ok.ensures.heard ∙ ap (after_reached c.targets.result.now c.index_mut-2.result.now) c.reached.ensures
-          ∙ ap (λ ts. after_reached ts c.index_mut-2.result.now c.args.update.now.reached) c.targets.ensures;
-      taken_is = c.in-Ok.ensures.vrfs ∙ ap (after_taking c.args.loopback c.args.peer.0 c.targets.result.now c.hear_withdrawn.new.vrfs.items) c.reached.ensures
-          ∙ ap (λ ts. after_taking c.args.loopback c.args.peer.0 ts c.hear_withdrawn.new.vrfs.items c.args.update.now.reached) c.targets.ensures
-          ∙ ap (λ n. after_taking n c.args.peer.0 c.args.update.now.targets c.hear_withdrawn.new.vrfs.items c.args.update.now.reached) address;
-    }))
-    ∙ ap (λ (p : PeNow). let q : PeNow = record { edge = after_update p.edge c.args.peer.0 c.args.update.now; failed = false } in q) c.self.view_is
+returns-clause-ok c = (heard (goal.at.returns-clause-ok c).In-Ok).is
