@@ -1,5 +1,5 @@
 -- An edge hears a message: one change after another.
-use Rattle.std.proofs.Common.{ℕ, zero, suc, ◌≡◌, ◌<◌, ◌+◌, Bool, true, false, List, [], ◌∷◌, ◌++◌, length, refl, arith, sym, ◌∙◌, ap, subst, Option, Some}
+use Rattle.std.proofs.Common.{ℕ, zero, suc, ◌≡◌, ◌<◌, true, false, List, [], ◌∷◌, length, refl, arith, sym, ◌∙◌, ap, subst, Option, Some}
 use Rattle.std.proofs.Common.{None, Result, Ok, Err}
 use Rattle.std.specs.Prelude.{IfOk, slice_get, slice_set, slice_index_or, option_map}
 use Rattle.std.specs.List.{All}
@@ -14,7 +14,6 @@ use Rattle.mn_bgp_session.specs.Table as table
 use Rattle.mn_ledger.specs.Places.{loopback}
 use Rattle.mn_pe.specs.Edge.{Edge, after_message}
 use Rattle.mn_pe.specs.Held.{exports_of}
-use Rattle.mn_pe.specs.Pe.{PeNow}
 use Rattle.mn_routing_laws.specs.Whole.{update_of}
 use Rattle.mn_routing_laws.specs.Routed.{Routed, working}
 use Rattle.mn_routing_laws.specs.Doing.{HasEdge, AreSayable, AreLabelledIn, Puts, edge_at, edge_or_blank, with_edge, with_end, next_on, taken}
@@ -35,6 +34,20 @@ length_set : {A : Type 0} (xs : List A) (k : ℕ) (x : A) → length (slice_set 
 length_set [] k x = refl
 length_set (y ∷ ys) zero x = refl
 length_set (y ∷ ys) (suc k) x = ap suc (length_set ys k x)
+
+-- what is read of the bytes that were taken out of flight is the message that they spell
+pub reads_so : (t : Network) (peer edge : ℕ) (old : Routed) (m : BgpMessage) (answer : BgpReply) (may : MayHear t old peer edge m answer)
+    (taken read : List ℕ) (found : BgpMessage) → ((item : Item (List ℕ)) → next_on old (channel_from t peer edge) ≡ Some item → taken ≡ item.item) →
+    read ≡ taken → ((message : BgpMessage) → IsBgp read message → found ≡ message) → found ≡ m
+reads_so t peer edge old m answer may taken read found first all reads =
+    reads m (subst (λ bytes. IsBgp bytes m) (sym (all ∙ first may.item may.flies)) may.spells)
+
+-- an edge that may answer what it heard, of routes as they were before it heard
+pub record MayAnswer (t : Network) (edge : ℕ) (old now : Routed) (reply : BgpReply) : Type 0 where
+  pub has : HasEdge t now edge
+  pub below : (n : ℕ) → All (λ item. item.number < n) old.messages → All (λ item. item.number < n) now.messages
+  pub exports : reply.became_established ≡ true → AreSayable (exports_of (edge_at now edge))
+  pub one : reply.say_keep ≡ true → reply.became_established ≡ false
 
 module _ (t : Network) (peer edge : ℕ) (old one : Routed) (m found : BgpMessage) (answer : BgpReply) (may : MayHear t old peer edge m answer)
     (first : one ≡ taken (channel_from t peer edge) old) (read : found ≡ m) where
@@ -94,7 +107,7 @@ module _ (t : Network) (peer edge : ℕ) (old one : Routed) (m found : BgpMessag
       edge_is : edge_at (heard_in peer edge m left) edge ≡ heard
       edge_is = ap edge_or_blank (index_set old.edges edge (Some (working heard)) None within)
 
-      pub three_has : HasEdge t three edge
+      three_has : HasEdge t three edge
       three_has = subst (λ (r : Routed). HasEdge t r edge) (sym three_is) (record {
         there = get_set old.edges edge (Some (working heard)) within ∙ ap (λ e. Some (Some (working e))) (sym edge_is);
         nodes = length_set old.edges edge (Some (working heard)) ∙ has.nodes;
@@ -109,17 +122,20 @@ module _ (t : Network) (peer edge : ℕ) (old one : Routed) (m found : BgpMessag
           row (y ∷ ys) zero j x = length_set y j x
           row (y ∷ ys) (suc k) j x = row ys k j x
 
-      pub three_exports : reply.became_established ≡ true → AreSayable (exports_of (edge_at three edge))
+      three_exports : reply.became_established ≡ true → AreSayable (exports_of (edge_at three edge))
       three_exports h = subst (λ (r : Routed). AreSayable (exports_of (edge_at r edge))) (sym three_is)
           (subst (λ e. AreSayable (exports_of e)) (sym edge_is) (may.exports (ap (λ (r : BgpReply). r.became_established) (sym replies) ∙ h)))
 
-      pub three_one : reply.say_keep ≡ true → reply.became_established ≡ false
+      three_one : reply.say_keep ≡ true → reply.became_established ≡ false
       three_one h = ap (λ (r : BgpReply). r.became_established) replies ∙ may.one (ap (λ (r : BgpReply). r.say_keep) (sym replies) ∙ h)
 
-      pub three_below : (n : ℕ) → All (λ item. item.number < n) old.messages → All (λ item. item.number < n) three.messages
+      three_below : (n : ℕ) → All (λ item. item.number < n) old.messages → All (λ item. item.number < n) three.messages
       three_below n h =
           subst (λ (r : Routed). All (λ item. item.number < n) r.messages) (sym three_is)
           (taken_below (next_on old (channel_from t peer edge)) old.messages left.messages n refl h)
+
+      pub may_answer : MayAnswer t edge old three reply
+      may_answer = record { has = three_has; below = three_below; exports = three_exports; one = three_one }
 
       pub hears_so : {E : Type 0} (tick number : ℕ) (new : Routed) (r : Result ℕ E) →
           IfOk r (λ next. Puts t tick number (answers_in t edge peer reply (exports_of (edge_at three edge))) three new next)

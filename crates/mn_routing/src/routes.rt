@@ -1,5 +1,5 @@
 //! The routes, and what its edges and sessions are.
-ghost use Rattle.std.specs.Prelude.{◌≡◌, ◌<◌, ℕ, true, List, None, [], length, is_some, option_map, slice_index, slice_index_or, IfOk};
+ghost use Rattle.std.specs.Prelude.{◌≡◌, ◌<◌, ℕ, true, List, None, Some, [], length, is_some, option_map, slice_index, slice_index_or, IfOk};
 ghost use Rattle.mn_ledger.specs.Prelude.{Network, World, JournalEntry, edge_of, home_of, held, best, world_of, IsLawfulJournal, eligible};
 ghost use Rattle.mn_routing.specs.Prelude.{Labelling, given, AreWays, destination_of, labels_of, Edge, IsItsFate, StandsAtEntry, IsWayOpen, IsBoundBelow, route_for, route_among, entered_at, entered_among, as_held, IsRoutes, bgp_state_by};
 
@@ -89,6 +89,20 @@ impl Routes {
         }
     }
 
+    /// The edge of a VRF, which is there.
+    fn pe_of(&self, topology: &Topology, vrf: VrfNo) -> &Pe
+        requires vrf { vrf.0 < length topology.now.vrfs }
+        requires stands { (journal : List JournalEntry) × IsRoutes topology.now journal self.now }
+        ensures { slice_index_or self.now.edges (edge_of topology.now vrf.0) None ≡ Some result.now }
+    {
+        topology.laws();
+        let edge = topology.edge_of(vrf);
+        let Some(pe) = self.edge(edge) else {
+            unreachable!()
+        };
+        pe
+    }
+
     /// How far an edge's session with a peer has come: Idle where none lives.
     pub fn bgp_state(&self, edge: NodeNo, peer: NodeNo) -> BgpState
         requires edge { edge.0 < length self.now.sessions }
@@ -118,11 +132,7 @@ impl Routes {
             result ≡ option_map (as_held (labels_of topology.now journal)) (best (held topology.now (world_of topology.now journal).config (world_of topology.now journal).peerings (edge_of topology.now vrf.0) vrf.0) address) }
     {
         topology.laws();
-        let edge = topology.edge_of(vrf);
-        let Some(pe) = self.edge(edge) else {
-            unreachable!()
-        };
-        pe.lookup(vrf, address)
+        self.pe_of(topology, vrf).lookup(vrf, address)
     }
 
     /// The best of the routes that take part where the topology resolves next hops, by the nodes towards which the VRF's edge can send.
@@ -140,11 +150,7 @@ impl Routes {
             result ≡ option_map (as_held (labels_of topology.now journal)) (best (eligible topology.now (world_of topology.now journal) (edge_of topology.now vrf.0) vrf.0 address) address) }
     {
         topology.laws();
-        let home = topology.edge_of(vrf);
-        let Some(pe) = self.edge(home) else {
-            unreachable!()
-        };
-        pe.lookup_among(vrf, address, ways)
+        self.pe_of(topology, vrf).lookup_among(vrf, address, ways)
     }
 
     /// What becomes of a packet that a site sends, by the best route of all: it is the packet's fate where the way there is open, or the
@@ -165,10 +171,7 @@ impl Routes {
         ensures answer { IfOk result (λ entered. (edge : Edge) × (entered ≡ entered_at edge site.0 packet.now)) }
     {
         topology.laws();
-        let home = topology.home_of(site);
-        let Some(pe) = self.edge(home) else {
-            unreachable!()
-        };
+        let pe = self.pe_of(topology, topology.vrf_of(site));
         enter_at(pe, site, packet)
     }
 
@@ -189,10 +192,7 @@ impl Routes {
         ensures answer { IfOk result (λ entered. (edge : Edge) × (entered ≡ entered_among edge ways.now site.0 packet.now)) }
     {
         topology.laws();
-        let home = topology.home_of(site);
-        let Some(pe) = self.edge(home) else {
-            unreachable!()
-        };
+        let pe = self.pe_of(topology, topology.vrf_of(site));
         enter_among_at(pe, site, packet, ways)
     }
 }

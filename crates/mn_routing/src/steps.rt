@@ -81,6 +81,7 @@ impl Routes {
     ///
     /// It answers how many messages that made, of which the first has the clock's number. After want of memory nothing
     /// is said of the routes.
+    #[tactic(auto, using(mn_routing_laws::proofs::Can::site_added, mn_routing_laws::proofs::Dids::did_add))]
     pub fn add_route(
         &mut self,
         topology: &Topology,
@@ -103,6 +104,7 @@ impl Routes {
     ///
     /// It answers how many messages that made, of which the first has the clock's number. After want of memory nothing
     /// is said of the routes.
+    #[tactic(auto, using(mn_routing_laws::proofs::Can::site_deleted, mn_routing_laws::proofs::Dids::did_del))]
     pub fn del_route(
         &mut self,
         topology: &Topology,
@@ -148,6 +150,7 @@ impl Routes {
     ///
     /// It answers how many messages that made, of which the first has the clock's number. After want of memory nothing
     /// is said of the routes.
+    #[tactic(auto, using(mn_routing_laws::proofs::Can::vrf_of_export, mn_routing_laws::proofs::Exporting::did_export))]
     pub fn export(
         &mut self,
         topology: &Topology,
@@ -192,6 +195,7 @@ impl Routes {
     ///
     /// It answers how many messages that made, of which the first has the clock's number. After want of memory nothing
     /// is said of the routes.
+    #[tactic(auto, using(mn_routing_laws::proofs::Can::site_attached, mn_routing_laws::proofs::Dids::did_attach))]
     pub fn attach(
         &mut self,
         topology: &Topology,

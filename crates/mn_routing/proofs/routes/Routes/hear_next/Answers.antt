@@ -1,89 +1,59 @@
-use Rattle.std.proofs.Common.{◌≡◌, ◌∙◌, subst, sym}
-use Rattle.mn_bgp_wire.specs.declared.message.BgpMessage.{BgpMessage}
-use Rattle.mn_bgp_wire.specs.Grammar.{IsBgp}
-use Rattle.mn_bgp_session.specs.declared.table.BgpReply.{BgpReply}
-use Rattle.mn_routing_laws.specs.Doing.{MayHear}
-use Rattle.mn_routing.proofs.Chains.{found_labels, answered, three_has, three_exports, three_one, three_below, hears_so}
+use Rattle.mn_routing.proofs.Chains.{reads_so, found_labels, answered, may_answer, hears_so}
 use Rattle.mn_routing.proofs.routes.Routes.hear_next.Goals as goal
 
 pub hear_routes-requires-clause-labels : goal.hear_routes-requires-clause-labels
 hear_routes-requires-clause-labels c =
-    let spelled = (λ (m : BgpMessage) (answer : BgpReply) (may : MayHear c.args.topology.now c.args.self.now c.args.peer.0 c.args.edge.0 m answer).
-    c.in_ok-message.ensures m (subst (λ bytes. IsBgp bytes m) (sym (c.as_slice.ensures ∙ c.take_next-bytes.ensures.bytes may.item may.flies)) may.spells)) in
-    found_labels c.args.topology.now c.args.peer.0 c.args.edge.0 c.args.self.now c.take_next-bytes.new.self c.requires.may.message c.in_ok-message.message
-    c.requires.may.answer c.requires.may.may c.take_next-bytes.ensures.taken (spelled c.requires.may.message c.requires.may.answer c.requires.may.may)
+    let may = c.requires.may in
+    let read =
+    reads_so c.args.topology.now c.args.peer.0 c.args.edge.0 c.args.self.now may.message may.answer may.may c.take_next-bytes.result c.as_slice.result.now
+    c.in_ok-message.message c.take_next-bytes.ensures.bytes c.as_slice.ensures c.in_ok-message.ensures in
+    found_labels c.args.topology.now c.args.peer.0 c.args.edge.0 c.args.self.now c.take_next-bytes.new.self may.message c.in_ok-message.message
+    may.answer may.may c.take_next-bytes.ensures.taken read
 
 pub hear_session-answer-requires-clause-takes : goal.hear_session-answer-requires-clause-takes
 hear_session-answer-requires-clause-takes c =
-    let spelled = (λ (m : BgpMessage) (answer : BgpReply) (may : MayHear c.args.topology.now c.args.self.now c.args.peer.0 c.args.edge.0 m answer).
-    c.in_ok-message.ensures m (subst (λ bytes. IsBgp bytes m) (sym (c.as_slice.ensures ∙ c.take_next-bytes.ensures.bytes may.item may.flies)) may.spells)) in (
-      c.requires.may.answer,
-      answered c.args.topology.now c.args.peer.0 c.args.edge.0 c.args.self.now c.take_next-bytes.new.self c.requires.may.message
-          c.in_ok-message.message c.requires.may.answer c.requires.may.may c.take_next-bytes.ensures.taken
-          (spelled c.requires.may.message c.requires.may.answer c.requires.may.may) c.hear_routes.new.self c.in_ok-hear_routes.ensures,
+    let may = c.requires.may in (
+      may.answer,
+      answered c.args.topology.now c.args.peer.0 c.args.edge.0 c.args.self.now c.take_next-bytes.new.self may.message c.in_ok-message.message
+          may.answer may.may c.take_next-bytes.ensures.taken
+          (reads_so c.args.topology.now c.args.peer.0 c.args.edge.0 c.args.self.now may.message may.answer may.may c.take_next-bytes.result
+          c.as_slice.result.now c.in_ok-message.message c.take_next-bytes.ensures.bytes c.as_slice.ensures c.in_ok-message.ensures)
+          c.hear_routes.new.self c.in_ok-hear_routes.ensures,
     )
 
-pub answer-requires-clause-has : goal.answer-requires-clause-has
-answer-requires-clause-has c =
-    let spelled = (λ (m : BgpMessage) (answer : BgpReply) (may : MayHear c.args.topology.now c.args.self.now c.args.peer.0 c.args.edge.0 m answer).
-    c.in_ok-message.ensures m (subst (λ bytes. IsBgp bytes m) (sym (c.as_slice.ensures ∙ c.take_next-bytes.ensures.bytes may.item may.flies)) may.spells)) in
-    three_has c.args.topology.now c.args.peer.0 c.args.edge.0 c.args.self.now c.take_next-bytes.new.self c.requires.may.message c.in_ok-message.message
-    c.requires.may.answer c.requires.may.may c.take_next-bytes.ensures.taken
-    (spelled c.requires.may.message c.requires.may.answer c.requires.may.may) c.hear_routes.new.self c.in_ok-hear_routes.ensures
-    c.hear_session-answer.new.self c.hear_session-answer.result c.hear_session-answer.ensures.heard
-    (c.hear_session-answer.ensures.answer c.requires.may.answer
-    (answered c.args.topology.now c.args.peer.0 c.args.edge.0 c.args.self.now c.take_next-bytes.new.self c.requires.may.message c.in_ok-message.message
-    c.requires.may.answer c.requires.may.may c.take_next-bytes.ensures.taken
-    (spelled c.requires.may.message c.requires.may.answer c.requires.may.may) c.hear_routes.new.self c.in_ok-hear_routes.ensures))
-
-pub answer-requires-clause-number : goal.answer-requires-clause-number
-answer-requires-clause-number c =
-    let spelled = (λ (m : BgpMessage) (answer : BgpReply) (may : MayHear c.args.topology.now c.args.self.now c.args.peer.0 c.args.edge.0 m answer).
-    c.in_ok-message.ensures m (subst (λ bytes. IsBgp bytes m) (sym (c.as_slice.ensures ∙ c.take_next-bytes.ensures.bytes may.item may.flies)) may.spells)) in
-    three_below c.args.topology.now c.args.peer.0 c.args.edge.0 c.args.self.now c.take_next-bytes.new.self c.requires.may.message c.in_ok-message.message
-    c.requires.may.answer c.requires.may.may c.take_next-bytes.ensures.taken
-    (spelled c.requires.may.message c.requires.may.answer c.requires.may.may) c.hear_routes.new.self c.in_ok-hear_routes.ensures
-    c.hear_session-answer.new.self c.hear_session-answer.result c.hear_session-answer.ensures.heard
-    (c.hear_session-answer.ensures.answer c.requires.may.answer
-    (answered c.args.topology.now c.args.peer.0 c.args.edge.0 c.args.self.now c.take_next-bytes.new.self c.requires.may.message c.in_ok-message.message
-    c.requires.may.answer c.requires.may.may c.take_next-bytes.ensures.taken
-    (spelled c.requires.may.message c.requires.may.answer c.requires.may.may) c.hear_routes.new.self c.in_ok-hear_routes.ensures)) c.args.clock.number
-    c.requires.number
-
-pub answer-requires-clause-exports : goal.answer-requires-clause-exports
-answer-requires-clause-exports c =
-    let spelled = (λ (m : BgpMessage) (answer : BgpReply) (may : MayHear c.args.topology.now c.args.self.now c.args.peer.0 c.args.edge.0 m answer).
-    c.in_ok-message.ensures m (subst (λ bytes. IsBgp bytes m) (sym (c.as_slice.ensures ∙ c.take_next-bytes.ensures.bytes may.item may.flies)) may.spells)) in
-    three_exports c.args.topology.now c.args.peer.0 c.args.edge.0 c.args.self.now c.take_next-bytes.new.self c.requires.may.message c.in_ok-message.message
-    c.requires.may.answer c.requires.may.may c.take_next-bytes.ensures.taken
-    (spelled c.requires.may.message c.requires.may.answer c.requires.may.may) c.hear_routes.new.self c.in_ok-hear_routes.ensures
-    c.hear_session-answer.new.self c.hear_session-answer.result c.hear_session-answer.ensures.heard
-    (c.hear_session-answer.ensures.answer c.requires.may.answer
-    (answered c.args.topology.now c.args.peer.0 c.args.edge.0 c.args.self.now c.take_next-bytes.new.self c.requires.may.message c.in_ok-message.message
-    c.requires.may.answer c.requires.may.may c.take_next-bytes.ensures.taken
-    (spelled c.requires.may.message c.requires.may.answer c.requires.may.may) c.hear_routes.new.self c.in_ok-hear_routes.ensures))
-
-pub answer-requires-clause-one : goal.answer-requires-clause-one
-answer-requires-clause-one c =
-    let spelled = (λ (m : BgpMessage) (answer : BgpReply) (may : MayHear c.args.topology.now c.args.self.now c.args.peer.0 c.args.edge.0 m answer).
-    c.in_ok-message.ensures m (subst (λ bytes. IsBgp bytes m) (sym (c.as_slice.ensures ∙ c.take_next-bytes.ensures.bytes may.item may.flies)) may.spells)) in
-    three_one c.args.topology.now c.args.peer.0 c.args.edge.0 c.args.self.now c.take_next-bytes.new.self c.requires.may.message c.in_ok-message.message
-    c.requires.may.answer c.requires.may.may c.take_next-bytes.ensures.taken
-    (spelled c.requires.may.message c.requires.may.answer c.requires.may.may) c.hear_routes.new.self c.in_ok-hear_routes.ensures
-    c.hear_session-answer.new.self c.hear_session-answer.result c.hear_session-answer.ensures.heard
-    (c.hear_session-answer.ensures.answer c.requires.may.answer
-    (answered c.args.topology.now c.args.peer.0 c.args.edge.0 c.args.self.now c.take_next-bytes.new.self c.requires.may.message c.in_ok-message.message
-    c.requires.may.answer c.requires.may.may c.take_next-bytes.ensures.taken
-    (spelled c.requires.may.message c.requires.may.answer c.requires.may.may) c.hear_routes.new.self c.in_ok-hear_routes.ensures))
+pub answer-requires : goal.answer-requires
+answer-requires c =
+    let may = c.requires.may in
+    let read =
+    reads_so c.args.topology.now c.args.peer.0 c.args.edge.0 c.args.self.now may.message may.answer may.may c.take_next-bytes.result c.as_slice.result.now
+    c.in_ok-message.message c.take_next-bytes.ensures.bytes c.as_slice.ensures c.in_ok-message.ensures in
+    let takes =
+    answered c.args.topology.now c.args.peer.0 c.args.edge.0 c.args.self.now c.take_next-bytes.new.self may.message c.in_ok-message.message may.answer
+    may.may c.take_next-bytes.ensures.taken read c.hear_routes.new.self c.in_ok-hear_routes.ensures in
+    let ready =
+    may_answer c.args.topology.now c.args.peer.0 c.args.edge.0 c.args.self.now c.take_next-bytes.new.self may.message c.in_ok-message.message may.answer
+    may.may c.take_next-bytes.ensures.taken read c.hear_routes.new.self c.in_ok-hear_routes.ensures c.hear_session-answer.new.self
+    c.hear_session-answer.result c.hear_session-answer.ensures.heard (c.hear_session-answer.ensures.answer may.answer takes) in
+    record {
+      has = ready.has;
+      edge = c.requires.edge;
+      peer = c.requires.peer;
+      tick = c.requires.tick;
+      numbers = c.requires.numbers;
+      number = ready.below c.args.clock.number c.requires.number;
+      exports = ready.exports;
+      one = ready.one;
+    }
 
 pub returns-clause-hears : goal.returns-clause-hears
-returns-clause-hears c =
-    let spelled = (λ (m : BgpMessage) (answer : BgpReply) (may : MayHear c.args.topology.now c.args.self.now c.args.peer.0 c.args.edge.0 m answer).
-    c.in_ok-message.ensures m (subst (λ bytes. IsBgp bytes m) (sym (c.as_slice.ensures ∙ c.take_next-bytes.ensures.bytes may.item may.flies)) may.spells)) in
-    λ m answer may. hears_so c.args.topology.now c.args.peer.0 c.args.edge.0 c.args.self.now c.take_next-bytes.new.self m c.in_ok-message.message answer may
-    c.take_next-bytes.ensures.taken (spelled m answer may) c.hear_routes.new.self c.in_ok-hear_routes.ensures c.hear_session-answer.new.self
+returns-clause-hears c = λ m answer may.
+    let read =
+    reads_so c.args.topology.now c.args.peer.0 c.args.edge.0 c.args.self.now m answer may c.take_next-bytes.result c.as_slice.result.now
+    c.in_ok-message.message c.take_next-bytes.ensures.bytes c.as_slice.ensures c.in_ok-message.ensures in
+    hears_so c.args.topology.now c.args.peer.0 c.args.edge.0 c.args.self.now c.take_next-bytes.new.self m c.in_ok-message.message answer may
+    c.take_next-bytes.ensures.taken read c.hear_routes.new.self c.in_ok-hear_routes.ensures c.hear_session-answer.new.self
     c.hear_session-answer.result c.hear_session-answer.ensures.heard
     (c.hear_session-answer.ensures.answer answer
     (answered c.args.topology.now c.args.peer.0 c.args.edge.0 c.args.self.now c.take_next-bytes.new.self m c.in_ok-message.message answer may
-    c.take_next-bytes.ensures.taken (spelled m answer may) c.hear_routes.new.self c.in_ok-hear_routes.ensures)) c.args.clock.tick c.args.clock.number
+    c.take_next-bytes.ensures.taken read c.hear_routes.new.self c.in_ok-hear_routes.ensures)) c.args.clock.tick c.args.clock.number
     c.answer.new.self c.answer.result c.answer.ensures
