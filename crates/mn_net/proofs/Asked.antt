@@ -37,25 +37,17 @@ parts_stand net ps channels h = record {
 no_more : (a b : ℕ) → nat_le a b ≡ true → a ≤ b
 no_more a b h = grind (arith, nat_tests, h)
 
-not_injected : (t : Network) (on : Channel) (lossy : Bool) → injects (lost lossy (delivering t on 0)) ≡ false
-not_injected t (Notices l n) true = refl
-not_injected t (Notices l n) false = refl
-not_injected t (Messages l n) true = refl
-not_injected t (Messages l n) false = refl
-not_injected t (Routes a b) true = refl
-not_injected t (Routes a b) false = refl
-not_injected t (Frames l d) true = refl
-not_injected t (Frames l d) false = refl
-
-no_time_passes : (t : Network) (on : Channel) (lossy : Bool) → ticks_in (lost lossy (delivering t on 0)) ≡ 0
-no_time_passes t (Notices l n) true = refl
-no_time_passes t (Notices l n) false = refl
-no_time_passes t (Messages l n) true = refl
-no_time_passes t (Messages l n) false = refl
-no_time_passes t (Routes a b) true = refl
-no_time_passes t (Routes a b) false = refl
-no_time_passes t (Frames l d) true = refl
-no_time_passes t (Frames l d) false = refl
+-- what delivers an item injects nothing and lets no time go by
+moves_it_alone : (t : Network) (on : Channel) (lossy : Bool) →
+    (injects (lost lossy (delivering t on 0)) ≡ false) × (ticks_in (lost lossy (delivering t on 0)) ≡ 0)
+moves_it_alone t (Notices l n) true = (refl, refl)
+moves_it_alone t (Notices l n) false = (refl, refl)
+moves_it_alone t (Messages l n) true = (refl, refl)
+moves_it_alone t (Messages l n) false = (refl, refl)
+moves_it_alone t (Routes a b) true = (refl, refl)
+moves_it_alone t (Routes a b) false = (refl, refl)
+moves_it_alone t (Frames l d) true = (refl, refl)
+moves_it_alone t (Frames l d) false = (refl, refl)
 
 module _ (t : Network) (es : List JournalEntry) (ps : List (List ℕ)) (kind : Kind) (limit : ℕ) where
   pub within : (o : Option Coming) → IsNext t es ps kind limit o → IfSome o (λ item. item.due ≤ limit)
@@ -72,8 +64,8 @@ module _ (t : Network) (es : List JournalEntry) (ps : List (List ℕ)) (kind : K
   fitting None h = tt
   fitting (Some c) h = (
     h.delivered.fitting,
-    ap (λ s. injects (lost c.lossy s)) h.step ∙ not_injected t h.item.on c.lossy,
-    ap (λ s. ticks_in (lost c.lossy s)) h.step ∙ no_time_passes t h.item.on c.lossy,
+    ap (λ s. injects (lost c.lossy s)) h.step ∙ (moves_it_alone t h.item.on c.lossy).0,
+    ap (λ s. ticks_in (lost c.lossy s)) h.step ∙ (moves_it_alone t h.item.on c.lossy).1,
   )
 
   pub open_to : (o : Option Coming) → IsNext t es ps kind limit o → IfSome o (λ item. IsOpen t es ps (delivery item))

@@ -138,6 +138,10 @@ pub record AreTold {T : Type 0} (t : Network) (j : List JournalEntry) (items : L
   pub own : same_channel on on ≡ true
   pub place_is : channel_of t on ≡ place
 
+-- the items in flight
+abbrev pub items_in : NetNow → List (List ℕ) → List Item
+items_in net ps = (flight_of net.topology net.journal ps).items
+
 module _ (net : NetNow) (lawful : IsLawful net.topology) (ps : List (List ℕ)) (h : StandsFor net ps) where
   abbrev t : Network
   t = net.topology
@@ -145,14 +149,11 @@ module _ (net : NetNow) (lawful : IsLawful net.topology) (ps : List (List ℕ)) 
   abbrev j : List JournalEntry
   j = net.journal
 
-  abbrev items : List Item
-  items = (flight_of t j ps).items
-
   flies : IsInFlight t (world_of t j) (packets_of t j ps) (made_by t j ps) (flight_of t j ps)
   flies = in_flight t j ps lawful h.stands.lawful
 
   abbrev PdusAreTold : Channel → ℕ → Type 0
-  PdusAreTold on c = AreTold t j items (of_messages t) (λ (item : ItemOf (List ℕ)). item.item) net.transport.messages on c (ldp_at (c / 2) (dir_of c))
+  PdusAreTold on c = AreTold t j (items_in net ps) (of_messages t) (λ (item : ItemOf (List ℕ)). item.item) net.transport.messages on c (ldp_at (c / 2) (dir_of c))
 
   away : (l : ℕ) (d : Dir) → l < length t.links → away_from t l (sender (wiring_of t) l d) ≡ d
   away l Forth there = ap (λ b. if b then Forth else Back) (same_test (link (wiring_of t) l).a.0)
@@ -176,7 +177,7 @@ module _ (net : NetNow) (lawful : IsLawful net.topology) (ps : List (List ℕ)) 
             ∙ ap (λ n. spelled (wiring_of t) (own_of (given t j)) l from n (drop heard said)) (one_on heard)
             ∙ said_told t j l from 0 (drop heard said)
             ∙ ap (told_from (λ n load. bytes_on t j n (Messages l from) load) 0) (sym (flies.messages l from there (ends l d there).0));
-        names = names_all t (of_messages t) (Messages l from) (channel l d) (message_named t lawful l d there) items (all_there t j ps lawful h.stands.lawful);
+        names = names_all t (of_messages t) (Messages l from) (channel l d) (message_named t lawful l d there) (items_in net ps) (all_there t j ps lawful h.stands.lawful);
         own = ap (λ b. b && (from == from)) (same_test l) ∙ same_test from;
         place_is = ap (ldp_at l) (away l d there ∙ sym (in_halves l d).1) ∙ ap (λ n. ldp_at n (dir_of (channel l d))) (sym (in_halves l d).0);
       }
@@ -197,16 +198,12 @@ module _ (net : NetNow) (lawful : IsLawful net.topology) (ps : List (List ℕ)) 
           same_numbers (channel_from (wiring_of t) l end) (channel l d) (sends-here (wiring_of t) l end d (lawful.ends_differ l of.0) q) in
           subst (PdusAreTold (Messages l end)) (sym number ∙ some_is (channel_from (wiring_of t) l end) c e)
           (subst (λ m. PdusAreTold (Messages l m) (channel l d)) q (pdus_told l d of.0))
-  pdu_at (Messages l end) Notice c of e = absurd of
-  pdu_at (Messages l end) (Tells m) c of e = absurd of
-  pdu_at (Messages l end) (Carries m) c of e = absurd of
-  pdu_at (Notices l end) load c of e = cc
-  pdu_at (Routes l end) load c of e = cc
-  pdu_at (Frames l end) load c of e = cc
+  pdu_at (Messages l end) _ c of e = absurd of
+  pdu_at _ load c of e = cc
 
   abbrev MessagesAreTold : Channel → ℕ → Type 0
   MessagesAreTold on c =
-      AreTold t j items (of_routes (length t.loopbacks)) (λ (item : ItemOf (List ℕ)). item.item) net.routes.messages on c
+      AreTold t j (items_in net ps) (of_routes (length t.loopbacks)) (λ (item : ItemOf (List ℕ)). item.item) net.routes.messages on c
       (bgp_at (c / length t.loopbacks) (c % length t.loopbacks))
 
   pub message_at : (on : Channel) (load : Load) (c : ℕ) → IsOfChannel t on load → of_routes (length t.loopbacks) on ≡ Some c → MessagesAreTold on c
@@ -221,20 +218,16 @@ module _ (net : NetNow) (lawful : IsLawful net.topology) (ps : List (List ℕ)) 
             told = h.routes.messages a b f g of.2
                 ∙ told_told t j a b 0 untold
                 ∙ ap (told_from (λ n load. bytes_on t j n (Routes a b) load) 0) (sym (flies.routes a b of.2));
-            names = names_all t (of_routes (length t.loopbacks)) (Routes a b) (a * length t.loopbacks + b) (route_named t lawful a b f g) items
+            names = names_all t (of_routes (length t.loopbacks)) (Routes a b) (a * length t.loopbacks + b) (route_named t lawful a b f g) (items_in net ps)
                 (all_there t j ps lawful h.stands.lawful);
             own = ap (λ c. c && (b == b)) (same_test a) ∙ same_test b;
             place_is = ap (λ n. bgp_at n b) (sym parts.0) ∙ ap (bgp_at ((a * length t.loopbacks + b) / length t.loopbacks)) (sym parts.1);
           }
-  message_at (Routes a b) Notice c of e = absurd of
-  message_at (Routes a b) (Says m) c of e = absurd of
-  message_at (Routes a b) (Carries m) c of e = absurd of
-  message_at (Notices l end) load c of e = cc
-  message_at (Messages l end) load c of e = cc
-  message_at (Frames l end) load c of e = cc
+  message_at (Routes a b) _ c of e = absurd of
+  message_at _ load c of e = cc
 
   abbrev FramesAreTold : Channel → ℕ → Type 0
-  FramesAreTold on c = AreTold t j items of_frames (λ (item : ItemOf Flown). frame_bytes item.item.frame) net.moving.flying on c (frame_at (c / 2) (dir_of c))
+  FramesAreTold on c = AreTold t j (items_in net ps) of_frames (λ (item : ItemOf Flown). frame_bytes item.item.frame) net.moving.flying on c (frame_at (c / 2) (dir_of c))
 
   named : (l : ℕ) (d : Dir) (other : Channel) → IsThere t other → same_channel (Frames l d) other ≡ is_number (channel l d) (of_frames other)
   named l d (Frames k e) g = refl
@@ -246,16 +239,12 @@ module _ (net : NetNow) (lawful : IsLawful net.topology) (ps : List (List ℕ)) 
   frame_at_its (Frames l d) (Carries token) c of e = subst (FramesAreTold (Frames l d)) (some_is (channel l d) c e) (record {
     told = flown_told t j l d 0 (on_channel (channel l d) net.moving.flying) (flying_on (packets_of t j ps) l d) (h.stands.packets.frames l d)
         ∙ ap (told_from (λ n load. bytes_on t j n (Frames l d) load) 0) (sym (flies.frames l d));
-    names = names_all t of_frames (Frames l d) (channel l d) (named l d) items (all_there t j ps lawful h.stands.lawful);
+    names = names_all t of_frames (Frames l d) (channel l d) (named l d) (items_in net ps) (all_there t j ps lawful h.stands.lawful);
     own = same_test (channel l d);
     place_is = ap (frame_at l) (sym (in_halves l d).1) ∙ ap (λ n. frame_at n (dir_of (channel l d))) (sym (in_halves l d).0);
   })
-  frame_at_its (Frames l d) Notice c of e = absurd of
-  frame_at_its (Frames l d) (Says m) c of e = absurd of
-  frame_at_its (Frames l d) (Tells m) c of e = absurd of
-  frame_at_its (Notices l end) load c of e = cc
-  frame_at_its (Messages l end) load c of e = cc
-  frame_at_its (Routes l end) load c of e = cc
+  frame_at_its (Frames l d) _ c of e = absurd of
+  frame_at_its _ load c of e = cc
 
   pub notice_place : (on : Channel) (load : Load) (c : ℕ) → IsOfChannel t on load → of_notices (length t.loopbacks) on ≡ Some c →
       channel_of t on ≡ notice_at (c / length t.loopbacks) (c % length t.loopbacks)
@@ -263,9 +252,5 @@ module _ (net : NetNow) (lawful : IsLawful net.topology) (ps : List (List ℕ)) 
       let parts = parts_of (length t.loopbacks) l node of.1 in
       subst (λ n. notice_at l node ≡ notice_at (n / length t.loopbacks) (n % length t.loopbacks)) (some_is (l * length t.loopbacks + node) c e)
       (ap (λ n. notice_at n node) (sym parts.0) ∙ ap (notice_at ((l * length t.loopbacks + node) / length t.loopbacks)) (sym parts.1))
-  notice_place (Notices l node) (Says m) c of e = absurd of
-  notice_place (Notices l node) (Tells m) c of e = absurd of
-  notice_place (Notices l node) (Carries m) c of e = absurd of
-  notice_place (Messages l end) load c of e = cc
-  notice_place (Routes l end) load c of e = cc
-  notice_place (Frames l end) load c of e = cc
+  notice_place (Notices l node) _ c of e = absurd of
+  notice_place _ load c of e = cc

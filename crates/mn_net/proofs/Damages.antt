@@ -1,6 +1,7 @@
 -- A damage is the step that it also is, and then a mark on the last entry.
 use Rattle.std.proofs.Common.{◌≡◌, ◌≤◌, ◌+◌, true, false, List, [], ◌∷◌, ◌++◌, ℕ, length, refl, arith, sym, ◌∙◌, ap, subst, Some, None}
 use Rattle.std.specs.Prelude.{◌≢◌, map}
+use Rattle.mn_topo.specs.declared.steps.Step.{Step}
 use Rattle.mn_topo.specs.declared.steps.Damage.{Damage}
 use Rattle.mn_topo.specs.declared.steps.Damage.TheVariants.{Ldp, Bgp}
 use Rattle.mn_topo.specs.declared.steps.Damaged.{Damaged}
@@ -84,7 +85,7 @@ no_ticks (Ldp l dir n) tick = omega arith
 no_ticks (Bgp x y n) tick = omega arith
 
 -- the step done and marked is the damage done
-pub damaged_so : (old mid new : NetNow) (d : Damage) → IsDone old mid (ending d) [] →
+damaged_so : (old mid new : NetNow) (d : Damage) → IsDone old mid (ending d) [] →
     new ≡ record mid { journal = marked_last mid.journal (mark_of d); spare = new.spare } → IsDamaged old new d
 damaged_so old mid new d done e = record {
   topology = ap (λ (n : NetNow). n.topology) e ∙ done.longer.topology;
@@ -93,7 +94,7 @@ damaged_so old mid new d done e = record {
   made = subst (λ (n : NetNow). old.made ≤ n.made) (sym e) done.longer.made;
 }
 
-pub stands_so : (old mid new : NetNow) (d : Damage) → IsDone old mid (ending d) [] →
+stands_so : (old mid new : NetNow) (d : Damage) → IsDone old mid (ending d) [] →
     new ≡ record mid { journal = marked_last mid.journal (mark_of d); spare = new.spare } → (ps : List (List ℕ)) → StandsFor old ps → StandsFor new ps
 stands_so old mid new d done e ps h =
     let m : Damaged = mark_of d in
@@ -101,3 +102,12 @@ stands_so old mid new d done e ps h =
     (stands_with_spare (record mid { journal = marked_last mid.journal m }) new.spare ps
     ((still mid (marked_last mid.journal m) (marks_last mid.journal m).same).stands ps
     (subst (λ qs. StandsFor mid qs) (no_packet d [] ps) (done.stands ps h))))
+
+-- as a call's proof has it: by the step that ends it, and by how it is marked
+pub ended_so : (old mid new : NetNow) (d : Damage) (s : Step) (m : Damaged) → s ≡ ending d → m ≡ mark_of d → IsDone old mid s []
+    → new ≡ record mid { journal = marked_last mid.journal m; spare = new.spare } → IsDamaged old new d × ((ps : List (List ℕ)) → StandsFor old ps → StandsFor new ps)
+ended_so old mid new d s m ends marks done e =
+    let as_ended : IsDone old mid (ending d) [] = subst (λ x. IsDone old mid x []) ends done in
+    let as_marked : new ≡ record mid { journal = marked_last mid.journal (mark_of d); spare = new.spare } =
+    subst (λ x. new ≡ record mid { journal = marked_last mid.journal x; spare = new.spare }) marks e in
+    (damaged_so old mid new d as_ended as_marked, stands_so old mid new d as_ended as_marked)

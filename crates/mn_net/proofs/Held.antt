@@ -1,19 +1,17 @@
 -- What edges hold in a network that works.
-use Rattle.std.proofs.Common.{ℕ, zero, suc, ◌≡◌, ◌+◌, ◌<◌, Bool, true, false, List, [], ◌∷◌, length, map, refl, arith, sym, ap, ◌∙◌, subst, Option, Some, None, inl}
-use Rattle.std.specs.Prelude.{◌==◌, ◌||◌, not, filter, if◌then◌else◌, slice_get, slice_index_or, option_map}
-use Rattle.std.specs.List.{list_any}
+use Rattle.std.proofs.Common.{ℕ, zero, suc, ◌≡◌, ◌+◌, ◌<◌, Bool, true, false, List, [], ◌∷◌, length, map, refl, sym, ap, ◌∙◌, subst, Option, Some, None, inl}
+use Rattle.std.specs.Prelude.{not, filter, if◌then◌else◌, slice_get, slice_index_or, option_map}
+use Rattle.std.specs.List.{list_any, range_with_len}
 use Rattle.std.proofs.lemmas.List.{length-map}
 use Rattle.std.proofs.lemmas.Option.{same_Some}
 use Rattle.mn_wiring.specs.Wiring.{nodes_of}
 use Rattle.mn_states.specs.declared.states.BgpState.TheVariants.{Idle}
-use Rattle.mn_base.proofs.Bools.{same_test}
 use Rattle.mn_base.proofs.Members.{In, in_filter, contained_in}
 use Rattle.mn_prefix.specs.Prefix.{AddressBlock, same_prefix}
 use Rattle.mn_prefix.specs.Table.{longest_match}
 use Rattle.mn_topo.specs.Network.{Network, wiring_of}
 use Rattle.mn_topo.specs.Lawful.{IsLawful}
 use Rattle.mn_topo.specs.VrfTable.{is_edge}
-use Rattle.mn_topo.specs.declared.vrfs.VrfDef.{VrfDef}
 use Rattle.mn_ledger.specs.World.{Config, Peerings}
 use Rattle.mn_ledger.specs.Ledger.{world_of}
 use Rattle.mn_ledger.specs.Places.{edge_of}
@@ -41,13 +39,16 @@ use Rattle.mn_routing_laws.specs.Sources.{as_held, source_from}
 use Rattle.mn_routing_laws.specs.Standing.{vrf_in, edge_in}
 use Rattle.mn_routing_laws.specs.Whole.{routes_in, edge_or_none, session_or_none}
 use Rattle.mn_routing_laws.proofs.Holding.{Stands, holds}
+use Rattle.mn_routing_laws.proofs.Home.{among_edges}
 use Rattle.mn_routing_laws.proofs.Lawful.{rests, stands}
 use Rattle.mn_routing_laws.proofs.Tables.{map_numbers_at}
 use Rattle.mn_net_refusals.specs.Refusal.{asked}
 use Rattle.mn_net_refusals.proofs.Vrfs.{vrf_is}
-use Rattle.mn_net_laws.specs.Now.{NetNow, IsNet}
+use Rattle.mn_net_laws.specs.Now.{NetNow, IsNet, WorksAsNet}
+use Rattle.mn_net_laws.proofs.Told.{net_is}
 use Rattle.mn_ledger.specs.Heads.{prefixes_of, best_at, held_at}
 use Rattle.mn_routing_laws.proofs.Prefixes.{place_told}
+use Rattle.mn_net.proofs.Views.{vrf_there}
 
 -- 1. Sessions
 
@@ -84,15 +85,6 @@ row_length net is a below =
 
 -- 2. Edges
 
-at_edge_of : (vrfs : List VrfDef) (v : ℕ) (d : VrfDef) → v < length vrfs → is_edge vrfs (slice_index_or vrfs v d).node.0 ≡ true
-at_edge_of [] v d h = absurd (let none : v < 0 → ⊥ = (λ g. omega (arith, g)) in none h)
-at_edge_of (x ∷ xs) zero d h = ap (λ b. b || list_any (λ vrf. x.node.0 == vrf.node.0) xs) (same_test x.node.0)
-at_edge_of (x ∷ xs) (suc v) d h = or_on ((slice_index_or xs v d).node.0 == x.node.0) (at_edge_of xs v d (omega (arith, h)))
-  where
-    or_on : {r : Bool} (b : Bool) → r ≡ true → (b || r) ≡ true
-    or_on true e = refl
-    or_on false e = e
-
 pub edges_length : (net : NetNow) → IsNet net → length net.routes.edges ≡ length net.topology.loopbacks
 edges_length net is = ap length is.stands.routes.edges ∙ length-map _ (option_map working) ∙ length_range _ 0 (length net.topology.loopbacks)
 
@@ -121,7 +113,7 @@ module _ (net : NetNow) (lawful : IsLawful net.topology) (is : IsNet net) (v : �
   pub its_edge : slice_index_or (routes_in t l c p).edges (edge_of t v) None ≡ Some its
   its_edge =
       map_numbers_at (edge_or_none t l c p) (length t.loopbacks) (edge_of t v) None (edge_there t v lawful h)
-      ∙ ap (λ b. if b then Some its else None) (at_edge_of t.vrfs v _ h)
+      ∙ ap (λ b. if b then Some its else None) (in_filter (λ node. is_edge t.vrfs node) (range_with_len 0 (length t.loopbacks)) (edge_of t v) (among_edges t v h (edge_there t v lawful h))).1
 
   pub edge_told : slice_index_or net.routes.edges (edge_of t v) None ≡ Some (working its)
   edge_told = ap (λ es. slice_index_or es (edge_of t v) None) is.stands.routes.edges
@@ -198,3 +190,55 @@ module _ (net : NetNow) (lawful : IsLawful net.topology) (is : IsNet net) (v : �
       let told : (n : ℕ) → found_in v (λ (vrf : VrfState). slice_get (heads (held_by pe.edge vrf)) n) pe.edge.vrfs ≡ option_map (as_held l) (held_at routes n) =
       λ n. held_told n pe (found_in v (λ (vrf : VrfState). slice_get (heads (held_by pe.edge vrf)) n) pe.edge.vrfs) at (λ _. refl) in
       tells works k (subst (IsHeldAt last) (sym (told k)) is) ∙ told (k + 1)
+
+-- 3. As a call's proof has it: an edge's node, and what its VRF holds
+
+-- what a VRF holds at a place
+abbrev held_in : NetNow → ℕ → ℕ → Option HeldRoute
+held_in n v k = held_at (held n.topology (world_of n.topology n.journal).config (world_of n.topology n.journal).peerings (edge_of n.topology v) v) k
+
+-- as it is told, by the labels of the network, and by those that its edge gave
+abbrev by_labels : NetNow → Option HeldRoute → Option (AddressBlock × Source)
+by_labels n o = option_map (as_held (labels_of n.topology n.journal)) o
+
+abbrev by_given : NetNow → Option HeldRoute → Option (AddressBlock × Source)
+by_given n o = option_map (entry.as_held (given n.topology n.journal)) o
+
+module _ (view now : NetNow) (same : view ≡ now) (holds : WorksAsNet view) (works : now.failed ≡ false) where
+  pub edge_below : (node : ℕ) → node < length view.topology.loopbacks → node < length view.routes.edges
+  edge_below node below = subst (λ n. node < n) (sym (edges_length view (net_is view now same holds works))) below
+
+  module _ (lawful : IsLawful view.topology) (v : ℕ) (below : v < length now.topology.vrfs) (node : ℕ) (home : node ≡ edge_of view.topology v) where
+    abbrev is : IsNet view
+    is = net_is view now same holds works
+
+    abbrev there : v < length view.topology.vrfs
+    there = vrf_there view now same v below
+
+    at_home : (o : Option PeNow) → o ≡ slice_index_or view.routes.edges node None → o ≡ slice_index_or view.routes.edges (edge_of view.topology v) None
+    at_home o at = at ∙ ap (λ n. slice_index_or view.routes.edges n None) home
+
+    pub no_edge : None ≡ slice_index_or view.routes.edges node None → ⊥
+    no_edge at = some_edge view lawful is v there (at_home None at)
+
+    pub held_seen : (k : ℕ) (pe : PeNow) (result : Option (AddressBlock × Source)) → Some pe ≡ slice_index_or view.routes.edges node None
+        → (pe.failed ≡ false → result ≡ found_in v (λ (vrf : VrfState). slice_get (heads (held_by pe.edge vrf)) k) pe.edge.vrfs)
+        → (result ≡ by_labels now (held_in now v k)) × (result ≡ by_given now (held_in now v k))
+    held_seen k pe result at tells =
+        let told : result ≡ by_labels view (held_in view v k) = held_told view lawful is v there k pe result (at_home (Some pe) at) tells in (
+          told ∙ ap (λ (n : NetNow). by_labels n (held_in n v k)) same,
+          told ∙ given_told view lawful is v there k ∙ ap (λ (n : NetNow). by_given n (held_in n v k)) same,
+        )
+
+    pub after_seen : (pe : PeNow) (last : AddressBlock) (result : Option (AddressBlock × Source)) → Some pe ≡ slice_index_or view.routes.edges node None
+        → (pe.failed ≡ false → (k : ℕ) → IsHeldAt last (found_in v (λ (vrf : VrfState). slice_get (heads (held_by pe.edge vrf)) k) pe.edge.vrfs)
+        → result ≡ found_in v (λ (vrf : VrfState). slice_get (heads (held_by pe.edge vrf)) (k + 1)) pe.edge.vrfs)
+        → (k : ℕ) → (IsHeldAt last (by_labels now (held_in now v k)) → result ≡ by_labels now (held_in now v (k + 1)))
+        × (IsHeldAt last (by_given now (held_in now v k)) → result ≡ by_given now (held_in now v (k + 1)))
+    after_seen pe last result at tells k =
+        let told : IsHeldAt last (by_labels view (held_in view v k)) → result ≡ by_labels view (held_in view v (k + 1)) =
+        after_told view lawful is v there pe last result (at_home (Some pe) at) tells k in (
+          subst (λ (n : NetNow). IsHeldAt last (by_labels n (held_in n v k)) → result ≡ by_labels n (held_in n v (k + 1))) same told,
+          subst (λ (n : NetNow). IsHeldAt last (by_given n (held_in n v k)) → result ≡ by_given n (held_in n v (k + 1))) same
+              (λ has. told (subst (IsHeldAt last) (sym (given_told view lawful is v there k)) has) ∙ given_told view lawful is v there (k + 1)),
+        )

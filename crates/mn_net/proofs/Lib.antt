@@ -12,3 +12,4 @@ pub mod Elapsed
 pub mod Few
 pub mod Damages
 pub mod Open
+pub mod Views

@@ -14,35 +14,22 @@ use Rattle.mn_net.specs.declared.turns.LinkTurn.TheVariants as link
 use Rattle.mn_net.specs.declared.turns.RouteTurn.{RouteTurn}
 use Rattle.mn_net.specs.declared.turns.RouteTurn.TheVariants as route
 
-pub of_transport : (turn : LinkTurn) → is_transport (link_step turn) ≡ true
-of_transport (link.Up l) = refl
-of_transport (link.Learn node l) = refl
-of_transport (link.LdpAdmin l on) = refl
-of_transport (link.HearLdp l dir) = refl
+-- a step of the transport that moves no packet
+pub of_links : (turn : LinkTurn) → (is_transport (link_step turn) ≡ true) × (is_moving (link_step turn) ≡ false)
+of_links (link.Up l) = (refl, refl)
+of_links (link.Learn node l) = (refl, refl)
+of_links (link.LdpAdmin l on) = (refl, refl)
+of_links (link.HearLdp l dir) = (refl, refl)
 
-pub moves_nothing : (turn : LinkTurn) → is_moving (link_step turn) ≡ false
-moves_nothing (link.Up l) = refl
-moves_nothing (link.Learn node l) = refl
-moves_nothing (link.LdpAdmin l on) = refl
-moves_nothing (link.HearLdp l dir) = refl
-
-pub of_routes : (turn : RouteTurn) → is_routing (route_step turn) ≡ true
-of_routes (route.BgpUp a b) = refl
-of_routes (route.BgpDown a b) = refl
-of_routes (route.HearBgp a b) = refl
-of_routes (route.AddRoute site prefix) = refl
-of_routes (route.DelRoute site prefix) = refl
-of_routes (route.Import vrf on target) = refl
-of_routes (route.Export vrf on target) = refl
-
-pub of_routes_alone : (turn : RouteTurn) → touches (route_step turn) ≡ false
-of_routes_alone (route.BgpUp a b) = refl
-of_routes_alone (route.BgpDown a b) = refl
-of_routes_alone (route.HearBgp a b) = refl
-of_routes_alone (route.AddRoute site prefix) = refl
-of_routes_alone (route.DelRoute site prefix) = refl
-of_routes_alone (route.Import vrf on target) = refl
-of_routes_alone (route.Export vrf on target) = refl
+-- a step of the routes that the transport has no part in
+pub of_routes : (turn : RouteTurn) → (is_routing (route_step turn) ≡ true) × (touches (route_step turn) ≡ false)
+of_routes (route.BgpUp a b) = (refl, refl)
+of_routes (route.BgpDown a b) = (refl, refl)
+of_routes (route.HearBgp a b) = (refl, refl)
+of_routes (route.AddRoute site prefix) = (refl, refl)
+of_routes (route.DelRoute site prefix) = (refl, refl)
+of_routes (route.Import vrf on target) = (refl, refl)
+of_routes (route.Export vrf on target) = (refl, refl)
 
 -- the entry is that of the step
 pub as_said : (es : List JournalEntry) (tick : ℕ) (said : Step) {s : Step} → said ≡ s →

@@ -28,7 +28,7 @@ use Rattle.mn_net.specs.declared.flight.Channel.{Channel as Place}
 use Rattle.mn_net.specs.Told.{Told, channel_of, bytes_on, item_told, told_at}
 use Rattle.mn_net.specs.Tables.{count_of}
 use Rattle.mn_net.proofs.Found.{IsFound, found, elsewhere, one_found, its_place, its_bytes}
-use Rattle.mn_net.proofs.Bytes.{ldp_at, bgp_at, frame_at, notice_at, AreTold, pdu_at, message_at, frame_at_its, notice_place}
+use Rattle.mn_net.proofs.Bytes.{ldp_at, bgp_at, frame_at, notice_at, AreTold, items_in, pdu_at, message_at, frame_at_its, notice_place}
 
 -- 1. What is told
 
@@ -63,19 +63,16 @@ module _ (net : NetNow) (lawful : IsLawful net.topology) (ps : List (List ℕ)) 
   abbrev j : List JournalEntry
   j = net.journal
 
-  abbrev items : List Item
-  items = (flight_of t j ps).items
-
-  module _ {T : Type 0} (number : Numbering) (xs : List (ItemOf T)) (x : ItemOf T) (keys : keys_in xs ≡ keys_on number items)
+  module _ {T : Type 0} (number : Numbering) (xs : List (ItemOf T)) (x : ItemOf T) (keys : keys_in xs ≡ keys_on number (items_in net ps))
       (e : find (λ item. item.number == n) xs ≡ Some x) where
-    abbrev is : IsFound number n xs items x
-    is = found number n items xs x keys e
+    abbrev is : IsFound number n xs (items_in net ps) x
+    is = found number n (items_in net ps) xs x keys e
 
     ascend : AreAscending 0 (flight_of t j ps).made (is.before ++ is.item ∷ is.after)
     ascend = subst (AreAscending 0 (flight_of t j ps).made) is.ledger (numbers_ascend t j ps)
 
-    told_it : told_at t j ps n ≡ Some (item_told t j items is.item)
-    told_it = ap (option_map (item_told t j items))
+    told_it : told_at t j ps n ≡ Some (item_told t j (items_in net ps) is.item)
+    told_it = ap (option_map (item_told t j (items_in net ps)))
         (ap (find (λ (item : Item). item.number == n)) is.ledger
         ∙ subst (λ m. find (λ item. item.number == m) (is.before ++ is.item ∷ is.after) ≡ Some is.item) is.its
         (one_found 0 (flight_of t j ps).made is.before is.after is.item ascend))
@@ -85,40 +82,34 @@ module _ (net : NetNow) (lawful : IsLawful net.topology) (ps : List (List ℕ)) 
         (subst (λ (list : List Item). Contains list is.item) (sym is.ledger)
         (Contains-append_right is.before (is.item ∷ is.after) is.item (0, omega arith, refl)))
 
-    its_number : place_of items is.item ≡ length (items_on is.item.on is.before)
+    its_number : place_of (items_in net ps) is.item ≡ length (items_on is.item.on is.before)
     its_number = ap (λ list. place_of list is.item) is.ledger ∙ ap length (its_place 0 (flight_of t j ps).made is.before is.after is.item ascend)
 
     told_by : (kind : Kind) (place : Place) (bytes : ItemOf T → List ℕ) → kind_of is.item.on ≡ kind →
-        AreTold t j items number bytes xs is.item.on x.channel place → tell kind place x.due (bytes x) ≡ told_at t j ps n
+        AreTold t j (items_in net ps) number bytes xs is.item.on x.channel place → tell kind place x.due (bytes x) ≡ told_at t j ps n
     told_by kind place bytes k are =
         told_as kind (kind_of is.item.on) place (channel_of t is.item.on) x.due is.item.due (bytes x)
-        (bytes_on t j (place_of items is.item) is.item.on is.item.load) (sym k) (sym are.place_is) is.due
-        (its_bytes number n items xs x is are.names are.own bytes (λ n load. bytes_on t j n is.item.on load) are.told
+        (bytes_on t j (place_of (items_in net ps) is.item) is.item.on is.item.load) (sym k) (sym are.place_is) is.due
+        (its_bytes number n (items_in net ps) xs x is are.names are.own bytes (λ n load. bytes_on t j n is.item.on load) are.told
         ∙ ap (λ m. bytes_on t j m is.item.on is.item.load) (sym its_number))
         ∙ sym told_it
 
   message_kind : (on : Channel) (c : ℕ) → of_messages t on ≡ Some c → kind_of on ≡ Message
   message_kind (Messages l end) c e = refl
-  message_kind (Notices l end) c e = cc
-  message_kind (Routes l end) c e = cc
-  message_kind (Frames l end) c e = cc
+  message_kind _ c e = cc
 
   route_kind : (on : Channel) (c : ℕ) → of_routes (length t.loopbacks) on ≡ Some c → kind_of on ≡ Message
   route_kind (Routes l end) c e = refl
-  route_kind (Notices l end) c e = cc
-  route_kind (Messages l end) c e = cc
-  route_kind (Frames l end) c e = cc
+  route_kind _ c e = cc
 
   frame_kind : (on : Channel) (c : ℕ) → of_frames on ≡ Some c → kind_of on ≡ Frame
   frame_kind (Frames l end) c e = refl
-  frame_kind (Notices l end) c e = cc
-  frame_kind (Messages l end) c e = cc
-  frame_kind (Routes l end) c e = cc
+  frame_kind _ c e = cc
 
   pub pdu_told : (x : ItemOf (List ℕ)) → find (λ item. item.number == n) net.transport.messages ≡ Some x →
       tell Message (ldp_at (x.channel / 2) (dir_of x.channel)) x.due x.item ≡ told_at t j ps n
   pdu_told x e =
-      let is = found (of_messages t) n items net.transport.messages x h.stands.messages e in
+      let is = found (of_messages t) n (items_in net ps) net.transport.messages x h.stands.messages e in
       told_by (of_messages t) net.transport.messages x h.stands.messages e Message (ldp_at (x.channel / 2) (dir_of x.channel))
       (λ (item : ItemOf (List ℕ)). item.item)
       (message_kind is.item.on x.channel is.on)
@@ -128,7 +119,7 @@ module _ (net : NetNow) (lawful : IsLawful net.topology) (ps : List (List ℕ)) 
       tell Message (bgp_at (x.channel / length t.loopbacks) (x.channel % length t.loopbacks)) x.due x.item ≡ told_at t j ps n
   message_told x e =
       let number : Numbering = of_routes (length t.loopbacks) in
-      let is = found number n items net.routes.messages x h.stands.routes e in
+      let is = found number n (items_in net ps) net.routes.messages x h.stands.routes e in
       told_by number net.routes.messages x h.stands.routes e Message (bgp_at (x.channel / length t.loopbacks) (x.channel % length t.loopbacks))
       (λ (item : ItemOf (List ℕ)). item.item) (route_kind is.item.on x.channel is.on)
       (message_at net lawful ps h is.item.on is.item.load x.channel (of number net.routes.messages x h.stands.routes e) is.on)
@@ -136,7 +127,7 @@ module _ (net : NetNow) (lawful : IsLawful net.topology) (ps : List (List ℕ)) 
   pub frame_told : (x : ItemOf Flown) → find (λ item. item.number == n) net.moving.flying ≡ Some x →
       tell Frame (frame_at (x.channel / 2) (dir_of x.channel)) x.due (frame_bytes x.item.frame) ≡ told_at t j ps n
   frame_told x e =
-      let is = found of_frames n items net.moving.flying x h.stands.frames e in
+      let is = found of_frames n (items_in net ps) net.moving.flying x h.stands.frames e in
       told_by of_frames net.moving.flying x h.stands.frames e Frame (frame_at (x.channel / 2) (dir_of x.channel))
       (λ (item : ItemOf Flown). frame_bytes item.item.frame)
       (frame_kind is.item.on x.channel is.on)
@@ -150,25 +141,23 @@ module _ (net : NetNow) (lawful : IsLawful net.topology) (ps : List (List ℕ)) 
 
   notice_kind : (on : Channel) (c : ℕ) → of_notices (length t.loopbacks) on ≡ Some c → kind_of on ≡ Notice
   notice_kind (Notices l end) c e = refl
-  notice_kind (Messages l end) c e = cc
-  notice_kind (Routes l end) c e = cc
-  notice_kind (Frames l end) c e = cc
+  notice_kind _ c e = cc
 
   pub notice_told : (x : ItemOf NoticeOf) → find (λ item. item.number == n) net.transport.notices ≡ Some x →
       tell Notice (notice_at (x.channel / length t.loopbacks) (x.channel % length t.loopbacks)) x.due [] ≡ told_at t j ps n
   notice_told x e =
       let number : Numbering = of_notices (length t.loopbacks) in
-      let is = found number n items net.transport.notices x h.stands.notices e in
+      let is = found number n (items_in net ps) net.transport.notices x h.stands.notices e in
       told_as Notice (kind_of is.item.on) (notice_at (x.channel / length t.loopbacks) (x.channel % length t.loopbacks)) (channel_of t is.item.on) x.due
-      is.item.due [] (bytes_on t j (place_of items is.item) is.item.on is.item.load)
+      is.item.due [] (bytes_on t j (place_of (items_in net ps) is.item) is.item.on is.item.load)
       (sym (notice_kind is.item.on x.channel is.on))
       (sym (notice_place net lawful ps h is.item.on is.item.load x.channel (of number net.transport.notices x h.stands.notices e) is.on))
-      is.due (sym (no_bytes is.item.on is.item.load x.channel (place_of items is.item) is.on))
+      is.due (sym (no_bytes is.item.on is.item.load x.channel (place_of (items_in net ps) is.item) is.on))
       ∙ sym (told_it number net.transport.notices x h.stands.notices e)
 
   pub none_told : find (λ item. item.number == n) net.transport.notices ≡ None → find (λ item. item.number == n) net.transport.messages ≡ None →
       find (λ item. item.number == n) net.routes.messages ≡ None → find (λ item. item.number == n) net.moving.flying ≡ None → None ≡ told_at t j ps n
-  none_told e f g k = by (find (λ item. item.number == n) items) refl
+  none_told e f g k = by (find (λ item. item.number == n) (items_in net ps)) refl
     where
       nowhere : (on : Channel) → of_notices (length t.loopbacks) on ≡ None → of_messages t on ≡ None → of_routes (length t.loopbacks) on ≡ None →
           of_frames on ≡ None → ⊥
@@ -177,14 +166,14 @@ module _ (net : NetNow) (lawful : IsLawful net.topology) (ps : List (List ℕ)) 
       nowhere (Routes l m) a b c d = let no : Some (l * length t.loopbacks + m) ≡ None → ⊥ = (λ q. cc) in no c
       nowhere (Frames l m) a b c d = let no : of_frames (Frames l m) ≡ None → ⊥ = (λ q. cc) in no d
 
-      by : (o : Option Item) → find (λ item. item.number == n) items ≡ o → None ≡ told_at t j ps n
-      by None q = ap (option_map (item_told t j items)) (sym q)
+      by : (o : Option Item) → find (λ item. item.number == n) (items_in net ps) ≡ o → None ≡ told_at t j ps n
+      by None q = ap (option_map (item_told t j (items_in net ps))) (sym q)
       by (Some i) q =
           absurd (nowhere i.on
-          (elsewhere (of_notices (length t.loopbacks)) n items net.transport.notices i h.stands.notices e q)
-          (elsewhere (of_messages t) n items net.transport.messages i h.stands.messages f q)
-          (elsewhere (of_routes (length t.loopbacks)) n items net.routes.messages i h.stands.routes g q)
-          (elsewhere of_frames n items net.moving.flying i h.stands.frames k q))
+          (elsewhere (of_notices (length t.loopbacks)) n (items_in net ps) net.transport.notices i h.stands.notices e q)
+          (elsewhere (of_messages t) n (items_in net ps) net.transport.messages i h.stands.messages f q)
+          (elsewhere (of_routes (length t.loopbacks)) n (items_in net ps) net.routes.messages i h.stands.routes g q)
+          (elsewhere of_frames n (items_in net ps) net.moving.flying i h.stands.frames k q))
 
 -- 2. How many there are
 

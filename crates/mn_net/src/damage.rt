@@ -1,7 +1,11 @@
 //! Sessions that end by a damaged message.
 ghost use Rattle.std.specs.Prelude.{◌≡◌, ◌≢◌, ◌<◌, ℕ, List, [], true, false, length, Some, IfOk, OnOk, IsErrOf};
-ghost use Rattle.mn_net.specs.Prelude.{damage_fits, hearing, refusal, damage_refusal, marked_last, StandsFor, LabelsMean, Answers, Leaves};
+ghost use Rattle.mn_ledger.specs.Prelude.{refusal};
 ghost use Rattle.mn_ledger.specs.declared.refused.Refused.TheVariants as why;
+ghost use Rattle.mn_damage.specs.Damages.{damage_fits, hearing};
+ghost use Rattle.mn_damage.specs.Refusals.{damage_refusal};
+ghost use Rattle.mn_mark_laws.specs.Marks.{marked_last};
+ghost use Rattle.mn_net.specs.Prelude.{StandsFor, LabelsMean, Answers, Leaves};
 ghost use Rattle.mn_net.specs.Damaged.{IsDamaged};
 
 use crate::net::{Done, Net};

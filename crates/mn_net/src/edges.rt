@@ -1,8 +1,13 @@
 //! What is told of edges: the states of their sessions, and the routes that their VRFs hold.
 ghost use Rattle.std.specs.Prelude.{◌≡◌, ◌+◌, ◌<◌, ℕ, false, filter, length, option_map};
 ghost use Rattle.mn_ledger.specs.Prelude.{world_of, edge_of, bgp_state_of, HeldRoute, held, best, eligible, is_resolved, IsSettled, best_for, held_at};
-ghost use Rattle.mn_net.specs.Prelude.{AreWays, given, labels_of, source_of, as_held, eligible_of, IsHeldAt};
-ghost use Rattle.mn_pe.specs.Entries.{as_held as given_held};
+ghost use Rattle.mn_vrf.specs.Vrf.{IsHeldAt};
+ghost use Rattle.mn_settled_laws.specs.Routes.{eligible_of};
+ghost use Rattle.mn_frame_laws.specs.Entries.{AreWays};
+ghost use Rattle.mn_frame_laws.specs.Numbers.{labels_of};
+ghost use Rattle.mn_pe.specs.Entries.{source_of, as_held as given_held};
+ghost use Rattle.mn_routing_laws.specs.Sources.{as_held};
+ghost use Rattle.mn_net.specs.Prelude.{given};
 
 use crate::net::Net;
 use mn_base::{NodeNo, VrfNo};

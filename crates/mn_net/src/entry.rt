@@ -1,8 +1,12 @@
 //! What becomes of a packet that a site sends, and the way out for it.
-ghost use Rattle.std.specs.Prelude.{◌≡◌, ◌<◌, ◌&&◌, ℕ, true, List, length, IfOk};
+ghost use Rattle.std.specs.Prelude.{◌≡◌, ◌<◌, ◌&&◌, ℕ, List, length, IfOk};
 ghost use Rattle.mn_ledger.specs.Prelude.{JournalEntry, world_of, IsLawfulJournal, home_of};
-ghost use Rattle.mn_net.specs.Prelude.{given, IsItsFate, IsBoundBelow, IsWayOut, OuterFits, IsTransport, IsRoutes, is_cut_off};
-ghost use Rattle.mn_transit.specs.Entering.{HasRoom};
+ghost use Rattle.mn_pe.specs.Entries.{IsItsFate, IsBoundBelow};
+ghost use Rattle.mn_transit.specs.Entering.{IsWayOut, OuterFits, HasRoom};
+ghost use Rattle.mn_transport_laws.specs.Stands.{IsTransport};
+ghost use Rattle.mn_routing_laws.specs.Routed.{IsRoutes};
+ghost use Rattle.mn_net_laws.specs.Bound.{is_cut_off};
+ghost use Rattle.mn_net.specs.Prelude.{given};
 
 use mn_base::{NodeNo, SiteNo};
 use mn_net_refusals::{Routes, Transport};
@@ -48,34 +52,6 @@ fn looks_again(topology: &Topology, entered: &Entered, outer: Option<(NodeNo, Op
     }
 }
 
-/// By the best of the routes that take part, where the topology resolves next hops.
-fn enter_among(
-    routes: &Routes,
-    transport: &Transport,
-    topology: &Topology,
-    site: SiteNo,
-    packet: &[u8],
-) -> Result<Entry, AllocError>
-    requires site { site.0 < length topology.now.sites }
-    requires resolves { topology.now.resolve ≡ true }
-    requires stands { (journal : List JournalEntry) × (inputs : List (List ℕ)) × IsLawfulJournal topology.now journal inputs ×
-        IsRoutes topology.now journal routes.now × IsTransport topology.now journal transport.now }
-    ensures fate { IfOk result (λ entry. (journal : List JournalEntry) (inputs : List (List ℕ)) → IsLawfulJournal topology.now journal inputs →
-        IsRoutes topology.now journal routes.now → IsTransport topology.now journal transport.now →
-        IsItsFate topology.now (given topology.now journal) (world_of topology.now journal) site.0 packet.now entry.entered) }
-    ensures way { IfOk result (λ entry. (journal : List JournalEntry) → IsTransport topology.now journal transport.now →
-        IsWayOut topology.now (given topology.now journal) (world_of topology.now journal) (home_of topology.now site.0) entry.entered entry.outer) }
-    ensures room { IfOk result (λ entry. HasRoom entry.entered) }
-    ensures label { IfOk result (λ entry. OuterFits entry.outer) }
-{
-    topology.laws();
-    let node = topology.home_of(site);
-    let ways = transport.ways(topology, node);
-    let entered = routes.enter_among(topology, site, packet, &ways)?;
-    let outer = way_out(transport, topology, node, &entered);
-    Ok(Entry { entered, outer })
-}
-
 /// By the best route of all; only where a packet would be cut off, and the topology resolves next hops, by the best of those that take
 /// part.
 pub(crate) fn enter(
@@ -100,8 +76,14 @@ pub(crate) fn enter(
     let node = topology.home_of(site);
     let entered = routes.enter(topology, site, packet)?;
     let outer = way_out(transport, topology, node, &entered);
-    if looks_again(topology, &entered, outer) {
-        return enter_among(routes, transport, topology, site, packet);
+    if !looks_again(topology, &entered, outer) {
+        return Ok(Entry { entered, outer });
     }
-    Ok(Entry { entered, outer })
+    let ways = transport.ways(topology, node);
+    let resolved = routes.enter_among(topology, site, packet, &ways)?;
+    let way = way_out(transport, topology, node, &resolved);
+    Ok(Entry {
+        entered: resolved,
+        outer: way,
+    })
 }

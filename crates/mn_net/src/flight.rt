@@ -1,6 +1,9 @@
 //! What is told of items in flight.
 ghost use Rattle.std.specs.Prelude.{◌≡◌, ◌<◌, ◌≤◌, ◌*◌, ◌/◌, ◌%◌, ◌^◌, ℕ, List, [], false, true, None, option_map};
-ghost use Rattle.mn_net.specs.Prelude.{frame_bytes, flight_of, dir_of, StandsFor};
+ghost use Rattle.mn_ledger.specs.Prelude.{flight_of};
+ghost use Rattle.mn_stack.specs.Labelled.{frame_bytes};
+ghost use Rattle.mn_net_refusals.specs.Coming.{dir_of};
+ghost use Rattle.mn_net.specs.Prelude.{StandsFor};
 ghost use Rattle.mn_course_laws.specs.declared.coming.Kind.TheVariants as kind;
 ghost use Rattle.mn_net.specs.declared.flight.Channel.TheVariants as channel;
 ghost use Rattle.mn_net.specs.Told.{told_at};
@@ -40,6 +43,17 @@ pub struct Flying<'a> {
     pub bytes: &'a [u8],
 }
 
+/// The two numbers that a channel's is made of, in a network of so many nodes.
+fn numbers_in(nodes: u32, channel: u32) -> (u16, u16)
+    requires some { 0 < nodes }
+    requires many { nodes ≤ 256 }
+    requires fits { channel / nodes < 2 ^ 16 }
+    ensures first { result.0 ≡ channel / nodes }
+    ensures second { result.1 ≡ channel % nodes }
+{
+    ((channel / nodes) as u16, (channel % nodes) as u16)
+}
+
 /// A notice, in a network of so many nodes.
 fn notice(nodes: u32, item: &Item<Notice>) -> Flying<'static>
     requires nodes { nodes ≤ 256 }
@@ -49,11 +63,10 @@ fn notice(nodes: u32, item: &Item<Notice>) -> Flying<'static>
     ensures due { result.due ≡ item.now.due }
     ensures bytes { result.bytes.now ≡ [] }
 {
-    let link = LinkNo((item.channel / nodes) as u16);
-    let node = NodeNo((item.channel % nodes) as u16);
+    let (link, node) = numbers_in(nodes, item.channel);
     Flying {
         kind: Kind::Notice,
-        channel: Channel::Notice(link, node),
+        channel: Channel::Notice(LinkNo(link), NodeNo(node)),
         due: item.due,
         bytes: &[],
     }
@@ -85,11 +98,10 @@ fn message(nodes: u32, item: &Item<ListOf<u8>>) -> Flying<'_>
     ensures due { result.due ≡ item.now.due }
     ensures bytes { result.bytes.now ≡ item.now.item }
 {
-    let edge = NodeNo((item.channel / nodes) as u16);
-    let peer = NodeNo((item.channel % nodes) as u16);
+    let (edge, peer) = numbers_in(nodes, item.channel);
     Flying {
         kind: Kind::Message,
-        channel: Channel::Bgp(edge, peer),
+        channel: Channel::Bgp(NodeNo(edge), NodeNo(peer)),
         due: item.due,
         bytes: item.item.as_slice(),
     }

@@ -24,6 +24,7 @@
 //! - `sessions`: the steps of BGP, routes and targets
 //! - `sites`: the steps that attach and detach sites
 //! - `damage`: sessions that end by a damaged message
+//! - `doing`: how a step is done
 //! - `entry`: what becomes of a packet that a site sends, and the way out for it
 //! - `moving`: the steps that move packets, and the one that lets time go by
 //! - `next`: what comes next
@@ -38,6 +39,7 @@
 #![tactic(auto)]
 
 mod damage;
+mod doing;
 mod edges;
 mod entry;
 mod flight;

@@ -3,17 +3,16 @@ ghost use Rattle.std.specs.Prelude.{◌≡◌, ◌<◌, ◌≤◌, ◌-◌, ◌^
 ghost use Rattle.std.specs.List.{All};
 ghost use Rattle.mn_topo.specs.declared.steps.Step.TheVariants as step;
 ghost use Rattle.mn_transport_laws.specs.Steps.{MayDo, Did};
-ghost use Rattle.mn_net_laws.specs.Done.{MayBeDone, IsDone, HasFailed};
+ghost use Rattle.mn_net.specs.Prelude.{MayBeDone, IsDone, HasFailed};
 ghost use Rattle.mn_net.specs.Turns.{link_step};
 
+use crate::doing::do_step;
 use crate::net::Net;
-use crate::room::reserve_entry;
 use crate::turns::LinkTurn;
 use mn_base::LinkNo;
 use mn_flight::Clock;
 use mn_net_refusals::Transport;
-use mn_routing_laws::routes_stay_as_they_were;
-use mn_topo::{Damaged, JournalEntry, Step, Topology};
+use mn_topo::{Step, Topology};
 use std::alloc::AllocError;
 
 /// The transport does its part of a step of links or LDP. It answers how many items that made.
@@ -46,23 +45,11 @@ impl Net {
         ensures done { OnOk result (IsDone self.old self.new (link_step turn) []) }
         ensures failed { OnErr result (HasFailed self.old self.new) }
     {
-        routes_stay_as_they_were();
-        self.topology.laws();
-        let clock = Clock {
-            tick: self.tick,
-            number: self.made,
-        };
-        self.failed = true;
-        reserve_entry(&mut self.journal)?;
-        let more = act(&mut self.transport, &self.topology, &turn, clock)?;
-        self.transit.begin();
-        self.made += more;
-        self.journal.push_reserved(JournalEntry {
-            tick: self.tick,
-            step: turn.step(),
-            damaged: Damaged::Undamaged,
+        do_step!(self, clock, turn.step() => {
+            let more = act(&mut self.transport, &self.topology, &turn, clock)?;
+            self.transit.begin();
+            more
         });
-        self.failed = false;
         Ok(())
     }
 
@@ -72,23 +59,11 @@ impl Net {
         ensures done { OnOk result (IsDone self.old self.new (step.LinkDown link) []) }
         ensures failed { OnErr result (HasFailed self.old self.new) }
     {
-        routes_stay_as_they_were();
-        self.topology.laws();
-        let clock = Clock {
-            tick: self.tick,
-            number: self.made,
-        };
-        self.failed = true;
-        reserve_entry(&mut self.journal)?;
-        let more = self.transport.link_down(&self.topology, link, clock)?;
-        self.transit.link_down(&self.topology, link);
-        self.made += more;
-        self.journal.push_reserved(JournalEntry {
-            tick: self.tick,
-            step: Step::LinkDown(link),
-            damaged: Damaged::Undamaged,
+        do_step!(self, clock, Step::LinkDown(link) => {
+            let more = self.transport.link_down(&self.topology, link, clock)?;
+            self.transit.link_down(&self.topology, link);
+            more
         });
-        self.failed = false;
         Ok(())
     }
 }

@@ -4,8 +4,7 @@ ghost use Rattle.std.specs.List.{All};
 ghost use Rattle.mn_ledger.specs.Prelude.{fits, refusal, with_packet};
 ghost use Rattle.mn_topo.specs.declared.steps.Step.TheVariants as step;
 ghost use Rattle.mn_ledger.specs.declared.refused.Refused.TheVariants as why;
-ghost use Rattle.mn_net.specs.Prelude.{StandsFor, but_spare, LabelsMean, Answers, Refuses, IsLonger, HasFailed, Leaves, MayBeDone, IsDone, is_of_frames, TakesOne, TakesRoom};
-ghost use Rattle.mn_net_laws.specs.Now.{HasRoom};
+ghost use Rattle.mn_net.specs.Prelude.{StandsFor, but_spare, HasRoom, LabelsMean, Answers, Refuses, IsLonger, HasFailed, Leaves, MayBeDone, IsDone, is_of_frames, TakesOne, TakesRoom};
 
 use crate::turns::{LinkTurn, RouteTurn};
 use mn_ledger::Refused;

@@ -2,8 +2,10 @@
 ghost use Rattle.std.specs.Prelude.{◌≡◌, ◌≤◌, ◌+◌, ℕ, List, true, false, None, IfSome};
 ghost use Rattle.std.specs.List.{All};
 ghost use Rattle.mn_ledger.specs.Prelude.{fits, injects, ticks_in};
-ghost use Rattle.mn_net.specs.Prelude.{IsOpen, delivery, first_due, StandsFor};
-ghost use Rattle.mn_course_laws.specs.Coming.{coming as ledgers};
+ghost use Rattle.mn_ledger_laws.specs.Flight.{IsOpen};
+ghost use Rattle.mn_course_laws.specs.Coming.{coming as ledgers, delivery};
+ghost use Rattle.mn_course_laws.specs.Next.{first_due};
+ghost use Rattle.mn_net.specs.Prelude.{StandsFor};
 ghost use Rattle.mn_course_laws.specs.declared.coming.Kind;
 
 use crate::net::Net;

@@ -1,7 +1,12 @@
 //! What is told of links, and of the transport of nodes.
 ghost use Rattle.std.specs.Prelude.{◌≡◌, ◌≢◌, ◌<◌, ◌≤◌, ℕ, List, false, not, length, map, option_map};
 ghost use Rattle.mn_ledger.specs.Prelude.{most_steps, links_of, sender, wiring_of, world_of, packets_of, GoesForward, view_of, tick_from, IsSettled};
-ghost use Rattle.mn_net.specs.Prelude.{IsTree, given, rested_of, IsTold, IsNode, StandsFor, hop_to, state_at, ChangedOnceFree};
+ghost use Rattle.mn_linkdb.specs.Trees.{IsTree};
+ghost use Rattle.mn_labels.specs.Labels.{IsTold};
+ghost use Rattle.mn_frame_laws.specs.Resting.{rested_of};
+ghost use Rattle.mn_transport_laws.specs.Stands.{IsNode};
+ghost use Rattle.mn_net_laws.specs.Told.{hop_to, state_at, ChangedOnceFree};
+ghost use Rattle.mn_net.specs.Prelude.{given, StandsFor};
 ghost use Rattle.mn_net.specs.Settled.{IsByLinks};
 
 use crate::net::Net;

@@ -2,16 +2,15 @@
 ghost use Rattle.std.specs.Prelude.{◌≡◌, ◌<◌, ◌≤◌, ◌^◌, [], true, false, IfOk, OnOk, OnErr};
 ghost use Rattle.std.specs.List.{All};
 ghost use Rattle.mn_routing_laws.specs.Steps.{MayDo, Did};
-ghost use Rattle.mn_net_laws.specs.Done.{MayBeDone, IsDone, HasFailed};
+ghost use Rattle.mn_net.specs.Prelude.{MayBeDone, IsDone, HasFailed};
 ghost use Rattle.mn_net.specs.Turns.{route_step};
 
+use crate::doing::do_step;
 use crate::net::Net;
-use crate::room::reserve_entry;
 use crate::turns::RouteTurn;
 use mn_flight::Clock;
 use mn_net_refusals::{Routes, count_static};
-use mn_topo::{Damaged, JournalEntry, Topology};
-use mn_transport_laws::a_transport_goes_on_as_it_was;
+use mn_topo::Topology;
 use std::alloc::AllocError;
 
 /// The routes do their part of a step that the transport has none in. It answers how many messages that made.
@@ -45,25 +44,13 @@ impl Net {
         ensures done { OnOk result (IsDone self.old self.new (route_step turn) []) }
         ensures failed { OnErr result (HasFailed self.old self.new) }
     {
-        a_transport_goes_on_as_it_was();
-        self.topology.laws();
-        let clock = Clock {
-            tick: self.tick,
-            number: self.made,
-        };
-        self.failed = true;
-        reserve_entry(&mut self.journal)?;
-        let more = act(&mut self.routes, &self.topology, &turn, clock)?;
-        self.transit.begin();
         let step = turn.step();
-        count_static(&mut self.tally, &step);
-        self.made += more;
-        self.journal.push_reserved(JournalEntry {
-            tick: self.tick,
-            step,
-            damaged: Damaged::Undamaged,
+        do_step!(self, clock, step => {
+            let more = act(&mut self.routes, &self.topology, &turn, clock)?;
+            self.transit.begin();
+            count_static(&mut self.tally, &step);
+            more
         });
-        self.failed = false;
         Ok(())
     }
 }

@@ -1,13 +1,12 @@
 //! The steps that attach and detach sites.
 ghost use Rattle.std.specs.Prelude.{[], OnOk, OnErr};
 ghost use Rattle.mn_topo.specs.declared.steps.Step.TheVariants as step;
-ghost use Rattle.mn_net_laws.specs.Done.{MayBeDone, IsDone, HasFailed};
+ghost use Rattle.mn_net.specs.Prelude.{MayBeDone, IsDone, HasFailed};
 
+use crate::doing::do_step;
 use crate::net::Net;
-use crate::room::reserve_entry;
 use mn_base::SiteNo;
-use mn_flight::Clock;
-use mn_topo::{Damaged, JournalEntry, Step};
+use mn_topo::Step;
 use std::alloc::AllocError;
 
 impl Net {
@@ -17,25 +16,14 @@ impl Net {
         ensures done { OnOk result (IsDone self.old self.new (step.Attach site) []) }
         ensures failed { OnErr result (HasFailed self.old self.new) }
     {
-        self.topology.laws();
-        let clock = Clock {
-            tick: self.tick,
-            number: self.made,
-        };
-        self.failed = true;
-        reserve_entry(&mut self.journal)?;
-        let Ok(label) = self.transport.attach(&self.topology, site) else {
-            return Err(AllocError);
-        };
-        let more = self.routes.attach(&self.topology, site, label, clock)?;
-        self.transit.begin();
-        self.made += more;
-        self.journal.push_reserved(JournalEntry {
-            tick: self.tick,
-            step: Step::Attach(site),
-            damaged: Damaged::Undamaged,
+        do_step!(self, clock, Step::Attach(site) => {
+            let Ok(label) = self.transport.attach(&self.topology, site) else {
+                return Err(AllocError);
+            };
+            let more = self.routes.attach(&self.topology, site, label, clock)?;
+            self.transit.begin();
+            more
         });
-        self.failed = false;
         Ok(())
     }
 
@@ -45,23 +33,12 @@ impl Net {
         ensures done { OnOk result (IsDone self.old self.new (step.Detach site) []) }
         ensures failed { OnErr result (HasFailed self.old self.new) }
     {
-        self.topology.laws();
-        let clock = Clock {
-            tick: self.tick,
-            number: self.made,
-        };
-        self.failed = true;
-        reserve_entry(&mut self.journal)?;
-        let more = self.routes.detach(&self.topology, site, clock)?;
-        self.transport.detach(&self.topology, site);
-        self.transit.begin();
-        self.made += more;
-        self.journal.push_reserved(JournalEntry {
-            tick: self.tick,
-            step: Step::Detach(site),
-            damaged: Damaged::Undamaged,
+        do_step!(self, clock, Step::Detach(site) => {
+            let more = self.routes.detach(&self.topology, site, clock)?;
+            self.transport.detach(&self.topology, site);
+            self.transit.begin();
+            more
         });
-        self.failed = false;
         Ok(())
     }
 }

@@ -2,7 +2,7 @@
 ghost use Rattle.std.specs.Prelude.{◌≡◌, ◌<◌, ◌^◌, List, ℕ, [], length, map, option_map, slice_get, slice_index_or, Some};
 ghost use Rattle.mn_ledger.specs.Prelude.{packets_of, flying_on, Frames, items_on, flight_of, verdict_on};
 ghost use Rattle.mn_transit.specs.Visits.{path_of};
-ghost use Rattle.mn_net_laws.specs.Now.{StandsFor};
+ghost use Rattle.mn_net.specs.Prelude.{StandsFor};
 ghost use Rattle.mn_net.specs.Landing.{IsLanding};
 
 use crate::net::Net;

@@ -3,13 +3,11 @@ use Rattle.std.proofs.lemmas.Result.{err_from_is_err_and}
 use Rattle.mn_topo.specs.Steps.{fits}
 use Rattle.mn_ledger.specs.Refusal.{refusal}
 use Rattle.mn_damage.specs.Refusals.{damage_refusal}
-use Rattle.mn_mark_laws.specs.Marks.{marked_last}
 use Rattle.mn_net_laws.specs.Now.{NetNow, StandsFor}
-use Rattle.mn_net_laws.specs.Done.{IsDone}
 use Rattle.mn_net_laws.proofs.Refused.{refused_so}
 use Rattle.mn_net_laws.proofs.Means.{labels_mean}
 use Rattle.mn_net.specs.declared.net.Done.{Done}
-use Rattle.mn_net.proofs.Damages.{reads_next, rest_last, ending_fits, damaged_so, stands_so}
+use Rattle.mn_net.proofs.Damages.{reads_next, rest_last, ending_fits, ended_so}
 use Rattle.mn_net.proofs.net.Net.damage.Goals as goal
 
 pub returns-then-reads-clause-answer : goal.returns-then-reads-clause-answer
@@ -52,18 +50,10 @@ returns-clause-answer c = λ ps h.
     ∙ ap (λ s. refusal now.topology now.journal ps s []) (sym c.ending-step.ensures) ∙ c.in_ok-refusal.ensures.exact ps h
 
 pub returns-clause-longer : goal.returns-clause-longer
-returns-clause-longer c =
-    let mid = c.perform.new.self in
-    let new = c.mark_last.new.self in
-    damaged_so c.args.self.now mid new c.args.damage (subst (λ s. IsDone c.args.self.now mid s []) c.ending-step.ensures c.in-Ok-perform.ensures.done)
-    (subst (λ m. new ≡ record mid { journal = marked_last mid.journal m; spare = new.spare }) c.mark.ensures c.mark_last.ensures.marked)
+returns-clause-longer c = (ended_so _ _ _ c.args.damage _ _ c.ending-step.ensures c.mark.ensures c.in-Ok-perform.ensures.done c.mark_last.ensures.marked).0
 
 pub returns-clause-stands : goal.returns-clause-stands
-returns-clause-stands c =
-    let mid = c.perform.new.self in
-    let new = c.mark_last.new.self in
-    stands_so c.args.self.now mid new c.args.damage (subst (λ s. IsDone c.args.self.now mid s []) c.ending-step.ensures c.in-Ok-perform.ensures.done)
-    (subst (λ m. new ≡ record mid { journal = marked_last mid.journal m; spare = new.spare }) c.mark.ensures c.mark_last.ensures.marked)
+returns-clause-stands c = (ended_so _ _ _ c.args.damage _ _ c.ending-step.ensures c.mark.ensures c.in-Ok-perform.ensures.done c.mark_last.ensures.marked).1
 
 pub returns-clause-labels : goal.returns-clause-labels
 returns-clause-labels c = λ ps h. labels_mean _ ps h

@@ -1,38 +1,21 @@
 use Rattle.std.proofs.Common.{[], ◌+◌, refl, arith}
 use Rattle.mn_topo.specs.declared.steps.Step.TheVariants as step
 use Rattle.mn_net_laws.proofs.Moves.{net_may, net_done, as_it_is}
-use Rattle.mn_net_laws.proofs.Turns.{link_may, route_may, route_numbers}
+use Rattle.mn_net_laws.proofs.Turns.{link_may, route_may}
 use Rattle.mn_net_laws.proofs.Sites.{detach_done}
-use Rattle.mn_net.proofs.Few.{made_fits, later_fits}
-use Rattle.mn_net.proofs.Clocks.{clock_early}
+use Rattle.mn_net.proofs.Few.{later_fits}
+use Rattle.mn_net.proofs.Views.{finds}
 use Rattle.mn_net.proofs.net.Net.detach.Goals as goal
 
-pub detach-requires-clause-tick : goal.detach-requires-clause-tick
-detach-requires-clause-tick c =
-    let may = net_may _ _ (step.Detach c.args.site) [] c.self.view_is c.requires.may in
-    clock_early _ (step.Detach c.args.site) [] (c.self.invariant may.works) may
-
-pub detach-requires-clause-numbers : goal.detach-requires-clause-numbers
-detach-requires-clause-numbers c =
-    let may = net_may _ _ (step.Detach c.args.site) [] c.self.view_is c.requires.may in
-    made_fits _ c.laws.ensures (c.self.invariant may.works)
-
-pub detach-requires-clause-messages : goal.detach-requires-clause-messages
-detach-requires-clause-messages c =
-    let may = net_may _ _ (step.Detach c.args.site) [] c.self.view_is c.requires.may in
-    route_numbers _ (c.self.invariant may.works)
-
-pub detach-requires-clause-may : goal.detach-requires-clause-may
-detach-requires-clause-may c =
-    let may = net_may _ _ (step.Detach c.args.site) [] c.self.view_is c.requires.may in
-    route_may _ (step.Detach c.args.site) (c.self.invariant may.works) may
+pub detach-requires : goal.detach-requires
+detach-requires c =
+    let its = finds _ _ (step.Detach c.args.site) [] c.self.view_is c.laws.ensures c.self.invariant c.requires.may in
+    record { tick = its.tick; numbers = its.numbers; messages = its.routes; may = route_may _ (step.Detach c.args.site) its.is its.may }
 
 pub detach-requires-2 : goal.detach-requires-2
-detach-requires-2 c = record {
-  may =
-      let may = net_may _ _ (step.Detach c.args.site) [] c.self.view_is c.requires.may in
-      link_may _ (step.Detach c.args.site) c.laws.ensures (c.self.invariant may.works) may refl;
-}
+detach-requires-2 c =
+    let its = finds _ _ (step.Detach c.args.site) [] c.self.view_is c.laws.ensures c.self.invariant c.requires.may in
+    record { may = link_may _ (step.Detach c.args.site) c.laws.ensures its.is its.may refl }
 
 pub overflow_add-self : goal.overflow_add-self
 overflow_add-self c =

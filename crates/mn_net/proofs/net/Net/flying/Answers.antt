@@ -1,20 +1,15 @@
-use Rattle.std.proofs.Common.{◌∙◌, sym, ap, subst, length}
+use Rattle.std.proofs.Common.{◌∙◌, sym, ap, length}
 use Rattle.mn_flight.specs.Flying.{on_channel}
-use Rattle.mn_transit.specs.Stands as transit
 use Rattle.mn_net_laws.specs.Now.{NetNow}
-use Rattle.mn_frame_laws.specs.Given.{given}
-use Rattle.mn_ledger.specs.Ledger.{packets_of}
 use Rattle.mn_ledger.specs.Packets.{channel}
 use Rattle.mn_ledger.specs.Items.{flight_of}
 use Rattle.mn_net_parts_laws.proofs.Counted.{count_on, counted_in, counted_on}
+use Rattle.mn_net.proofs.Views.{packets_stand}
 use Rattle.mn_net.proofs.net.Net.flying.Goals as goal
 
 pub returns-clause-told : goal.returns-clause-told
 returns-clause-told c = λ inputs h.
-    c.flying.ensures.told c.args.self.now.topology (given c.args.self.now.topology c.args.self.now.journal)
-    (packets_of c.args.self.now.topology c.args.self.now.journal inputs)
-    (subst (λ m. transit.StandsFor c.args.self.now.topology (given c.args.self.now.topology c.args.self.now.journal) m
-    (packets_of c.args.self.now.topology c.args.self.now.journal inputs)) (ap (λ (n : NetNow). n.moving) (sym c.self.view_is)) h.stands.packets)
+    c.flying.ensures.told _ _ _ (packets_stand _ _ c.self.view_is inputs h)
 
 pub returns-clause-items : goal.returns-clause-items
 returns-clause-items c = λ inputs h.

@@ -1,4 +1,4 @@
-use Rattle.std.proofs.Common.{◌≡◌, ◌∙◌, ap, subst, sym, length, ◌<◌}
+use Rattle.std.proofs.Common.{◌≡◌, ◌∙◌, ap, subst}
 use Rattle.std.specs.Prelude.{option_map, Option}
 use Rattle.mn_base.specs.declared.numbers.NodeNo.{NodeNo}
 use Rattle.mn_ledger.specs.Transport.{usable}
@@ -11,18 +11,15 @@ use Rattle.mn_net_laws.specs.Now.{NetNow}
 use Rattle.mn_ledger.specs.Settled.{IsSettled}
 use Rattle.mn_net.specs.Settled.{IsByLinks}
 use Rattle.mn_net.proofs.Settled.{by_links}
+use Rattle.mn_net.proofs.Views.{node_there, transport_there}
 use Rattle.mn_net.proofs.net.Net.hop.Goals as goal
 
-pub outer-requires-clause-node : goal.outer-requires-clause-node
-outer-requires-clause-node c = subst (λ (n : NetNow). c.args.node.0 < length n.topology.loopbacks) (sym c.self.view_is) c.requires.node
-
-pub outer-requires-clause-edge : goal.outer-requires-clause-edge
-outer-requires-clause-edge c = subst (λ (n : NetNow). c.args.edge.0 < length n.topology.loopbacks) (sym c.self.view_is) c.requires.edge
-
-pub outer-requires-clause-stands : goal.outer-requires-clause-stands
-outer-requires-clause-stands c =
-    let is = net_is _ _ c.self.view_is c.self.invariant c.requires.works in
-    (c.self.inside.journal.items, is.stands.transport)
+pub outer-requires : goal.outer-requires
+outer-requires c = record {
+  node = node_there _ _ c.self.view_is c.args.node.0 c.requires.node;
+  edge = node_there _ _ c.self.view_is c.args.edge.0 c.requires.edge;
+  stands = transport_there _ _ c.self.view_is c.self.invariant c.requires.works;
+}
 
 pub returns : goal.returns
 returns c =
@@ -40,7 +37,6 @@ returns c =
           subst (λ (n : NetNow). IsSettled n.topology (world_of n.topology n.journal)
           → IsByLinks n.topology (world_of n.topology n.journal) c.args.node.0 c.args.edge.0 c.next_hop.result) c.self.view_is
           (λ settled. by_links t es is.inputs c.args.node.0 c.args.edge.0 c.laws.ensures is.stands.stands.lawful settled
-          (subst (λ (n : NetNow). c.args.node.0 < length n.topology.loopbacks) (sym c.self.view_is) c.requires.node)
-          (subst (λ (n : NetNow). c.args.edge.0 < length n.topology.loopbacks) (sym c.self.view_is) c.requires.edge)
+          (node_there _ _ c.self.view_is c.args.node.0 c.requires.node) (node_there _ _ c.self.view_is c.args.edge.0 c.requires.edge)
           apart c.next_hop.result told);
     }

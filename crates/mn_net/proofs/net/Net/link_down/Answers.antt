@@ -1,40 +1,22 @@
 use Rattle.std.proofs.Common.{[], ◌+◌, refl, arith}
 use Rattle.mn_topo.specs.declared.steps.Step.TheVariants as step
 use Rattle.mn_net_laws.proofs.Moves.{net_may, net_done, as_it_is}
-use Rattle.mn_net_laws.proofs.Turns.{link_may, notice_numbers, message_numbers, down_done}
-use Rattle.mn_net.proofs.Few.{made_fits, changes_fit, later_fits}
-use Rattle.mn_net.proofs.Clocks.{clock_early}
+use Rattle.mn_net_laws.proofs.Turns.{link_may, down_done}
+use Rattle.mn_net.proofs.Few.{later_fits}
+use Rattle.mn_net.proofs.Views.{finds}
 use Rattle.mn_net.proofs.net.Net.link_down.Goals as goal
 
-pub link_down-requires-clause-tick : goal.link_down-requires-clause-tick
-link_down-requires-clause-tick c =
-    let may = net_may _ _ (step.LinkDown c.args.link) [] c.self.view_is c.requires.may in
-    clock_early _ (step.LinkDown c.args.link) [] (c.self.invariant may.works) may
-
-pub link_down-requires-clause-notices : goal.link_down-requires-clause-notices
-link_down-requires-clause-notices c =
-    let may = net_may _ _ (step.LinkDown c.args.link) [] c.self.view_is c.requires.may in
-    notice_numbers _ (c.self.invariant may.works)
-
-pub link_down-requires-clause-messages : goal.link_down-requires-clause-messages
-link_down-requires-clause-messages c =
-    let may = net_may _ _ (step.LinkDown c.args.link) [] c.self.view_is c.requires.may in
-    message_numbers _ (c.self.invariant may.works)
-
-pub link_down-requires-clause-numbers : goal.link_down-requires-clause-numbers
-link_down-requires-clause-numbers c =
-    let may = net_may _ _ (step.LinkDown c.args.link) [] c.self.view_is c.requires.may in
-    made_fits _ c.laws.ensures (c.self.invariant may.works)
-
-pub link_down-requires-clause-changes : goal.link_down-requires-clause-changes
-link_down-requires-clause-changes c =
-    let may = net_may _ _ (step.LinkDown c.args.link) [] c.self.view_is c.requires.may in
-    changes_fit _ c.laws.ensures (c.self.invariant may.works) c.args.link.0
-
-pub link_down-requires-clause-may : goal.link_down-requires-clause-may
-link_down-requires-clause-may c =
-    let may = net_may _ _ (step.LinkDown c.args.link) [] c.self.view_is c.requires.may in
-    link_may _ (step.LinkDown c.args.link) c.laws.ensures (c.self.invariant may.works) may refl
+pub link_down-requires : goal.link_down-requires
+link_down-requires c =
+    let its = finds _ _ (step.LinkDown c.args.link) [] c.self.view_is c.laws.ensures c.self.invariant c.requires.may in
+    record {
+      tick = its.tick;
+      numbers = its.numbers;
+      changes = its.changes c.args.link.0;
+      notices = its.notices;
+      messages = its.messages;
+      may = link_may _ (step.LinkDown c.args.link) c.laws.ensures its.is its.may refl;
+    }
 
 pub overflow_add-self : goal.overflow_add-self
 overflow_add-self c =

@@ -17,6 +17,7 @@ use Rattle.mn_routing_laws.specs.Sources.{as_held}
 use Rattle.mn_net_laws.specs.Now.{NetNow, IsNet}
 use Rattle.mn_net_laws.proofs.Told.{net_is}
 use Rattle.mn_net.proofs.Settled.{from_scratch}
+use Rattle.mn_net.proofs.Views.{vrf_there, routes_there}
 use Rattle.mn_net.proofs.net.Net.lookup.Goals as goal
 
 -- where the topology doesn't resolve next hops, all routes take part
@@ -43,19 +44,17 @@ module _ (inside now : NetNow) (same : inside ≡ now) (v address : ℕ) (lawful
       (from_scratch inside.topology inside.journal is.inputs v address lawful is.stands.stands.lawful settled below))
 
 pub lookup-requires-clause-vrf : goal.lookup-requires-clause-vrf
-lookup-requires-clause-vrf c = subst (λ (n : NetNow). c.args.vrf.0 < length n.topology.vrfs) (sym c.self.view_is) c.requires.vrf
+lookup-requires-clause-vrf c = vrf_there _ _ c.self.view_is c.args.vrf.0 c.requires.vrf
 
 pub lookup-requires-clause-stands : goal.lookup-requires-clause-stands
-lookup-requires-clause-stands c =
-    let is = net_is _ _ c.self.view_is c.self.invariant c.requires.works in
-    (c.self.inside.journal.items, is.stands.routes)
+lookup-requires-clause-stands c = routes_there _ _ c.self.view_is c.self.invariant c.requires.works
 
 pub returns-then-not-resolve : goal.returns-then-not-resolve
 returns-then-not-resolve c =
     let is = net_is _ _ c.self.view_is c.self.invariant c.requires.works in
     let t = c.self.inside.topology in
     let es = c.self.inside.journal.items in
-    let below = subst (λ (n : NetNow). c.args.vrf.0 < length n.topology.vrfs) (sym c.self.view_is) c.requires.vrf in
+    let below = vrf_there _ _ c.self.view_is c.args.vrf.0 c.requires.vrf in
     let found = c.lookup.ensures.best es is.inputs is.stands.stands.lawful is.stands.routes
     ∙ ap (λ rs. option_map (as_held (labels_of t es)) (best rs c.args.address))
     (all_take_part t (world_of t es) (edge_of t c.args.vrf.0) c.args.vrf.0 c.args.address (sym c.resolve.ensures ∙ c.if-not-resolve.true)) in
@@ -65,17 +64,15 @@ returns-then-not-resolve c =
     }
 
 pub lookup_among-requires-clause-vrf : goal.lookup_among-requires-clause-vrf
-lookup_among-requires-clause-vrf c = subst (λ (n : NetNow). c.args.vrf.0 < length n.topology.vrfs) (sym c.self.view_is) c.requires.vrf
+lookup_among-requires-clause-vrf c = vrf_there _ _ c.self.view_is c.args.vrf.0 c.requires.vrf
 
 pub lookup_among-requires-clause-stands : goal.lookup_among-requires-clause-stands
-lookup_among-requires-clause-stands c =
-    let is = net_is _ _ c.self.view_is c.self.invariant c.requires.works in
-    (c.self.inside.journal.items, is.stands.routes)
+lookup_among-requires-clause-stands c = routes_there _ _ c.self.view_is c.self.invariant c.requires.works
 
 pub returns : goal.returns
 returns c =
     let is = net_is _ _ c.self.view_is c.self.invariant c.requires.works in
-    let below = subst (λ (n : NetNow). c.args.vrf.0 < length n.topology.vrfs) (sym c.self.view_is) c.requires.vrf in
+    let below = vrf_there _ _ c.self.view_is c.args.vrf.0 c.requires.vrf in
     let are =
     subst (λ (n : NetNow). AreWays n.topology (world_of n.topology n.journal) (edge_of n.topology c.args.vrf.0) c.ways_of-ways.result) (sym c.self.view_is)
     c.ways_of-ways.ensures in

@@ -1,4 +1,4 @@
-use Rattle.std.proofs.Common.{◌≡◌, ◌<◌, ◌∙◌, ap, sym, subst, filter, length, None}
+use Rattle.std.proofs.Common.{◌≡◌, ◌∙◌, ap, subst, filter, None}
 use Rattle.std.specs.Prelude.{option_map, slice_index_or}
 use Rattle.mn_ledger.specs.Ledger.{world_of}
 use Rattle.mn_ledger.specs.Places.{edge_of}
@@ -10,19 +10,18 @@ use Rattle.mn_pe.specs.Entries.{source_of}
 use Rattle.mn_net_laws.specs.Now.{NetNow}
 use Rattle.mn_net_laws.proofs.Told.{net_is}
 use Rattle.mn_ledger.specs.Heads.{best_for}
-use Rattle.mn_net.proofs.Held.{edges_length, some_edge}
+use Rattle.mn_net.proofs.Held.{edge_below, no_edge}
 use Rattle.mn_net.proofs.Open.{open_told}
+use Rattle.mn_net.proofs.Views.{vrf_there}
 use Rattle.mn_net.proofs.net.Net.resolved_at.Goals as goal
 
 pub edge-requires : goal.edge-requires
-edge-requires c =
-    let is = net_is _ _ c.self.view_is c.self.invariant c.requires.works in
-    subst (λ n. c.edge_of-node.result.0 < n) (sym (edges_length _ is)) c.edge_of-node.ensures.there
+edge-requires c = edge_below _ _ c.self.view_is c.self.invariant c.requires.works _ c.edge_of-node.ensures.there
 
 pub returns-in-Some : goal.returns-in-Some
 returns-in-Some c =
     let is = net_is _ _ c.self.view_is c.self.invariant c.requires.works in
-    let v = subst (λ (n : NetNow). c.args.vrf.0 < length n.topology.vrfs) (sym c.self.view_is) c.requires.vrf in
+    let v = vrf_there _ _ c.self.view_is c.args.vrf.0 c.requires.vrf in
     subst (λ (n : NetNow). AreWays n.topology (world_of n.topology n.journal) (edge_of n.topology c.args.vrf.0) c.args.ways.now
     → c.open_at.result ≡ option_map (λ (route : HeldRoute). source_of (given n.topology n.journal) route route.source)
     (best_for (filter (is_resolved n.topology (world_of n.topology n.journal) (edge_of n.topology c.args.vrf.0))
@@ -33,7 +32,4 @@ returns-in-Some c =
 
 pub returns-in-None : goal.returns-in-None
 returns-in-None c =
-    let is = net_is _ _ c.self.view_is c.self.invariant c.requires.works in
-    let v = subst (λ (n : NetNow). c.args.vrf.0 < length n.topology.vrfs) (sym c.self.view_is) c.requires.vrf in
-    absurd (some_edge _ c.laws.ensures is c.args.vrf.0 v
-    (c.in-None.ensures ∙ ap (λ n. slice_index_or c.self.inside.routes.edges n None) c.edge_of-node.ensures.edge))
+    absurd (no_edge _ _ c.self.view_is c.self.invariant c.requires.works c.laws.ensures c.args.vrf.0 c.requires.vrf _ c.edge_of-node.ensures.edge c.in-None.ensures)

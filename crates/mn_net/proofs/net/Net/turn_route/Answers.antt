@@ -1,31 +1,16 @@
 use Rattle.std.proofs.Common.{[], ◌+◌, ◌∙◌, refl, arith}
 use Rattle.mn_net_laws.proofs.Moves.{net_may, net_done, as_it_is}
-use Rattle.mn_net_laws.proofs.Turns.{route_may, route_numbers, told_done, may_count}
+use Rattle.mn_net_laws.proofs.Turns.{route_may, told_done, may_count}
 use Rattle.mn_net.specs.Turns.{route_step}
-use Rattle.mn_net.proofs.Few.{made_fits, later_fits}
-use Rattle.mn_net.proofs.Clocks.{clock_early}
-use Rattle.mn_net.proofs.OfTurns.{of_routes, of_routes_alone, as_said, counted_as, counts_as}
+use Rattle.mn_net.proofs.Few.{later_fits}
+use Rattle.mn_net.proofs.Views.{finds}
+use Rattle.mn_net.proofs.OfTurns.{of_routes, as_said, counted_as, counts_as}
 use Rattle.mn_net.proofs.net.Net.turn_route.Goals as goal
 
-pub act-requires-clause-tick : goal.act-requires-clause-tick
-act-requires-clause-tick c =
-    let may = net_may _ _ (route_step c.args.turn) [] c.self.view_is c.requires.may in
-    clock_early _ (route_step c.args.turn) [] (c.self.invariant may.works) may
-
-pub act-requires-clause-numbers : goal.act-requires-clause-numbers
-act-requires-clause-numbers c =
-    let may = net_may _ _ (route_step c.args.turn) [] c.self.view_is c.requires.may in
-    made_fits _ c.laws.ensures (c.self.invariant may.works)
-
-pub act-requires-clause-messages : goal.act-requires-clause-messages
-act-requires-clause-messages c =
-    let may = net_may _ _ (route_step c.args.turn) [] c.self.view_is c.requires.may in
-    route_numbers _ (c.self.invariant may.works)
-
-pub act-requires-clause-may : goal.act-requires-clause-may
-act-requires-clause-may c =
-    let may = net_may _ _ (route_step c.args.turn) [] c.self.view_is c.requires.may in
-    route_may _ (route_step c.args.turn) (c.self.invariant may.works) may
+pub act-requires : goal.act-requires
+act-requires c =
+    let its = finds _ _ (route_step c.args.turn) [] c.self.view_is c.laws.ensures c.self.invariant c.requires.may in
+    record { tick = its.tick; numbers = its.numbers; messages = its.routes; may = route_may _ (route_step c.args.turn) its.is its.may }
 
 pub count_static-requires : goal.count_static-requires
 count_static-requires c =
@@ -38,7 +23,7 @@ overflow_add-self c =
     let few = later_fits _ _ (route_step c.args.turn) [] c.laws.ensures
     (told_done _ (route_step c.args.turn) c.act.new.routes c.begin.new.self c.count_static.new.tally c.in_ok-more.more (c.self.inside.made + c.in_ok-more.more)
     c.a_transport_goes_on_as_it_was.ensures c.laws.ensures
-    (c.self.invariant may.works) may (of_routes c.args.turn) (of_routes_alone c.args.turn) c.in_ok-more.ensures.did c.begin.ensures.begun refl
+    (c.self.invariant may.works) may (of_routes c.args.turn).0 (of_routes c.args.turn).1 c.in_ok-more.ensures.did c.begin.ensures.begun refl
     (c.count_static.ensures ∙ counts_as _ c.step-step.ensures)) in
     omega (arith, few)
 
@@ -48,7 +33,7 @@ invariant_of-self-2 c = λ works.
     (as_it_is _ _ (route_step c.args.turn) [] c.reserve_entry.new.journal.items c.push_reserved.new.self.items _
     (told_done _ (route_step c.args.turn) c.act.new.routes c.begin.new.self c.count_static.new.tally c.in_ok-more.more (c.self.inside.made + c.in_ok-more.more)
     c.a_transport_goes_on_as_it_was.ensures c.laws.ensures
-    (c.self.invariant may.works) may (of_routes c.args.turn) (of_routes_alone c.args.turn) c.in_ok-more.ensures.did c.begin.ensures.begun refl
+    (c.self.invariant may.works) may (of_routes c.args.turn).0 (of_routes c.args.turn).1 c.in_ok-more.ensures.did c.begin.ensures.begun refl
     (c.count_static.ensures ∙ counts_as _ c.step-step.ensures)) may.works c.reserve_entry.ensures.items (c.push_reserved.ensures.items ∙ as_said _ _ _ c.step-step.ensures)).is
 
 pub returns-clause-done : goal.returns-clause-done
@@ -58,5 +43,5 @@ returns-clause-done c =
     (as_it_is _ _ (route_step c.args.turn) [] c.reserve_entry.new.journal.items c.push_reserved.new.self.items _
     (told_done _ (route_step c.args.turn) c.act.new.routes c.begin.new.self c.count_static.new.tally c.in_ok-more.more (c.self.inside.made + c.in_ok-more.more)
     c.a_transport_goes_on_as_it_was.ensures c.laws.ensures
-    (c.self.invariant may.works) may (of_routes c.args.turn) (of_routes_alone c.args.turn) c.in_ok-more.ensures.did c.begin.ensures.begun refl
+    (c.self.invariant may.works) may (of_routes c.args.turn).0 (of_routes c.args.turn).1 c.in_ok-more.ensures.did c.begin.ensures.begun refl
     (c.count_static.ensures ∙ counts_as _ c.step-step.ensures)) may.works c.reserve_entry.ensures.items (c.push_reserved.ensures.items ∙ as_said _ _ _ c.step-step.ensures))

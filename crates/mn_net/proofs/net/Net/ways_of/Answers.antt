@@ -4,12 +4,11 @@ use Rattle.mn_ledger.specs.Places.{edge_of}
 use Rattle.mn_frame_laws.specs.Entries.{AreWays}
 use Rattle.mn_net_laws.specs.Now.{NetNow}
 use Rattle.mn_net_laws.proofs.Told.{net_is}
+use Rattle.mn_net.proofs.Views.{transport_there}
 use Rattle.mn_net.proofs.net.Net.ways_of.Goals as goal
 
 pub ways-requires-clause-stands : goal.ways-requires-clause-stands
-ways-requires-clause-stands c =
-    let is = net_is _ _ c.self.view_is c.self.invariant c.requires.works in
-    (c.self.inside.journal.items, is.stands.transport)
+ways-requires-clause-stands c = transport_there _ _ c.self.view_is c.self.invariant c.requires.works
 
 pub returns : goal.returns
 returns c =
