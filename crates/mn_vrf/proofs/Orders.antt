@@ -9,13 +9,12 @@ use Rattle.mn_vrf.specs.declared.source.Source.TheVariants.{Own, Near, Far}
 use Rattle.mn_vrf.specs.Routes.{source_before, route_before}
 use Rattle.mn_vrf.specs.Vrf.{Static, static_before}
 
--- by which it is preferred: what it is, and then two numbers
-unfoldable pub kind : Source → ℕ
+kind : Source → ℕ
 kind (Own s) = 0
 kind (Near v s) = 1
 kind (Far a d e l) = 2
 
-unfoldable pub major : Source → ℕ
+major : Source → ℕ
 major (Own s) = 0
 major (Near v s) = v.0
 major (Far a d e l) = a
