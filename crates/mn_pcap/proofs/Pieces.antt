@@ -1,7 +1,7 @@
 -- What has been read stays read when more bytes come, and so does what is refused for good.
 use Rattle.std.proofs.Common.{◌≡◌, ◌==◌, ◌≤◌, ◌<◌, ◌+◌, ℕ, Bool, true, false, List, [], ◌∷◌, ◌++◌, length, Result, Ok, Err, refl, ap, sym, ◌∙◌}
 use Rattle.std.proofs.Common.{append_assoc, subst, arith, inl, inr, length-append}
-use Rattle.std.specs.Prelude.{nat_lt, not, ◌||◌}
+use Rattle.std.specs.Prelude.{nat_lt, not, ◌||◌, if◌then◌else◌}
 use Rattle.std.proofs.lemmas.List.{append-nil}
 use Rattle.std.proofs.lemmas.Bool.{cases_lt}
 use Rattle.std.proofs.lemmas.Bool.Decides.{nat_tests}
@@ -119,23 +119,32 @@ cut_in_header big bytes at short =
     let a : nat_lt (length bytes) (at + 16) ≡ true = grind (arith, nat_tests) in
     rw a refl
 
-pub cut_in_record : (big : Bool) (bytes : List ℕ) (at : ℕ) → at + 16 ≤ length bytes → captured_length big bytes at ≤ snaplen →
-    length bytes < at + 16 + captured_length big bytes at → record_at big bytes at ≡ Err (Refused CutShort at)
+-- a record whose header is whole and lawful is cut short, or it is read
+behind_header : (big : Bool) (bytes : List ℕ) (at : ℕ) → at + 16 ≤ length bytes → captured_length big bytes at ≤ snaplen →
+    record_at big bytes at
+    ≡ (if nat_lt (length bytes) (at + 16 + captured_length big bytes at) then Err (Refused CutShort at) else Ok (place_of big bytes at))
 unfolding record_at
-cut_in_record big bytes at long lawful short =
+behind_header big bytes at long lawful =
     let a : nat_lt (length bytes) (at + 16) ≡ false = grind (arith, nat_tests) in
     let b : nat_lt snaplen (captured_length big bytes at) ≡ false = grind (arith, nat_tests) in
+    rw (a, b) (by (nat_lt (length bytes) (at + 16 + captured_length big bytes at)))
+  where
+    by : (c : Bool) → unless (first_refusal ((c, Refused CutShort at) ∷ [])) (place_of big bytes at)
+        ≡ (if c then Err (Refused CutShort at) else Ok (place_of big bytes at))
+    by true = refl
+    by false = refl
+
+pub cut_in_record : (big : Bool) (bytes : List ℕ) (at : ℕ) → at + 16 ≤ length bytes → captured_length big bytes at ≤ snaplen →
+    length bytes < at + 16 + captured_length big bytes at → record_at big bytes at ≡ Err (Refused CutShort at)
+cut_in_record big bytes at long lawful short =
     let c : nat_lt (length bytes) (at + 16 + captured_length big bytes at) ≡ true = grind (arith, nat_tests) in
-    rw (a, b, c) refl
+    behind_header big bytes at long lawful ∙ rw c refl
 
 pub whole_record : (big : Bool) (bytes : List ℕ) (at : ℕ) → at + 16 ≤ length bytes → captured_length big bytes at ≤ snaplen →
     at + 16 + captured_length big bytes at ≤ length bytes → record_at big bytes at ≡ Ok (place_of big bytes at)
-unfolding record_at
 whole_record big bytes at long lawful whole =
-    let a : nat_lt (length bytes) (at + 16) ≡ false = grind (arith, nat_tests) in
-    let b : nat_lt snaplen (captured_length big bytes at) ≡ false = grind (arith, nat_tests) in
     let c : nat_lt (length bytes) (at + 16 + captured_length big bytes at) ≡ false = grind (arith, nat_tests) in
-    rw (a, b, c) refl
+    behind_header big bytes at long lawful ∙ rw c refl
 
 pub record_more : (big : Bool) (bytes more : List ℕ) (at : ℕ) (place : Place) → record_at big bytes at ≡ Ok place → record_at big (bytes ++ more) at ≡ Ok place
 record_more big bytes more at place is =

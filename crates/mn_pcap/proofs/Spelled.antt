@@ -1,19 +1,19 @@
 -- What is read, and what the format spells.
 use Rattle.std.proofs.Common.{◌≡◌, ◌==◌, ◌≤◌, ◌<◌, ◌+◌, ◌-◌, ℕ, zero, suc, Bool, true, false, List, [], ◌∷◌, ◌++◌, length, take, drop, map, Option, Some}
 use Rattle.std.proofs.Common.{None, Result, Ok, Err, refl, ap, sym, ◌∙◌, append_assoc, subst, arith, inl, inr, length-drop, length-append}
-use Rattle.std.specs.Prelude.{slice_range, nat_lt}
+use Rattle.std.specs.Prelude.{slice_range}
 use Rattle.std.proofs.Math.Seq.{take-add}
 use Rattle.std.proofs.lemmas.List.{drop-drop, length-take-le, drop_at, take_at}
 use Rattle.std.proofs.lemmas.Bool.{cases_lt}
 use Rattle.std.proofs.lemmas.Bool.Decides.{nat_tests}
 use Rattle.mn_pcap.specs.declared.message.Place.{Place}
 use Rattle.mn_pcap.specs.declared.refusal.PcapBad.{PcapBad}
-use Rattle.mn_pcap.specs.Format.{snaplen}
 use Rattle.mn_pcap.specs.Grammar.{number, IsRecord, AreRecords}
 use Rattle.mn_pcap.specs.Reading.{captured_length, record_at, place_of, end_of, records_from, bytes_at}
 use Rattle.mn_pcap.specs.Pieces.{Stand}
 use Rattle.mn_pcap.proofs.ByteNumbers.{number-front, number-field}
 use Rattle.mn_pcap.proofs.InOrder.{IsRead, is_read, next, ended, refused_there}
+use Rattle.mn_pcap.proofs.Pieces.{whole_record}
 
 -- Lists.
 
@@ -118,15 +118,6 @@ spelled big bytes at (place ∷ places) end within is =
 
 -- What is spelled so is read.
 
-record_ok : (big : Bool) (bytes : List ℕ) (at : ℕ) → at + 16 ≤ length bytes → captured_length big bytes at ≤ snaplen →
-    at + 16 + captured_length big bytes at ≤ length bytes → record_at big bytes at ≡ Ok (place_of big bytes at)
-unfolding record_at
-record_ok big bytes at header within whole =
-    let a : nat_lt (length bytes) (at + 16) ≡ false = grind (arith, nat_tests) in
-    let b : nat_lt snaplen (captured_length big bytes at) ≡ false = grind (arith, nat_tests) in
-    let c : nat_lt (length bytes) (at + 16 + captured_length big bytes at) ≡ false = grind (arith, nat_tests) in
-    rw (a, b, c) refl
-
 -- the first record is read
 pub record First (big : Bool) (bytes : List ℕ) (at : ℕ) (captured others : List ℕ) : Type 0 where
   pub is : record_at big bytes at ≡ Ok (place_of big bytes at)
@@ -154,7 +145,7 @@ first_is_read big bytes at first captured others low split r =
     let count : at + 16 + captured_length big bytes at - (at + 16) ≡ length captured = omega arith in
     let end : at + 16 + captured_length big bytes at ≡ (at + 16) + length captured = omega arith in
     record {
-      is = record_ok big bytes at (omega arith) (omega arith) (omega arith);
+      is = whole_record big bytes at (omega arith) (omega arith) (omega arith);
       bytes_are =
           ap (λ (n : ℕ). take n (drop (at + 16) bytes)) count ∙ ap (λ (xs : List ℕ). take (length captured) xs) tail
           ∙ take_at captured others (length captured) refl;
