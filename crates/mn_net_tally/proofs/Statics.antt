@@ -10,8 +10,7 @@ use Rattle.mn_base.proofs.Members.{In, AreApart}
 use Rattle.mn_prefix.specs.Prefix.{AddressBlock, same_prefix}
 use Rattle.mn_topo.specs.Network.{Network}
 use Rattle.mn_topo.specs.declared.steps.Step.{Step}
-use Rattle.mn_topo.specs.declared.steps.Step.TheVariants.{LinkUp, LinkDown, Learn, LdpAdmin, HearLdp, BgpUp, BgpDown, HearBgp, AddRoute, DelRoute, Import}
-use Rattle.mn_topo.specs.declared.steps.Step.TheVariants.{Export, Attach, Detach, Inject, Carry, Lose, Tick}
+use Rattle.mn_topo.specs.declared.steps.Step.TheVariants.{AddRoute, DelRoute}
 use Rattle.mn_ledger.specs.declared.refused.Refused.{Refused}
 use Rattle.mn_ledger.specs.declared.refused.Refused.TheVariants.{RoutesFull, NoRouteThere}
 use Rattle.mn_ledger.specs.Places.{vrf_of}
@@ -25,22 +24,7 @@ use Rattle.mn_net_tally.specs.Laws.{changes_statics}
 pub statics_stay : (c : Config) (s : Step) → changes_statics s ≡ false → (config_after c s).statics ≡ c.statics
 statics_stay c (AddRoute s p) h = absurd (no (sym h))
 statics_stay c (DelRoute s p) h = absurd (no (sym h))
-statics_stay c (LinkUp l) h = refl
-statics_stay c (LinkDown l) h = refl
-statics_stay c (LdpAdmin l on) h = refl
-statics_stay c (BgpUp a b) h = refl
-statics_stay c (BgpDown a b) h = refl
-statics_stay c (Import v on r) h = refl
-statics_stay c (Export v on r) h = refl
-statics_stay c (Attach s) h = refl
-statics_stay c (Detach s) h = refl
-statics_stay c (Learn n l) h = refl
-statics_stay c (HearLdp l d) h = refl
-statics_stay c (HearBgp a b) h = refl
-statics_stay c (Inject s n) h = refl
-statics_stay c (Carry l d n) h = refl
-statics_stay c (Lose l d n) h = refl
-statics_stay c (Tick ticks) h = refl
+statics_stay c _ h = refl
 
 -- one more, where there is room
 pub one_static_more : (c : Config) (s : SiteNo) (p : AddressBlock) → length (config_after c (AddRoute s p)).statics ≡ length c.statics + 1
