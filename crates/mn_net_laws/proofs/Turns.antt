@@ -57,21 +57,19 @@ use Rattle.mn_net_laws.proofs.Moves.{Goes, goes, may_step, is_free, no_more, sam
 not_it : {A : Type 0} → false ≡ true → A
 not_it h = absurd (no h)
 
+links_alone : (s : Step) → is_transport s ≡ true → (touches s ≡ true) × (routing.is_its s ≡ false)
+links_alone (LinkUp l) h = (refl, refl)
+links_alone (LinkDown l) h = (refl, refl)
+links_alone (Learn n l) h = (refl, refl)
+links_alone (LdpAdmin l on) h = (refl, refl)
+links_alone (HearLdp l d) h = (refl, refl)
+links_alone _ h = not_it h
+
 pub touched : (s : Step) → is_transport s ≡ true → touches s ≡ true
-touched (LinkUp l) h = refl
-touched (LinkDown l) h = refl
-touched (Learn n l) h = refl
-touched (LdpAdmin l on) h = refl
-touched (HearLdp l d) h = refl
-touched _ h = not_it h
+touched s h = (links_alone s h).0
 
 not_routing : (s : Step) → is_transport s ≡ true → routing.is_its s ≡ false
-not_routing (LinkUp l) h = refl
-not_routing (LinkDown l) h = refl
-not_routing (Learn n l) h = refl
-not_routing (LdpAdmin l on) h = refl
-not_routing (HearLdp l d) h = refl
-not_routing _ h = not_it h
+not_routing s h = (links_alone s h).1
 
 -- a step of links moves no packet, but for one that cuts a link off
 pub still_of_links : (s : Step) → is_transport s ≡ true → is_moving s ≡ false → moves s ≡ false
@@ -225,28 +223,17 @@ links_said old s carried moving made lawful is may of did =
 
 -- a step of routes says nothing over links
 none_noticed : (t : Network) (s : Step) → is_routing s ≡ true → notices_in t s ≡ []
-none_noticed t (BgpUp a b) h = refl
-none_noticed t (BgpDown a b) h = refl
-none_noticed t (HearBgp a b) h = refl
-none_noticed t (AddRoute a b) h = refl
-none_noticed t (DelRoute a b) h = refl
-none_noticed t (Import a c b) h = refl
-none_noticed t (Export a c b) h = refl
-none_noticed t (Attach a) h = refl
-none_noticed t (Detach a) h = refl
-none_noticed t _ h = not_it h
+none_noticed t (LinkUp l) h = not_it h
+none_noticed t (LinkDown l) h = not_it h
+none_noticed t _ h = refl
 
 none_said : (t : Network) (es : List JournalEntry) (s : Step) → is_routing s ≡ true → messages_now t es s ≡ []
-none_said t es (BgpUp a b) h = refl
-none_said t es (BgpDown a b) h = refl
-none_said t es (HearBgp a b) h = refl
-none_said t es (AddRoute a b) h = refl
-none_said t es (DelRoute a b) h = refl
-none_said t es (Import a c b) h = refl
-none_said t es (Export a c b) h = refl
-none_said t es (Attach a) h = refl
-none_said t es (Detach a) h = refl
-none_said t es _ h = not_it h
+none_said t es (LinkUp l) h = not_it h
+none_said t es (LinkDown l) h = not_it h
+none_said t es (LdpAdmin l on) h = not_it h
+none_said t es (Learn n l) h = not_it h
+none_said t es (HearLdp l d) h = not_it h
+none_said t es _ h = refl
 
 notices_stay : (n : ℕ) (s : Step) (keys : List Key) → is_routing s ≡ true → keys ≡ notices_leave n s keys
 notices_stay n (BgpUp a b) keys h = refl
@@ -334,14 +321,9 @@ pub link_done : (old : NetNow) (s : Step) (carried : Carried) (moving : Moving) 
     moving ≡ record old.moving { delivered = None } → made_now ≡ old.made + made →
     Goes old (record old { journal = pushed old.journal old.tick s; made = made_now; transport = carried; moving = moving }) s []
 link_done old s carried moving made made_now stay lawful is may of quiet did begun made_is =
-    subst (λ m. Goes old (record old { journal = pushed old.journal old.tick s; made = m; transport = carried; moving = moving }) s []) (sym made_is)
-    (goes old (record old {
-      journal = pushed old.journal old.tick s;
-      made = old.made + made;
-      transport = carried;
-      moving =
-          moving;
-    }) s [] 0 0 0 is may refl refl (same_tick s old.tick (no_time_of_links s of)) (omega arith) (counts_begun _ _ begun) (omega arith) (omega arith)
+    let new : NetNow = record old { journal = pushed old.journal old.tick s; made = old.made + made; transport = carried; moving = moving } in
+    subst (λ m. Goes old (record new { made = m }) s []) (sym made_is)
+    (goes old new s [] 0 0 0 is may refl refl (same_tick s old.tick (no_time_of_links s of)) (omega arith) (counts_begun _ _ begun) (omega arith) (omega arith)
     (no_more _ is.bytes) (λ ps h. record {
       works = h.works;
       transport = did.goes old.journal h.transport (link_turn old s lawful is may (touched s of));
@@ -370,16 +352,7 @@ pub route_done : (old : NetNow) (s : Step) (carried : Carried) (routed : Routed)
           tally;
     }) s []
 route_done old s carried routed moving tally made made_now lawful is may of on same_notices same_messages did begun made_is tallied =
-    subst (λ m. Goes old (record old {
-      journal = pushed old.journal old.tick s;
-      made = m;
-      transport = carried;
-      routes = routed;
-      moving = moving;
-      tally =
-          tally;
-    }) s []) (sym made_is)
-    (goes old (record old {
+    let new : NetNow = record old {
       journal = pushed old.journal old.tick s;
       made = old.made + made;
       transport = carried;
@@ -387,7 +360,9 @@ route_done old s carried routed moving tally made made_now lawful is may of on s
       moving = moving;
       tally =
           tally;
-    }) s [] 0 0 0 is may refl refl (same_tick s old.tick (no_time_of_routes s of)) (omega arith) (counts_begun _ _ begun) (omega arith) (omega arith)
+    } in
+    subst (λ m. Goes old (record new { made = m }) s []) (sym made_is)
+    (goes old new s [] 0 0 0 is may refl refl (same_tick s old.tick (no_time_of_routes s of)) (omega arith) (counts_begun _ _ begun) (omega arith) (omega arith)
     (no_more _ is.bytes) (λ ps h. record {
       works = h.works;
       transport = on;
@@ -397,28 +372,32 @@ route_done old s carried routed moving tally made made_now lawful is may of on s
           (routes_said old s carried routed moving made of same_notices same_messages did) begun;
     }))
 
+-- what a step of a static route counts
+static_told : (old : NetNow) (s : Step) → IsLawful old.topology → (is : IsNet old) → MayBeDone old s [] → changes_statics s ≡ true →
+    (ps : List (List ℕ)) → StandsFor old ps →
+    HasStatic s old.tally × Tallies old.topology (pushed old.journal old.tick s) (with_packet s [] ps) (after_static s old.tally)
+static_told old (AddRoute site prefix) lawful is may of ps h =
+    (counts_statics old.topology old.journal old.tick site prefix [] ps old.tally lawful h.stands.each h.tally).0
+    (may_step old (AddRoute site prefix) [] lawful is may ps h) h.stands.lawful
+static_told old (DelRoute site prefix) lawful is may of ps h =
+    (counts_statics old.topology old.journal old.tick site prefix [] ps old.tally lawful h.stands.each h.tally).1
+    (may_step old (DelRoute site prefix) [] lawful is may ps h) h.stands.lawful
+static_told old _ lawful is may of ps h = not_it of
+
 -- what the step counts
 tally_told : (old : NetNow) (s : Step) → IsLawful old.topology → (is : IsNet old) → MayBeDone old s [] → is_routing s ≡ true →
     (ps : List (List ℕ)) → StandsFor old ps →
     Tallies old.topology (pushed old.journal old.tick s) (with_packet s [] ps) (after_static s old.tally)
-tally_told old (AddRoute site prefix) lawful is may of ps h =
-    ((counts_statics old.topology old.journal old.tick site prefix [] ps old.tally lawful h.stands.each h.tally).0
-    (may_step old (AddRoute site prefix) [] lawful is may ps h) h.stands.lawful).1
-tally_told old (DelRoute site prefix) lawful is may of ps h =
-    ((counts_statics old.topology old.journal old.tick site prefix [] ps old.tally lawful h.stands.each h.tally).1
-    (may_step old (DelRoute site prefix) [] lawful is may ps h) h.stands.lawful).1
+tally_told old (AddRoute site prefix) lawful is may of ps h = (static_told old (AddRoute site prefix) lawful is may refl ps h).1
+tally_told old (DelRoute site prefix) lawful is may of ps h = (static_told old (DelRoute site prefix) lawful is may refl ps h).1
 tally_told old (Inject a b) lawful is may of ps h = not_it of
 tally_told old (Carry a b c) lawful is may of ps h = not_it of
 tally_told old s lawful is may of ps h =
     counts_as_it_did old.topology old.journal old.tick s [] ps old.tally lawful h.stands.lawful h.stands.each refl refl h.tally
 
 pub may_count : (net : NetNow) (s : Step) → IsLawful net.topology → (is : IsNet net) → MayBeDone net s [] → HasStatic s net.tally
-may_count net (AddRoute site prefix) lawful is may =
-    ((counts_statics net.topology net.journal net.tick site prefix [] is.inputs net.tally lawful is.stands.stands.each is.stands.tally).0
-    (may_step net (AddRoute site prefix) [] lawful is may is.inputs is.stands) is.stands.stands.lawful).0
-may_count net (DelRoute site prefix) lawful is may =
-    ((counts_statics net.topology net.journal net.tick site prefix [] is.inputs net.tally lawful is.stands.stands.each is.stands.tally).1
-    (may_step net (DelRoute site prefix) [] lawful is may is.inputs is.stands) is.stands.stands.lawful).0
+may_count net (AddRoute site prefix) lawful is may = (static_told net (AddRoute site prefix) lawful is may refl is.inputs is.stands).0
+may_count net (DelRoute site prefix) lawful is may = (static_told net (DelRoute site prefix) lawful is may refl is.inputs is.stands).0
 may_count net _ lawful is may = tt
 
 -- one that leaves the transport
@@ -445,14 +424,9 @@ pub down_done : (old : NetNow) (l : LinkNo) (carried : Carried) (moving : Moving
     Goes old (record old { journal = pushed old.journal old.tick (LinkDown l); made = made_now; transport = carried; moving = moving }) (LinkDown l) []
 down_done old l carried moving made made_now stay lawful is may did moved_as left counts made_is =
     let s : Step = LinkDown l in
-    subst (λ m. Goes old (record old { journal = pushed old.journal old.tick s; made = m; transport = carried; moving = moving }) s []) (sym made_is)
-    (goes old (record old {
-      journal = pushed old.journal old.tick s;
-      made = old.made + made;
-      transport = carried;
-      moving =
-          moving;
-    }) s [] 0 0 0 is may refl refl (same_tick s old.tick refl) (omega arith) counts (omega arith) (omega arith)
+    let new : NetNow = record old { journal = pushed old.journal old.tick s; made = old.made + made; transport = carried; moving = moving } in
+    subst (λ m. Goes old (record new { made = m }) s []) (sym made_is)
+    (goes old new s [] 0 0 0 is may refl refl (same_tick s old.tick refl) (omega arith) counts (omega arith) (omega arith)
     (no_more _ is.bytes) (λ ps h. let step = may_step old s [] lawful is may ps h in record {
       works = h.works;
       transport = did.goes old.journal h.transport (link_turn old s lawful is may refl);
