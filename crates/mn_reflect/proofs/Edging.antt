@@ -1,91 +1,33 @@
 -- One edge changes, and tells its peers.
-use Rattle.std.proofs.Common.{ℕ, ◌≡◌, ◌<◌, ◌+◌, Bool, true, false, List, [], ◌∷◌, length, sym, ap, ◌∙◌, subst, Option, Some, None}
+use Rattle.std.proofs.Common.{[], ℕ, ◌≡◌, ◌<◌, ◌+◌, Bool, true, false, List, ◌∷◌, length, sym, ap, ◌∙◌, subst, Option, Some, None}
 use Rattle.std.specs.Prelude.{slice_index_or, slice_set}
-use Rattle.std.specs.BTreeMap.{BTreeMap}
 use Rattle.std.proofs.lemmas.Option.{same_Some}
 use Rattle.mn_base.specs.declared.numbers.NodeNo.{NodeNo}
-use Rattle.mn_base.specs.declared.numbers.VrfNo.{VrfNo}
 use Rattle.mn_topo.specs.Network.{Network}
+use Rattle.mn_ledger.specs.Places.{edge_of, home_of}
 use Rattle.mn_pe.specs.Edge.{Edge}
 use Rattle.mn_pe.specs.Held.{Exported}
 use Rattle.mn_pe.specs.Pe.{PeNow}
-use Rattle.mn_mail.specs.Mail.{Mail}
 use Rattle.mn_routing_laws.specs.Routed.{working}
 use Rattle.mn_routing_laws.specs.Doing.{AreNews, AreSayable}
 use Rattle.mn_routing_laws.proofs.Placed.{index_of}
 use Rattle.mn_reflect_laws.specs.Now.{ReflectNow}
 use Rattle.mn_reflect_laws.specs.Letters.{edge_news}
 use Rattle.mn_reflect_laws.specs.Goes.{edge_of_node, steady_of, either_news}
-use Rattle.mn_reflect.specs.Shape.{IsShaped, IsWhole}
+use Rattle.mn_reflect.specs.Shape.{IsShaped}
 use Rattle.mn_reflect.specs.Doing.{IsEdgeAt, changed_edge, with_letters}
 use Rattle.mn_reflect.specs.Changing.{told_peers}
 use Rattle.mn_reflect_telling.proofs.Posting.{any_default}
 
--- 1. What is kept stays whole
+-- 1. The edge of a node, as the code looks at it
 
-module _ (vrfs : BTreeMap ℕ VrfNo) (now : ReflectNow) (h : IsWhole vrfs now) where
-  pub edges_whole : (edges : List (Option PeNow)) → length edges ≡ length now.edges → IsWhole vrfs (record now { edges = edges })
-  edges_whole edges many = record {
-    shape = record {
-      edges = many ∙ h.shape.edges;
-      sessions = h.shape.sessions;
-      ends = h.shape.ends;
-      heard = h.shape.heard;
-      peers = h.shape.peers;
-      attachments = h.shape.attachments;
-      nodes = h.shape.nodes;
-      reflectors = h.shape.reflectors;
-    };
-    finds = h.finds;
-  }
+-- the one of a site, and the one of a VRF
 
-  pub mail_whole : (mail : Mail) → mail.nodes ≡ now.mail.nodes → IsWhole vrfs (record now { mail = mail })
-  mail_whole mail many = record {
-    shape = record {
-      edges = h.shape.edges;
-      sessions = h.shape.sessions;
-      ends = h.shape.ends;
-      heard = h.shape.heard;
-      peers = h.shape.peers;
-      attachments = h.shape.attachments;
-      nodes = many ∙ h.shape.nodes;
-      reflectors = h.shape.reflectors;
-    };
-    finds = h.finds;
-  }
+pub home_so : {was now : ReflectNow} → was ≡ now → (site : ℕ) {k : ℕ} → k ≡ home_of was.topology site → k ≡ home_of now.topology site
+home_so same site at = at ∙ ap (λ (x : ReflectNow). home_of x.topology site) same
 
-  pub attachments_whole : (attachments : List ℕ) → length attachments ≡ length now.attachments → IsWhole vrfs (record now { attachments = attachments })
-  attachments_whole attachments many = record {
-    shape = record {
-      edges = h.shape.edges;
-      sessions = h.shape.sessions;
-      ends = h.shape.ends;
-      heard = h.shape.heard;
-      peers = h.shape.peers;
-      attachments = many ∙ h.shape.attachments;
-      nodes = h.shape.nodes;
-      reflectors = h.shape.reflectors;
-    };
-    finds = h.finds;
-  }
-
-  -- whatever the counts are
-  pub counts_whole : (statics done : ℕ) (failed : Bool) → IsWhole vrfs (record now { statics = statics; done = done; failed = failed })
-  counts_whole statics done failed = record {
-    shape = record {
-      edges = h.shape.edges;
-      sessions = h.shape.sessions;
-      ends = h.shape.ends;
-      heard = h.shape.heard;
-      peers = h.shape.peers;
-      attachments = h.shape.attachments;
-      nodes = h.shape.nodes;
-      reflectors = h.shape.reflectors;
-    };
-    finds = h.finds;
-  }
-
--- 2. The edge of a node, as the code looks at it
+pub edge_so : {was now : ReflectNow} → was ≡ now → (v : ℕ) {k : ℕ} → k ≡ edge_of was.topology v → k ≡ edge_of now.topology v
+edge_so same v at = at ∙ ap (λ (x : ReflectNow). edge_of x.topology v) same
 
 module _ (was now : ReflectNow) (same : was ≡ now) (k node : ℕ) (at : k ≡ node) (there : IsEdgeAt now node) (cell : Option PeNow)
     (got : cell ≡ slice_index_or was.edges k cell) where
@@ -128,7 +70,7 @@ counted_on now one e k count change is at so =
     ∙ ap (λ n. let x : ReflectNow = record (changed_edge e (change count) now) { attachments = slice_set now.attachments n (count + 1) } in x) at
     ∙ ap (λ n. let x : ReflectNow = record (changed_edge e (change n) now) { attachments = slice_set now.attachments e (n + 1) } in x) so
 
--- 3. What it tells
+-- 2. What it tells
 
 news_are : (t : Network) (node : ℕ) (peers : List NodeNo) (comes : Bool) (exports come went : List Exported) → AreNews comes exports come went →
     edge_news t node peers comes exports ≡ either_news t node peers come went

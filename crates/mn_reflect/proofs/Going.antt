@@ -1,5 +1,5 @@
 -- What the code of a step makes is what the step makes of what is kept.
-use Rattle.std.proofs.Common.{ℕ, zero, suc, ◌≡◌, ◌+◌, ◌<◌, ◌≢◌, ◌⊎◌, inl, inr, Bool, true, false, List, [], ◌∷◌, ◌++◌, length, refl, sym, ap, ◌∙◌, Option, Some, None}
+use Rattle.std.proofs.Common.{[], ℕ, zero, suc, ◌≡◌, ◌+◌, ◌<◌, ◌≢◌, ◌⊎◌, inl, inr, Bool, true, false, List, ◌∷◌, ◌++◌, length, refl, sym, ap, ◌∙◌, Option, Some, None}
 use Rattle.std.proofs.Common.{append_assoc, append-nil}
 use Rattle.std.specs.Prelude.{not, filter, slice_get, slice_set, slice_index_or, option_map, if◌then◌else◌}
 use Rattle.std.proofs.lemmas.List.{get_or-set_same, get_or-set_other}
@@ -8,6 +8,7 @@ use Rattle.mn_base.specs.declared.numbers.Rt.{Rt}
 use Rattle.mn_base.specs.declared.numbers.VrfNo.{VrfNo}
 use Rattle.mn_base.specs.declared.numbers.SiteNo.{SiteNo}
 use Rattle.mn_prefix.specs.Prefix.{AddressBlock}
+use Rattle.mn_topo.specs.declared.steps.Step.{Step}
 use Rattle.mn_topo.specs.declared.steps.Step.TheVariants as step
 use Rattle.mn_bgp_spelling_laws.specs.Spelling.{Labels}
 use Rattle.mn_ledger.specs.Places.{vrf_of, edge_of, home_of}
@@ -29,6 +30,7 @@ use Rattle.mn_reflect_laws.specs.Choice.{Row, row_at, names_in}
 use Rattle.mn_reflect_laws.specs.Kept.{route_in}
 use Rattle.mn_reflect_laws.specs.Letters.{open_letter, reflector_news, edge_news}
 use Rattle.mn_reflect_laws.specs.Goes.{Goes, set_at, on_edge, edge_of_node, decide_all, steady_of, either_news}
+use Rattle.mn_reflect_laws.specs.Goes.{sessions_after, heard_after, attachments_after, statics_after, edges_after, letters_after}
 use Rattle.mn_reflect_telling.specs.Telling.{posted}
 use Rattle.mn_reflect.specs.Doing.{IsEdgeAt, changed_edge, kept, forgotten, cut_between, with_end, taken, begun, ended, word_heard}
 use Rattle.mn_reflect.specs.Changing.{imports_changed, exports_changed, import_set, export_set, static_over, with_route, without_route, route_added}
@@ -97,57 +99,58 @@ edges_turned now node change placed = elim placed [
 unchanged : (now : ReflectNow) (node : ℕ) → IsPlaced now node → now.edges ≡ on_edge node (λ edge. edge) now.edges
 unchanged now node placed = elim placed [ inl r ↦ sym (no_edge node (λ edge. edge) now.edges r.1) | inr e ↦ sym (same_edge now node e.1) ]
 
--- 3. A session begins
+-- 3. What a step makes of what is kept, its edges and letters apart
+
+module _ (rs : List ℕ) (labels : Labels) (word : Option Word) (now : ReflectNow) (done : Step) where
+  -- with these edges and this mail
+  abbrev stepped : List (Option PeNow) → Mail → ReflectNow
+  stepped edges mail = record now {
+    sessions = sessions_after now.topology word now.sessions done;
+    heard = heard_after labels word now.heard done;
+    attachments = attachments_after now.topology now.attachments done;
+    statics = statics_after now.statics done;
+    edges = edges;
+    mail = mail;
+    done = now.done + 1;
+    failed = false;
+  }
+
+  goes_as : (edges : List (Option PeNow)) (mail : Mail) →
+      edges ≡ edges_after now.topology now.reflectors word now (heard_after labels word now.heard done) done → mail.nodes ≡ now.mail.nodes →
+      mail.letters ≡ letters_after now.topology now.reflectors word now (stepped edges mail) done →
+      Goes now.topology rs labels word now (stepped edges mail) done
+  goes_as edges mail edges_are nodes_are letters_are = record {
+    works = refl;
+    topology_is = refl;
+    reflectors_are = refl;
+    sessions = refl;
+    heard = refl;
+    attachments = refl;
+    statics = refl;
+    edges = edges_are;
+    nodes = nodes_are;
+    letters = letters_are;
+    count = refl;
+  }
+
+-- 4. A session begins
 
 module _ (rs : List ℕ) (labels : Labels) (word : Option Word) (now : ReflectNow) where
   pub begins : (a b : NodeNo) → Goes now.topology rs labels word now (finished (begun a.0 b.0 now)) (step.BgpUp a b)
-  begins a b = record {
-    works = refl;
-    topology_is = refl;
-    reflectors_are = refl;
-    sessions = refl;
-    heard = refl;
-    attachments = refl;
-    statics = refl;
-    edges = refl;
-    nodes = refl;
-    letters = append_assoc (filter (λ letter. not (mail.is_between a.0 b.0 letter)) now.mail.letters) (open_letter now.topology a.0 b.0 ∷ [])
-        (open_letter now.topology b.0 a.0 ∷ []);
-    count = refl;
-  }
+  begins a b = goes_as rs labels word now (step.BgpUp a b) _ _
+      refl refl (append_assoc (filter (λ letter. not (mail.is_between a.0 b.0 letter)) now.mail.letters) (open_letter now.topology a.0 b.0 ∷ [])
+      (open_letter now.topology b.0 a.0 ∷ []))
 
--- 4. A message is heard
+-- 5. A message is heard
 
 module _ (rs : List ℕ) (labels : Labels) (now : ReflectNow) (a b : NodeNo) (placed : IsPlaced now b.0) where
   hears_open : Goes now.topology rs labels (Some Open) now (finished (word_heard labels a.0 b.0 Open now)) (step.HearBgp a b)
-  hears_open = record {
-    works = refl;
-    topology_is = refl;
-    reflectors_are = refl;
-    sessions = refl;
-    heard = refl;
-    attachments = refl;
-    statics = refl;
-    edges = unchanged now b.0 placed;
-    nodes = refl;
-    letters = refl;
-    count = refl;
-  }
+  hears_open = goes_as rs labels (Some Open) now (step.HearBgp a b) _ _
+      (unchanged now b.0 placed) refl refl
 
   hears_keep : Goes now.topology rs labels (Some KeepAlive) now (finished (word_heard labels a.0 b.0 KeepAlive now)) (step.HearBgp a b)
-  hears_keep = record {
-    works = refl;
-    topology_is = refl;
-    reflectors_are = refl;
-    sessions = refl;
-    heard = refl;
-    attachments = refl;
-    statics = refl;
-    edges = unchanged now b.0 placed;
-    nodes = refl;
-    letters = refl;
-    count = refl;
-  }
+  hears_keep = goes_as rs labels (Some KeepAlive) now (step.HearBgp a b) _ _
+      (unchanged now b.0 placed) refl refl
 
   -- what is kept before anything is said, and what is said then
   abbrev left : ReflectNow
@@ -155,37 +158,17 @@ module _ (rs : List ℕ) (labels : Labels) (now : ReflectNow) (a b : NodeNo) (pl
 
   hears_announced : (offer : Offer) →
       Goes now.topology rs labels (Some (Announce offer)) now (finished (word_heard labels a.0 b.0 (Announce offer) now)) (step.HearBgp a b)
-  hears_announced offer = record {
-    works = refl;
-    topology_is = refl;
-    reflectors_are = refl;
-    sessions = refl;
-    heard = refl;
-    attachments = refl;
-    statics = refl;
-    edges = edges_turned (kept b.0 a.0 (key_of offer) (Some (route_in labels offer)) left) b.0
-        (decide_all now.topology now.reflectors (row_at (kept b.0 a.0 (key_of offer) (Some (route_in labels offer)) left).heard b.0) b.0 (key_of offer ∷ [])) placed;
-    nodes = nodes_if (is_reflector now.reflectors b.0) _ left.mail;
-    letters = letters_if (is_reflector now.reflectors b.0) _ left.mail;
-    count = refl;
-  }
+  hears_announced offer = goes_as rs labels (Some (Announce offer)) now (step.HearBgp a b) _ _
+      (edges_turned (kept b.0 a.0 (key_of offer) (Some (route_in labels offer)) left) b.0
+      (decide_all now.topology now.reflectors (row_at (kept b.0 a.0 (key_of offer) (Some (route_in labels offer)) left).heard b.0) b.0 (key_of offer ∷ [])) placed)
+      (nodes_if (is_reflector now.reflectors b.0) _ left.mail) (letters_if (is_reflector now.reflectors b.0) _ left.mail)
 
   hears_withdrawn : (key : Key) →
       Goes now.topology rs labels (Some (Withdraw key)) now (finished (word_heard labels a.0 b.0 (Withdraw key) now)) (step.HearBgp a b)
-  hears_withdrawn key = record {
-    works = refl;
-    topology_is = refl;
-    reflectors_are = refl;
-    sessions = refl;
-    heard = refl;
-    attachments = refl;
-    statics = refl;
-    edges = edges_turned (kept b.0 a.0 key None left) b.0
-        (decide_all now.topology now.reflectors (row_at (kept b.0 a.0 key None left).heard b.0) b.0 (key ∷ [])) placed;
-    nodes = nodes_if (is_reflector now.reflectors b.0) _ left.mail;
-    letters = letters_if (is_reflector now.reflectors b.0) _ left.mail;
-    count = refl;
-  }
+  hears_withdrawn key = goes_as rs labels (Some (Withdraw key)) now (step.HearBgp a b) _ _
+      (edges_turned (kept b.0 a.0 key None left) b.0
+      (decide_all now.topology now.reflectors (row_at (kept b.0 a.0 key None left).heard b.0) b.0 (key ∷ [])) placed)
+      (nodes_if (is_reflector now.reflectors b.0) _ left.mail) (letters_if (is_reflector now.reflectors b.0) _ left.mail)
 
   pub hears : (word : Word) → Goes now.topology rs labels (Some word) now (finished (word_heard labels a.0 b.0 word now)) (step.HearBgp a b)
   hears Open = hears_open
@@ -193,7 +176,7 @@ module _ (rs : List ℕ) (labels : Labels) (now : ReflectNow) (a b : NodeNo) (pl
   hears (Announce offer) = hears_announced offer
   hears (Withdraw key) = hears_withdrawn key
 
--- 5. A session ends
+-- 6. A session ends
 
 abbrev row_of : List (List Heard) → Row
 row_of row peer = slice_index_or row peer []
@@ -274,21 +257,10 @@ module _ (rs : List ℕ) (labels : Labels) (word : Option Word) (now : ReflectNo
       ∙ ap (λ (row : Row). on_edge a.0 (decide_all now.topology now.reflectors row a.0 (names_in (row_at now.heard a.0 b.0))) now.edges) (sym row_a))
 
   pub ends : Goes now.topology rs labels word now (finished (ended a.0 b.0 now)) (step.BgpDown a b)
-  ends = record {
-    works = refl;
-    topology_is = refl;
-    reflectors_are = refl;
-    sessions = refl;
-    heard = refl;
-    attachments = refl;
-    statics = refl;
-    edges = edges_end;
-    nodes = nodes_if is_b _ one.mail ∙ nodes_if is_a _ cut_off.mail;
-    letters = letters_end;
-    count = refl;
-  }
+  ends = goes_as rs labels word now (step.BgpDown a b) _ _
+      (edges_end) (nodes_if is_b _ one.mail ∙ nodes_if is_a _ cut_off.mail) (letters_end)
 
--- 6. The steps of an edge
+-- 7. The steps of an edge
 
 module _ (rs : List ℕ) (labels : Labels) (word : Option Word) (now : ReflectNow) where
   -- what an edge was, and what it is once it is put
@@ -301,108 +273,48 @@ module _ (rs : List ℕ) (labels : Labels) (word : Option Word) (now : ReflectNo
 
   pub imports_go : (v : VrfNo) (target : Rt) (on : Bool) → IsEdgeAt now (edge_of now.topology v.0) →
       Goes now.topology rs labels word now (finished (import_set v target on now)) (step.Import v on target)
-  imports_go v target on there = record {
-    works = refl;
-    topology_is = refl;
-    reflectors_are = refl;
-    sessions = refl;
-    heard = refl;
-    attachments = refl;
-    statics = refl;
-    edges = put_as (edge_of now.topology v.0) (imports_changed v target on) (imports_changed v target on) there refl;
-    nodes = refl;
-    letters = refl;
-    count = refl;
-  }
+  imports_go v target on there = goes_as rs labels word now (step.Import v on target) _ _
+      (put_as (edge_of now.topology v.0) (imports_changed v target on) (imports_changed v target on) there refl)
+      refl refl
 
   pub exports_go : (v : VrfNo) (target : Rt) (on : Bool) → edge_of now.topology v.0 < length now.edges → IsEdgeAt now (edge_of now.topology v.0) →
       Goes now.topology rs labels word now (finished (export_set v target on now)) (step.Export v on target)
-  exports_go v target on below there = record {
-    works = refl;
-    topology_is = refl;
-    reflectors_are = refl;
-    sessions = refl;
-    heard = refl;
-    attachments = refl;
-    statics = refl;
-    edges = put_as (edge_of now.topology v.0) (exports_changed v target on) (exports_changed v target on) there refl;
-    nodes = refl;
-    letters = ap (λ edge. now.mail.letters ++ either_news now.topology (edge_of now.topology v.0) (steady_of now.sessions (edge_of now.topology v.0))
-        (exports_at edge v.0) (exports_at (edge_of_node now.edges (edge_of now.topology v.0)) v.0))
-        (sym (put_is (edge_of now.topology v.0) (exports_changed v target on (edge_of_node now.edges (edge_of now.topology v.0))) below));
-    count = refl;
-  }
+  exports_go v target on below there = goes_as rs labels word now (step.Export v on target) _ _
+      (put_as (edge_of now.topology v.0) (exports_changed v target on) (exports_changed v target on) there refl)
+      refl (ap (λ edge. now.mail.letters ++ either_news now.topology (edge_of now.topology v.0) (steady_of now.sessions (edge_of now.topology v.0))
+      (exports_at edge v.0) (exports_at (edge_of_node now.edges (edge_of now.topology v.0)) v.0))
+      (sym (put_is (edge_of now.topology v.0) (exports_changed v target on (edge_of_node now.edges (edge_of now.topology v.0))) below)))
 
   pub adds_go : (s : SiteNo) (prefix : AddressBlock) → home_of now.topology s.0 < length now.edges → IsEdgeAt now (home_of now.topology s.0) →
       vrf_of_site (edge_of_node now.edges (home_of now.topology s.0)) s.0 ≡ vrf_of now.topology s.0 →
       Goes now.topology rs labels word now (finished (route_added s prefix now)) (step.AddRoute s prefix)
-  adds_go s prefix below there same = record {
-    works = refl;
-    topology_is = refl;
-    reflectors_are = refl;
-    sessions = refl;
-    heard = refl;
-    attachments = refl;
-    statics = refl;
-    edges = put_as (home_of now.topology s.0) (with_route s prefix)
-        (λ edge. after_vrf edge (vrf_of now.topology s.0) (with_static (static_over s prefix))) there
-        (ap (λ v. after_vrf (edge_of_node now.edges (home_of now.topology s.0)) v (with_static (static_over s prefix))) same);
-    nodes = refl;
-    letters = ap (λ edge. now.mail.letters ++ edge_news now.topology (home_of now.topology s.0) (steady_of now.sessions (home_of now.topology s.0)) true
-        (those_of (export_of edge s.0 prefix)))
-        (sym (put_is (home_of now.topology s.0) (with_route s prefix (edge_of_node now.edges (home_of now.topology s.0))) below));
-    count = refl;
-  }
+  adds_go s prefix below there same = goes_as rs labels word now (step.AddRoute s prefix) _ _
+      (put_as (home_of now.topology s.0) (with_route s prefix)
+      (λ edge. after_vrf edge (vrf_of now.topology s.0) (with_static (static_over s prefix))) there
+      (ap (λ v. after_vrf (edge_of_node now.edges (home_of now.topology s.0)) v (with_static (static_over s prefix))) same))
+      refl (ap (λ edge. now.mail.letters ++ edge_news now.topology (home_of now.topology s.0) (steady_of now.sessions (home_of now.topology s.0)) true
+      (those_of (export_of edge s.0 prefix)))
+      (sym (put_is (home_of now.topology s.0) (with_route s prefix (edge_of_node now.edges (home_of now.topology s.0))) below)))
 
   pub dels_go : (s : SiteNo) (prefix : AddressBlock) → IsEdgeAt now (home_of now.topology s.0) →
       vrf_of_site (edge_of_node now.edges (home_of now.topology s.0)) s.0 ≡ vrf_of now.topology s.0 →
       Goes now.topology rs labels word now (finished (route_deleted s prefix now)) (step.DelRoute s prefix)
-  dels_go s prefix there same = record {
-    works = refl;
-    topology_is = refl;
-    reflectors_are = refl;
-    sessions = refl;
-    heard = refl;
-    attachments = refl;
-    statics = refl;
-    edges = put_as (home_of now.topology s.0) (without_route s prefix)
-        (λ edge. after_vrf edge (vrf_of now.topology s.0) (without_static (static_over s prefix))) there
-        (ap (λ v. after_vrf (edge_of_node now.edges (home_of now.topology s.0)) v (without_static (static_over s prefix))) same);
-    nodes = refl;
-    letters = refl;
-    count = refl;
-  }
+  dels_go s prefix there same = goes_as rs labels word now (step.DelRoute s prefix) _ _
+      (put_as (home_of now.topology s.0) (without_route s prefix)
+      (λ edge. after_vrf edge (vrf_of now.topology s.0) (without_static (static_over s prefix))) there
+      (ap (λ v. after_vrf (edge_of_node now.edges (home_of now.topology s.0)) v (without_static (static_over s prefix))) same))
+      refl refl
 
   pub attaches_go : (s : SiteNo) → home_of now.topology s.0 < length now.edges → IsEdgeAt now (home_of now.topology s.0) →
       Goes now.topology rs labels word now (finished (site_attached s now)) (step.Attach s)
-  attaches_go s below there = record {
-    works = refl;
-    topology_is = refl;
-    reflectors_are = refl;
-    sessions = refl;
-    heard = refl;
-    attachments = refl;
-    statics = refl;
-    edges = put_as (home_of now.topology s.0) (λ edge. after_attach edge s.0 (next_label now s)) (λ edge. after_attach edge s.0 (next_label now s)) there refl;
-    nodes = refl;
-    letters = ap (λ edge. now.mail.letters ++ edge_news now.topology (home_of now.topology s.0) (steady_of now.sessions (home_of now.topology s.0)) true
-        (exports_over edge s.0))
-        (sym (put_is (home_of now.topology s.0) (after_attach (edge_of_node now.edges (home_of now.topology s.0)) s.0 (next_label now s)) below));
-    count = refl;
-  }
+  attaches_go s below there = goes_as rs labels word now (step.Attach s) _ _
+      (put_as (home_of now.topology s.0) (λ edge. after_attach edge s.0 (next_label now s)) (λ edge. after_attach edge s.0 (next_label now s)) there refl)
+      refl (ap (λ edge. now.mail.letters ++ edge_news now.topology (home_of now.topology s.0) (steady_of now.sessions (home_of now.topology s.0)) true
+      (exports_over edge s.0))
+      (sym (put_is (home_of now.topology s.0) (after_attach (edge_of_node now.edges (home_of now.topology s.0)) s.0 (next_label now s)) below)))
 
   pub detaches_go : (s : SiteNo) → IsEdgeAt now (home_of now.topology s.0) →
       Goes now.topology rs labels word now (finished (site_detached s now)) (step.Detach s)
-  detaches_go s there = record {
-    works = refl;
-    topology_is = refl;
-    reflectors_are = refl;
-    sessions = refl;
-    heard = refl;
-    attachments = refl;
-    statics = refl;
-    edges = put_as (home_of now.topology s.0) (λ edge. after_detach edge s.0) (λ edge. after_detach edge s.0) there refl;
-    nodes = refl;
-    letters = refl;
-    count = refl;
-  }
+  detaches_go s there = goes_as rs labels word now (step.Detach s) _ _
+      (put_as (home_of now.topology s.0) (λ edge. after_detach edge s.0) (λ edge. after_detach edge s.0) there refl)
+      refl refl

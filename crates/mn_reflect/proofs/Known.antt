@@ -1,5 +1,5 @@
 -- The names of what a node heard are of the topology's VRFs.
-use Rattle.std.proofs.Common.{ℕ, ◌≡◌, ◌<◌, Bool, true, false, List, [], ◌∷◌, ◌++◌, length, map, sym, subst, ap, ◌∙◌}
+use Rattle.std.proofs.Common.{[], ℕ, ◌≡◌, ◌<◌, Bool, true, false, List, ◌∷◌, ◌++◌, length, map, sym, subst, ap, ◌∙◌}
 use Rattle.std.specs.Prelude.{slice_index_or, if◌then◌else◌}
 use Rattle.std.specs.List.{AllByRecursion, flat_map}
 use Rattle.mn_topo.specs.Network.{Network}
@@ -59,13 +59,13 @@ pub all_known : (t : Network) (rows : List (List Heard)) → AllByRecursion (λ 
 all_known t rows h = ordered_below (length t.vrfs) (flat_map names_in rows) (rows_known t rows h)
 
 -- all that is offered is said
-pub offers_by : (now : ReflectNow) (node peer : ℕ) (rs : List ℕ) (keys : List Key) (heard : List (List Heard)) (later : Mail) → rs ≡ now.reflectors →
-    keys ≡ all_names heard → heard ≡ slice_index_or now.heard node [] →
-    later ≡ posted (reflector_offers now.topology rs node peer (row_in heard) keys) now.mail → (let r : ReflectNow = record now { mail = later } in r)
+pub offers_by : (was now : ReflectNow) → was ≡ now → (node peer : ℕ) (rs : List ℕ) (keys : List Key) (heard : List (List Heard)) (later : Mail) →
+    rs ≡ now.reflectors → keys ≡ all_names heard → heard ≡ slice_index_or now.heard node [] →
+    later ≡ posted (reflector_offers was.topology rs node peer (row_in heard) keys) was.mail → (let r : ReflectNow = record was { mail = later } in r)
     ≡ with_letters (reflector_offers now.topology now.reflectors node peer (row_at now.heard node) (all_names (slice_index_or now.heard node []))) now
-offers_by now node peer rs keys heard later rs_are keys_are heard_is said =
-    ap (λ m. let r : ReflectNow = record now { mail = m } in r)
-    (said
-    ∙ ap (λ xs. posted (reflector_offers now.topology xs node peer (row_in heard) keys) now.mail) rs_are
-    ∙ ap (λ ks. posted (reflector_offers now.topology now.reflectors node peer (row_in heard) ks) now.mail) keys_are
-    ∙ ap (λ h. posted (reflector_offers now.topology now.reflectors node peer (row_in h) (all_names h)) now.mail) heard_is)
+offers_by was now same node peer rs keys heard later rs_are keys_are heard_is said =
+    ap (λ m. let r : ReflectNow = record was { mail = m } in r) said
+    ∙ ap (λ (x : ReflectNow). with_letters (reflector_offers x.topology rs node peer (row_in heard) keys) x) same
+    ∙ ap (λ xs. with_letters (reflector_offers now.topology xs node peer (row_in heard) keys) now) rs_are
+    ∙ ap (λ ks. with_letters (reflector_offers now.topology now.reflectors node peer (row_in heard) ks) now) keys_are
+    ∙ ap (λ h. with_letters (reflector_offers now.topology now.reflectors node peer (row_in h) (all_names h)) now) heard_is

@@ -1,5 +1,4 @@
 pub mod Next
-pub mod Ends
 pub mod Arms
 pub mod Hearing
 pub mod Known

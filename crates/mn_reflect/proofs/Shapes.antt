@@ -1,13 +1,10 @@
 -- What is kept keeps its shape.
 use Rattle.std.proofs.Common.{ℕ, ◌<◌, List, ◌∙◌, sym, subst, Option}
 use Rattle.mn_bgp_session.specs.declared.session.BgpSession.{BgpSession}
-use Rattle.mn_pe.specs.Edge.{Edge}
 use Rattle.mn_offers.specs.Heard.{Heard}
-use Rattle.mn_mail.specs.Mail.{Letter}
 use Rattle.mn_reflect_laws.specs.Now.{ReflectNow}
 use Rattle.mn_reflect.specs.Shape.{IsShaped}
-use Rattle.mn_reflect.specs.Doing.{with_end, with_row, with_letters, changed_edge}
-use Rattle.std.proofs.lemmas.List.{length-set}
+use Rattle.mn_reflect.specs.Doing.{with_end, with_row}
 use Rattle.mn_reflect.proofs.Tables.{rows_stay, row_stays}
 
 module _ (now : ReflectNow) (h : IsShaped now) where
@@ -30,30 +27,6 @@ module _ (now : ReflectNow) (h : IsShaped now) where
     ends = h.ends;
     heard = rows_stay node peer routes now.heard ∙ h.heard;
     peers = λ other below. row_stays node peer routes now.heard other (subst (λ n. other < n) (sym h.heard) below) ∙ h.peers other below;
-    attachments = h.attachments;
-    nodes = h.nodes;
-    reflectors = h.reflectors;
-  }
-
-  pub edge_shape : (node : ℕ) (change : Edge → Edge) → IsShaped (changed_edge node change now)
-  edge_shape node change = record {
-    edges = length-set now.edges node _ ∙ h.edges;
-    sessions = h.sessions;
-    ends = h.ends;
-    heard = h.heard;
-    peers = h.peers;
-    attachments = h.attachments;
-    nodes = h.nodes;
-    reflectors = h.reflectors;
-  }
-
-  pub letters_shape : (letters : List Letter) → IsShaped (with_letters letters now)
-  letters_shape letters = record {
-    edges = h.edges;
-    sessions = h.sessions;
-    ends = h.ends;
-    heard = h.heard;
-    peers = h.peers;
     attachments = h.attachments;
     nodes = h.nodes;
     reflectors = h.reflectors;

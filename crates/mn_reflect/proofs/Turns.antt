@@ -1,5 +1,5 @@
 -- A node hears of a route, or forgets what a peer announced.
-use Rattle.std.proofs.Common.{ℕ, zero, suc, ◌≡◌, ◌≢◌, ◌≤◌, ◌<◌, ◌+◌, ◌==◌, Bool, true, false, List, [], ◌∷◌, ◌++◌, length, refl, arith, sym, ap, subst, ◌∙◌}
+use Rattle.std.proofs.Common.{[], ℕ, zero, suc, ◌≡◌, ◌≢◌, ◌≤◌, ◌<◌, ◌+◌, ◌==◌, Bool, true, false, List, ◌∷◌, ◌++◌, length, refl, arith, sym, ap, subst, ◌∙◌}
 use Rattle.std.proofs.Common.{Option, Some, None, inl, inr}
 use Rattle.std.specs.Prelude.{◌||◌, cond, filter, slice_get, slice_set, slice_index_or, if◌then◌else◌}
 use Rattle.std.specs.List.{AllByRecursion, flat_map}
@@ -7,7 +7,9 @@ use Rattle.std.proofs.Math.Path.{fun_ext}
 use Rattle.std.proofs.lemmas.List.{append-nil, get_or-set_same, set-set}
 use Rattle.std.proofs.lemmas.Bool.Decides.{eqb_tells}
 use Rattle.mn_base.specs.declared.numbers.NodeNo.{NodeNo}
+use Rattle.mn_base.specs.declared.numbers.VrfNo.{VrfNo}
 use Rattle.mn_base.proofs.Bools.{test_same, other_test}
+use Rattle.mn_prefix.specs.Prefix.{AddressBlock}
 use Rattle.mn_topo.specs.Network.{Network}
 use Rattle.mn_bgp_session.specs.declared.session.BgpSession.{BgpSession}
 use Rattle.mn_ledger.specs.Places.{edge_of}
@@ -25,11 +27,12 @@ use Rattle.mn_reflect_laws.specs.Now.{ReflectNow}
 use Rattle.mn_reflect_laws.specs.Choice.{Row, row_at, reflected_to, offered_of, names_in}
 use Rattle.mn_reflect_laws.specs.Letters.{change_letters, reflector_news}
 use Rattle.mn_reflect_laws.specs.Goes.{set_at, steady_of, edge_of_node, decide, decide_all, decision_says}
-use Rattle.mn_reflect_telling.specs.Mentions.{numbers_of, Shows, AreNodes, row_in, row_with}
+use Rattle.mn_reflect_telling.specs.Mentions.{numbers_of, Shows, AreNodes, row_in, row_with, key_of_heard}
+use Rattle.mn_reflect_telling.specs.Names.{named}
 use Rattle.mn_reflect_telling.specs.Passing.{IsPassable, IfPassable}
 use Rattle.mn_reflect.specs.Shape.{IsShaped}
 use Rattle.mn_reflect_telling.specs.Telling.{posted}
-use Rattle.mn_reflect.specs.Doing.{MayTurn, IsEdgeAt, IsNamed, mentioned_in, with_row, with_letters, changed_edge, kept, decided_on, route_heard, forgotten}
+use Rattle.mn_reflect.specs.Doing.{MayTurn, IsEdgeAt, IsNamed, mentioned_in, with_row, with_letters, changed_edge, kept, decided_on, turned, route_heard, forgotten}
 use Rattle.mn_reflect_telling.proofs.Kept.{row_passes}
 use Rattle.mn_reflect.proofs.Shows.{kept_shows}
 use Rattle.mn_reflect.proofs.Tables.{cell_same, cell_other, row_same}
@@ -48,6 +51,11 @@ peers_are t k (end ∷ ends) h = by (is_steady end) (omega (arith, h)) (peers_ar
 pub nodes_are : (t : Network) (nodes : List NodeNo) → AllByRecursion (λ node. node < length t.loopbacks) (numbers_of nodes) → AreNodes t nodes
 nodes_are t [] h = tt
 nodes_are t (node ∷ nodes) h = (h.0, nodes_are t nodes h.1)
+
+-- the name of a route, as the code reads it
+pub key_is : (route : Heard) (vrf : VrfNo) (prefix : AddressBlock) → vrf.0 ≡ route.vrf → prefix ≡ route.prefix → named vrf prefix ≡ key_of_heard route
+key_is route vrf prefix v p =
+    ap (λ n. let k : Key = record { vrf = n; prefix = prefix } in k) v ∙ ap (λ b. let k : Key = record { vrf = route.vrf; prefix = b } in k) p
 
 -- 2. Rows
 
@@ -76,6 +84,10 @@ kept_passes t key None routes new h =
 kept_passes t key (Some route) routes new h =
     all_both (IsPassable t) (filter (λ y. heard_before y route) routes) (route ∷ filter (λ y. heard_before route y) routes)
     (all_filter (IsPassable t) (λ y. heard_before y route) routes h) (new, all_filter (IsPassable t) (λ y. heard_before route y) routes h)
+
+pub shows_of : {heard : List (List Heard)} {key : Key} {peer : ℕ} {mention other : Option Heard} {row : Row} → mention ≡ other → Shows heard key peer mention row →
+    Shows heard key peer other row
+shows_of {heard = heard} {key = key} {peer = peer} {row = row} same shows = subst (λ m. Shows heard key peer m row) same shows
 
 pub shows_at : {heard other : List (List Heard)} {key : Key} {peer : ℕ} {mention : Option Heard} {row : Row} → other ≡ heard → Shows heard key peer mention row →
     Shows other key peer mention row
@@ -185,36 +197,52 @@ module _ (now one : ReflectNow) (node : ℕ) (same : one ≡ record now { edges 
     })
 
 -- what a reflector tells, once it is in flight
-module _ (now : ReflectNow) (node : ℕ) (rs : List ℕ) (peers : List NodeNo) (heard : List (List Heard)) (later : Mail) (rs_are : rs ≡ now.reflectors)
+module _ (was now : ReflectNow) (same : was ≡ now) (node : ℕ) (rs : List ℕ) (peers : List NodeNo) (heard : List (List Heard)) (later : Mail) (rs_are : rs ≡ now.reflectors)
     (steady : peers ≡ steady_of now.sessions node) (heard_is : heard ≡ slice_index_or now.heard node []) where
-  abbrev news_of : Key → Row → Row → List Letter
-  news_of key was row = flat_map (λ (other : NodeNo). change_letters now.topology node other.0 key (offered_of now.topology rs was node other.0 key)
-      (offered_of now.topology rs row node other.0 key)) peers
+  told_all_by : (before after : List (List Heard) → Row) (keys : List Key) →
+      later ≡ posted (reflector_news was.topology rs node peers (before heard) (after heard) keys) was.mail →
+      (let r : ReflectNow = record was { mail = later } in r)
+      ≡ with_letters (reflector_news now.topology now.reflectors node (steady_of now.sessions node) (before (slice_index_or now.heard node []))
+      (after (slice_index_or now.heard node [])) keys) now
+  told_all_by before after keys said =
+      ap (λ m. let r : ReflectNow = record was { mail = m } in r) said
+      ∙ ap (λ (x : ReflectNow). with_letters (reflector_news x.topology rs node peers (before heard) (after heard) keys) x) same
+      ∙ ap (λ xs. with_letters (reflector_news now.topology xs node peers (before heard) (after heard) keys) now) rs_are
+      ∙ ap (λ ps. with_letters (reflector_news now.topology now.reflectors node ps (before heard) (after heard) keys) now) steady
+      ∙ ap (λ h. with_letters (reflector_news now.topology now.reflectors node (steady_of now.sessions node) (before h) (after h) keys) now) heard_is
 
-  pub told_by : (key : Key) (row : Row) → later ≡ posted (news_of key (row_in heard) row) now.mail →
-      (let r : ReflectNow = record now { mail = later } in r)
+  pub told_by : (key : Key) (row : Row) → later ≡ posted (flat_map (λ (other : NodeNo). change_letters was.topology node other.0 key
+      (offered_of was.topology rs (row_in heard) node other.0 key) (offered_of was.topology rs row node other.0 key)) peers) was.mail →
+      (let r : ReflectNow = record was { mail = later } in r)
       ≡ with_letters (reflector_news now.topology now.reflectors node (steady_of now.sessions node) (row_at now.heard node) row (key ∷ [])) now
-  told_by key row said =
-      ap (λ m. let r : ReflectNow = record now { mail = m } in r)
-      (said ∙ ap (λ ls. posted ls now.mail) (sym (append-nil (news_of key (row_in heard) row)))
-      ∙ ap (λ xs. posted (reflector_news now.topology xs node peers (row_in heard) row (key ∷ [])) now.mail) rs_are
-      ∙ ap (λ ps. posted (reflector_news now.topology now.reflectors node ps (row_in heard) row (key ∷ [])) now.mail) steady
-      ∙ ap (λ h. posted (reflector_news now.topology now.reflectors node (steady_of now.sessions node) (row_in h) row (key ∷ [])) now.mail) heard_is)
+  told_by key row said = told_all_by row_in (λ h. row) (key ∷ []) (said ∙ ap (λ ls. posted ls was.mail) (sym (append-nil _)))
 
   pub told_gone_by : (peer : ℕ) (gone : List Heard) →
-      later ≡ posted (reflector_news now.topology rs node peers (row_with heard peer gone) (row_in heard) (names_in gone)) now.mail →
-      (let r : ReflectNow = record now { mail = later } in r)
+      later ≡ posted (reflector_news was.topology rs node peers (row_with heard peer gone) (row_in heard) (names_in gone)) was.mail →
+      (let r : ReflectNow = record was { mail = later } in r)
       ≡ with_letters (reflector_news now.topology now.reflectors node (steady_of now.sessions node) (row_with (slice_index_or now.heard node []) peer gone)
       (row_at now.heard node) (names_in gone)) now
-  told_gone_by peer gone said =
-      ap (λ m. let r : ReflectNow = record now { mail = m } in r)
-      (said
-      ∙ ap (λ xs. posted (reflector_news now.topology xs node peers (row_with heard peer gone) (row_in heard) (names_in gone)) now.mail) rs_are
-      ∙ ap (λ ps. posted (reflector_news now.topology now.reflectors node ps (row_with heard peer gone) (row_in heard) (names_in gone)) now.mail) steady
-      ∙ ap (λ h. posted (reflector_news now.topology now.reflectors node (steady_of now.sessions node) (row_with h peer gone) (row_in h) (names_in gone)) now.mail)
-      heard_is)
+  told_gone_by peer gone said = told_all_by (λ h. row_with h peer gone) row_in (names_in gone) said
 
 -- 4. A route is heard
+
+-- as the row of a node changes, a reflector says so, and an edge decides
+module _ (node : ℕ) (keys : List Key) (was now : ReflectNow) where
+  abbrev by_test : Bool → ReflectNow
+  by_test b = record now {
+    mail = if b then posted (reflector_news now.topology now.reflectors node (steady_of now.sessions node) (row_at was.heard node) (row_at now.heard node) keys) now.mail
+        else now.mail;
+    edges = if b then now.edges else (changed_edge node (decide_all now.topology now.reflectors (row_at now.heard node) node keys) now).edges;
+  }
+
+  pub reflector_turned : is_reflector now.reflectors node ≡ true →
+      with_letters (reflector_news now.topology now.reflectors node (steady_of now.sessions node) (row_at was.heard node) (row_at now.heard node) keys) now
+      ≡ turned node keys was now
+  reflector_turned is = sym (ap by_test is)
+
+  pub edge_turned : is_reflector now.reflectors node ≡ false →
+      changed_edge node (decide_all now.topology now.reflectors (row_at now.heard node) node keys) now ≡ turned node keys was now
+  edge_turned is = sym (ap by_test is)
 
 module _ (now : ReflectNow) (shape : IsShaped now) (node peer : ℕ) (below : node < length now.topology.loopbacks) (within : peer < length now.topology.loopbacks)
   where
@@ -234,7 +262,7 @@ module _ (now : ReflectNow) (shape : IsShaped now) (node peer : ℕ) (below : no
       addresses = may.addresses;
     }
 
-    module _ (key : Key) (mention : Option Heard) (named : IsNamed key mention) where
+    module _ (key : Key) (mention : Option Heard) (its_name : IsNamed key mention) where
       abbrev news : List Letter
       news = reflector_news now.topology now.reflectors node (steady_of now.sessions node) (row_at now.heard node)
           (row_at (set_at node peer (mentioned_in key mention (row_at now.heard node peer)) now.heard) node) (key ∷ [])
@@ -247,7 +275,7 @@ module _ (now : ReflectNow) (shape : IsShaped now) (node peer : ℕ) (below : no
       pub as_told : (one : ReflectNow) → ((row : Row) → Shows (slice_index_or now.heard node []) key peer mention row →
           one ≡ with_letters (reflector_news now.topology now.reflectors node (steady_of now.sessions node) (row_at now.heard node) row (key ∷ [])) now) →
           one ≡ with_letters news now
-      as_told one told = told _ (kept_shows now.heard node peer key mention named has_row has_cell)
+      as_told one told = told _ (kept_shows now.heard node peer key mention its_name has_row has_cell)
 
       -- a reflector tells its peers, and keeps it
       pub told_and_kept : is_reflector now.reflectors node ≡ true → (one two : ReflectNow) →
@@ -256,22 +284,14 @@ module _ (now : ReflectNow) (shape : IsShaped now) (node peer : ℕ) (below : no
           two ≡ kept node peer key mention one → two ≡ route_heard node peer key mention now
       told_and_kept is one two told then_kept =
           then_kept ∙ ap (kept node peer key mention) (as_told one told)
-          ∙ sym (ap (λ b. let r : ReflectNow = record (kept node peer key mention now) {
-            mail = if b then posted news now.mail else now.mail;
-            edges = if b then now.edges else (changed_edge node
-                (decide_all now.topology now.reflectors (row_at (kept node peer key mention now).heard node) node (key ∷ [])) now).edges;
-          } in r) is)
+          ∙ reflector_turned node (key ∷ []) now (kept node peer key mention now) is
 
       -- an edge keeps it, and decides
       pub kept_and_decided : is_reflector now.reflectors node ≡ false → (one two : ReflectNow) → one ≡ kept node peer key mention now → two ≡ decided_on node key one →
           two ≡ route_heard node peer key mention now
       kept_and_decided is one two then_kept decided =
           decided ∙ ap (decided_on node key) then_kept
-          ∙ sym (ap (λ b. let r : ReflectNow = record (kept node peer key mention now) {
-            mail = if b then posted news now.mail else now.mail;
-            edges = if b then now.edges else (changed_edge node
-                (decide_all now.topology now.reflectors (row_at (kept node peer key mention now).heard node) node (key ∷ [])) now).edges;
-          } in r) is)
+          ∙ edge_turned node (key ∷ []) now (kept node peer key mention now) is
 
     -- 5. All that a peer announced is forgotten
 
@@ -305,12 +325,7 @@ module _ (now : ReflectNow) (shape : IsShaped now) (node peer : ℕ) (below : no
         (with_row node peer [] now)) its
         ∙ ap (λ (row : Row). with_letters (reflector_news now.topology now.reflectors node (steady_of now.sessions node) row (row_at (set_at node peer [] now.heard) node)
         gone_keys) (with_row node peer [] now)) (fun_ext was_so)
-        ∙ sym (ap (λ b. let r : ReflectNow = record (with_row node peer [] now) {
-          mail = if b then posted (reflector_news now.topology now.reflectors node (steady_of now.sessions node) (row_at now.heard node)
-              (row_at (set_at node peer [] now.heard) node) gone_keys) now.mail else now.mail;
-          edges = if b then now.edges else (changed_edge node
-              (decide_all now.topology now.reflectors (row_at (set_at node peer [] now.heard) node) node gone_keys) now).edges;
-        } in r) is)
+        ∙ reflector_turned node gone_keys now (with_row node peer [] now) is
 
     pub gone_and_decided : is_reflector now.reflectors node ≡ false → (gone : List Heard) (one two : ReflectNow) → gone ≡ row_at now.heard node peer →
         one ≡ with_row node peer [] now →
@@ -320,9 +335,4 @@ module _ (now : ReflectNow) (shape : IsShaped now) (node peer : ℕ) (below : no
         ∙ ap (λ (r : ReflectNow). changed_edge node (decide_all r.topology r.reflectors (row_at r.heard node) node (names_in gone)) r) left
         ∙ ap (λ routes. changed_edge node (decide_all now.topology now.reflectors (row_at (set_at node peer [] now.heard) node) node (names_in routes))
         (with_row node peer [] now)) its
-        ∙ sym (ap (λ b. let r : ReflectNow = record (with_row node peer [] now) {
-          mail = if b then posted (reflector_news now.topology now.reflectors node (steady_of now.sessions node) (row_at now.heard node)
-              (row_at (set_at node peer [] now.heard) node) gone_keys) now.mail else now.mail;
-          edges = if b then now.edges else (changed_edge node
-              (decide_all now.topology now.reflectors (row_at (set_at node peer [] now.heard) node) node gone_keys) now).edges;
-        } in r) is)
+        ∙ edge_turned node gone_keys now (with_row node peer [] now) is

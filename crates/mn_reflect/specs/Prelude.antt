@@ -22,7 +22,7 @@ pub use Rattle.mn_reflect_laws.specs.Letters.{open_letter, reflector_offers, ref
 pub use Rattle.mn_reflect_laws.specs.Now.{IsReflect}
 pub use Rattle.mn_reflect_laws.specs.Spelling.{word_bytes}
 pub use Rattle.mn_reflect_laws.specs.Steps.{first_hearing, takes}
-pub use Rattle.mn_reflect_telling.specs.Mentions.{Shows, row_with, key_of_heard, numbers_of}
+pub use Rattle.mn_reflect_telling.specs.Mentions.{Shows, row_with, key_of_heard, numbers_of, AreNodes}
 pub use Rattle.mn_reflect_telling.specs.Names.{named}
 pub use Rattle.mn_reflect_telling.specs.Passing.{IsPassable, IfPassable}
 pub use Rattle.mn_net_laws.specs.Refusal.{session_at, of_vrf, imports_it, exports_it, site_label, site_with}

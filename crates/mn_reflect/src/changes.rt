@@ -8,7 +8,7 @@ use crate::reflect::Reflect;
 use mn_base::{NodeNo, Rt, SiteNo, VrfNo};
 use mn_pe::{Export, NoMemory};
 use mn_prefix::Prefix;
-use mn_reflect_telling::{steady_peers, tell_exports};
+use mn_reflect_telling::tell_exports;
 use mn_vrf::VrfBad;
 use std::alloc::{AllocError, Global};
 
@@ -92,8 +92,7 @@ impl<'t> Reflect<'t> {
         requires exports { AreSayable exports.now }
         ensures { OnOk result (self.new ≡ told_peers edge.0 comes exports.now self.old) }
     {
-        self.topology.laws();
-        let peers = steady_peers(self.alloc, &self.sessions[usize::from(edge.0)])?;
+        let peers = self.steady(edge)?;
         tell_exports(
             &mut self.mail,
             self.alloc,

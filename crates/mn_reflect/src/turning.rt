@@ -1,8 +1,8 @@
 //! A node hears of a route, or forgets all that a peer announced: a reflector tells its peers, and an edge decides anew.
 ghost use Rattle.std.specs.Prelude.{◌≡◌, ◌<◌, ◌∷◌, [], false, Some, None, length, slice_index_or, option_map, IfOk, OnOk};
 ghost use Rattle.std.specs.List.{AllByRecursion};
-ghost use Rattle.mn_reflect.specs.Prelude.{loopback, after_update, AreLabelled, is_reflector, Row, row_at, reflected_to, names_in, reflector_news, steady_of, edge_of_node, decide_all, decision_says, named, IsPassable, IfPassable, Shows, row_with, key_of_heard, numbers_of};
-ghost use Rattle.mn_reflect.specs.Doing.{with_row, with_letters, changed_edge, mentioned_in, kept, decided_on, route_heard, forgotten, MayTurn, IsEdgeAt};
+ghost use Rattle.mn_reflect.specs.Prelude.{loopback, after_update, AreLabelled, is_reflector, Row, row_at, reflected_to, names_in, reflector_news, steady_of, edge_of_node, decide_all, decision_says, named, IsPassable, IfPassable, Shows, row_with, key_of_heard, numbers_of, AreNodes};
+ghost use Rattle.mn_reflect.specs.Doing.{with_row, with_letters, changed_edge, mentioned_in, kept, decided_on, route_heard, forgotten, MayTurn, IsEdgeAt, IsNamed};
 
 use crate::reflect::Reflect;
 use mn_base::{NodeNo, VrfNo};
@@ -53,6 +53,16 @@ impl<'t> Reflect<'t> {
         }
     }
 
+    /// The peers with which a node's session is Established.
+    pub(crate) fn steady(&self, node: NodeNo) -> Result<Vec<NodeNo>, AllocError>
+        requires { node.0 < length self.now.topology.loopbacks }
+        ensures are { IfOk result (λ peers. peers.items ≡ steady_of self.now.sessions node.0) }
+        ensures nodes { IfOk result (λ peers. AreNodes self.now.topology peers.items) }
+    {
+        self.topology.laws();
+        steady_peers(self.alloc, &self.sessions[usize::from(node.0)])
+    }
+
     /// A reflector tells its peers of a route of which a peer says this now.
     fn tell_heard(
         &mut self,
@@ -71,8 +81,7 @@ impl<'t> Reflect<'t> {
             OnOk result (self.new ≡ with_letters (reflector_news self.old.topology self.old.reflectors node.0 (steady_of self.old.sessions node.0)
             (row_at self.old.heard node.0) row (named vrf prefix ∷ [])) self.old) }
     {
-        self.topology.laws();
-        let peers = steady_peers(self.alloc, &self.sessions[usize::from(node.0)])?;
+        let peers = self.steady(node)?;
         let teller = Teller {
             alloc: self.alloc,
             topology: self.topology,
@@ -147,6 +156,32 @@ impl<'t> Reflect<'t> {
         self.tell_edge(edge, home, &update)
     }
 
+    /// A node takes a peer's last mention of a route: that it announces it so, or withdraws it.
+    fn hear_route(
+        &mut self,
+        node: NodeNo,
+        peer: NodeNo,
+        vrf: VrfNo,
+        prefix: Prefix,
+        mention: Option<Offered>,
+    ) -> Result<(), AllocError>
+        requires node { node.0 < length self.old.topology.loopbacks }
+        requires peer { peer.0 < length self.old.topology.loopbacks }
+        requires vrf { vrf.0 < length self.old.topology.vrfs }
+        requires may { MayTurn self.old node.0 }
+        requires name { IsNamed (named vrf prefix) mention }
+        requires passable { IfPassable self.old.topology mention }
+        ensures { OnOk result (self.new ≡ route_heard node.0 peer.0 (named vrf prefix) mention self.old) }
+    {
+        self.shape();
+        if self.is_reflector(node) {
+            self.tell_heard(node, peer, vrf, prefix, mention.as_ref())?;
+            return self.keep(node, peer, vrf, prefix, mention);
+        }
+        self.keep(node, peer, vrf, prefix, mention)?;
+        self.decide(node, vrf, prefix)
+    }
+
     /// A node takes what a peer announces of a route.
     pub(crate) fn hear_announced(
         &mut self,
@@ -160,15 +195,9 @@ impl<'t> Reflect<'t> {
         requires passable { IsPassable self.old.topology offered }
         ensures { OnOk result (self.new ≡ route_heard node.0 peer.0 (key_of_heard offered) (Some offered) self.old) }
     {
-        self.shape();
         let vrf = offered.vrf();
         let prefix = offered.prefix();
-        if self.is_reflector(node) {
-            self.tell_heard(node, peer, vrf, prefix, Some(&offered))?;
-            return self.keep(node, peer, vrf, prefix, Some(offered));
-        }
-        self.keep(node, peer, vrf, prefix, Some(offered))?;
-        self.decide(node, vrf, prefix)
+        self.hear_route(node, peer, vrf, prefix, Some(offered))
     }
 
     /// A node takes that a peer withdraws a route.
@@ -185,13 +214,7 @@ impl<'t> Reflect<'t> {
         requires may { MayTurn self.old node.0 }
         ensures { OnOk result (self.new ≡ route_heard node.0 peer.0 (named vrf prefix) None self.old) }
     {
-        self.shape();
-        if self.is_reflector(node) {
-            self.tell_heard(node, peer, vrf, prefix, None)?;
-            return self.keep(node, peer, vrf, prefix, None);
-        }
-        self.keep(node, peer, vrf, prefix, None)?;
-        self.decide(node, vrf, prefix)
+        self.hear_route(node, peer, vrf, prefix, None)
     }
 
     /// Takes out all that a node heard of a peer.
@@ -218,8 +241,7 @@ impl<'t> Reflect<'t> {
         ensures { OnOk result (self.new ≡ with_letters (reflector_news self.old.topology self.old.reflectors node.0 (steady_of self.old.sessions node.0)
             (row_with (slice_index_or self.old.heard node.0 []) peer.0 gone.now) (row_at self.old.heard node.0) (names_in gone.now)) self.old) }
     {
-        self.topology.laws();
-        let peers = steady_peers(self.alloc, &self.sessions[usize::from(node.0)])?;
+        let peers = self.steady(node)?;
         let teller = Teller {
             alloc: self.alloc,
             topology: self.topology,

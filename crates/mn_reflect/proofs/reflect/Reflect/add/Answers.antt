@@ -1,5 +1,4 @@
 use Rattle.std.proofs.Common.{◌≡◌, ◌+◌, ◌∙◌, ap, subst, sym, None, true}
-use Rattle.mn_ledger.specs.Places.{home_of}
 use Rattle.mn_vrf.specs.Vrf.{VrfState, add_refused}
 use Rattle.mn_pe.specs.Edge.{vrf_of_site}
 use Rattle.mn_pe.specs.Pe.{found_in}
@@ -10,28 +9,24 @@ use Rattle.mn_reflect_laws.specs.Now.{ReflectNow}
 use Rattle.mn_reflect_laws.specs.Goes.{edge_of_node}
 use Rattle.mn_reflect.specs.Doing.{IsEdgeAt, changed_edge}
 use Rattle.mn_reflect_telling.proofs.Results.{on_ok}
-use Rattle.mn_reflect.proofs.Edging.{told_so}
+use Rattle.mn_reflect.proofs.Edging.{home_so, told_so}
 use Rattle.mn_routing_laws.specs.Doing.{AreSayable}
 use Rattle.mn_reflect.proofs.reflect.Reflect.add.Goals as goal
 
 pub add_on_edge-requires-clause-there : goal.add_on_edge-requires-clause-there
-add_on_edge-requires-clause-there c =
-    let at = c.home_of-edge.ensures.home ∙ ap (λ (x : ReflectNow). home_of x.topology c.args.site.0) c.self.view_is in
-    subst (IsEdgeAt c.args.self.now) (sym at) c.requires.there
+add_on_edge-requires-clause-there c = subst (IsEdgeAt c.args.self.now) (sym (home_so c.self.view_is c.args.site.0 c.home_of-edge.ensures.home)) c.requires.there
 
 pub add_on_edge-requires-clause-free : goal.add_on_edge-requires-clause-free
-add_on_edge-requires-clause-free c =
-    let at = c.home_of-edge.ensures.home ∙ ap (λ (x : ReflectNow). home_of x.topology c.args.site.0) c.self.view_is in
-    subst (λ k. found_in (vrf_of_site (edge_of_node c.args.self.now.edges k) c.args.site.0) (λ (state : VrfState). add_refused c.args.prefix state) (edge_of_node c.args.self.now.edges k).vrfs ≡ None) (sym at) c.requires.free
+add_on_edge-requires-clause-free c = subst (λ k. found_in (vrf_of_site (edge_of_node c.args.self.now.edges k) c.args.site.0) (λ (state : VrfState). add_refused c.args.prefix state) (edge_of_node c.args.self.now.edges k).vrfs ≡ None) (sym (home_so c.self.view_is c.args.site.0 c.home_of-edge.ensures.home)) c.requires.free
 
 pub tell_peers-requires-clause-exports : goal.tell_peers-requires-clause-exports
 tell_peers-requires-clause-exports c =
-    let at = c.home_of-edge.ensures.home ∙ ap (λ (x : ReflectNow). home_of x.topology c.args.site.0) c.self.view_is in
+    let at = home_so c.self.view_is c.args.site.0 c.home_of-edge.ensures.home in
     subst AreSayable (sym (c.deref.ensures.value ∙ c.in_ok-come.ensures.come ∙ ap (λ k. those_of (export_of (with_route c.args.site c.args.prefix (edge_of_node c.args.self.now.edges k)) c.args.site.0 c.args.prefix)) at)) c.requires.came
 
 pub returns : goal.returns
 returns c =
-    let at = c.home_of-edge.ensures.home ∙ ap (λ (x : ReflectNow). home_of x.topology c.args.site.0) c.self.view_is in
+    let at = home_so c.self.view_is c.args.site.0 c.home_of-edge.ensures.home in
     on_ok c.tell_peers.result
     (λ told. told_so _ _ _ _ at _ true told (λ k. let x : ReflectNow = record (changed_edge k (with_route c.args.site c.args.prefix) c.args.self.now) { statics = c.args.self.now.statics + 1 } in x) (λ k. those_of (export_of (with_route c.args.site c.args.prefix (edge_of_node c.args.self.now.edges k)) c.args.site.0 c.args.prefix)) (ap (λ (y : ReflectNow). let x : ReflectNow = record y { statics = y.statics + 1 } in x) (c.self-2.view_is ∙ c.in_ok-come.ensures.now)) (c.deref.ensures.value ∙ c.in_ok-come.ensures.come))
     c.tell_peers.ensures

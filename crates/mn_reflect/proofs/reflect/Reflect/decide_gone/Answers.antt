@@ -1,15 +1,13 @@
-use Rattle.std.proofs.Common.{◌≡◌, ◌<◌, List, [], ◌∷◌, length, ap, sym, subst, ◌∙◌, rules}
+use Rattle.std.proofs.Common.{[], ◌≡◌, ◌<◌, List, ◌∷◌, length, ap, sym, subst, ◌∙◌, rules}
 use Rattle.std.specs.List.{AllByRecursion}
 use Rattle.mn_offers.specs.Heard.{Heard}
-use Rattle.mn_reflection_laws.specs.Words.{Key}
 use Rattle.mn_reflect_laws.specs.Now.{ReflectNow}
 use Rattle.mn_reflect_laws.specs.Choice.{row_at, names_in}
 use Rattle.mn_reflect_laws.specs.Goes.{decide_all}
-use Rattle.mn_reflect_telling.specs.Names.{named}
 use Rattle.mn_reflect_telling.specs.Mentions.{key_of_heard}
 use Rattle.mn_reflect_telling.specs.Passing.{IsPassable}
 use Rattle.mn_reflect.specs.Doing.{changed_edge, decided_on}
-use Rattle.mn_reflect.proofs.Turns.{next_decided, edges_alone, may_next, isnt_then, not_changed}
+use Rattle.mn_reflect.proofs.Turns.{key_is, next_decided, edges_alone, may_next, isnt_then, not_changed}
 use Rattle.mn_reflect.proofs.reflect.Reflect.decide_gone.Goals as goal
 
 pub decide-requires : goal.decide-requires
@@ -31,13 +29,10 @@ loop-offered-preserved c =
     let now = c.args.self.now in
     let edge = c.args.edge.0 in
     let route : Heard = c.in-Some.offered.now in
-    let key : Key = named c.vrf.result c.prefix.result in
     let step : at.offered-iterator ≡ route ∷ c.next.new.self = search rules in
-    let same : key ≡ key_of_heard route =
-    ap (λ v. let k : Key = record { vrf = v; prefix = c.prefix.result } in k) c.vrf.ensures
-    ∙ ap (λ p. let k : Key = record { vrf = route.vrf; prefix = p } in k) c.prefix.ensures in
     let decided : c.decide.new.self ≡ decided_on edge (key_of_heard route) at.self =
-    c.in_ok-decide.ensures ∙ ap (λ k. decided_on edge k at.self) same in
+    c.in_ok-decide.ensures
+    ∙ ap (λ k. decided_on edge k at.self) (key_is route c.vrf.result c.prefix.result c.vrf.ensures c.prefix.ensures) in
     record {
       decided = next_decided now at.self edge at.invariant.same c.requires.isnt at.invariant.may c.decide.new.self (key_of_heard route) decided
           (names_in c.next.new.self) _

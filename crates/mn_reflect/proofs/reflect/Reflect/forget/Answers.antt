@@ -1,4 +1,4 @@
-use Rattle.std.proofs.Common.{◌<◌, [], length, ap, subst, sym, ◌∙◌}
+use Rattle.std.proofs.Common.{[], ◌<◌, length, ap, subst, sym, ◌∙◌}
 use Rattle.std.specs.Prelude.{slice_index_or}
 use Rattle.std.specs.List.{AllByRecursion}
 use Rattle.mn_reflect_telling.proofs.Results.{on_ok}

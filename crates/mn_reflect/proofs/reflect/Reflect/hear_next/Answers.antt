@@ -38,31 +38,20 @@ hear_session-reply-requires-clause-takes c =
     answers_then may.labels c.args.peer.0 c.args.node.0 c.args.self.now c.take_next-letter.new.self c.in-Other.message may.word c.take_next-letter.ensures.taken may.next
     (other_is c.args.self.now lawful c.args.peer.0 c.args.node.0 c.take_next-letter.result c.bytes.result.now c.take_next-letter.ensures.letter c.bytes.ensures may.labels may.word may.next c.in-Other.message spelled.0 spelled.1)
 
-pub answer-requires-clause-peer : goal.answer-requires-clause-peer
-answer-requires-clause-peer c =
+pub answer-requires : goal.answer-requires
+answer-requires c =
     let may = c.requires.may in
     let lawful = subst (λ (x : ReflectNow). IsLawful x.topology) c.self.view_is c.laws.ensures in
     let spelled = subst (IsHeard c.bytes.result.now) c.in-Other.is c.in_ok-reflected.ensures in
-    subst (λ (t : Network). c.args.peer.0 < length t.loopbacks)
-    (sym (stays_there c.args.peer.0 c.args.node.0 c.args.self.now c.take_next-letter.new.self c.hear_session-reply.new.self c.in-Other.message may.word
-    c.take_next-letter.ensures.taken (other_is c.args.self.now lawful c.args.peer.0 c.args.node.0 c.take_next-letter.result c.bytes.result.now c.take_next-letter.ensures.letter c.bytes.ensures may.labels may.word may.next c.in-Other.message spelled.0 spelled.1) c.hear_session-reply.ensures.heard)) c.requires.peer
-
-pub answer-requires-clause-node : goal.answer-requires-clause-node
-answer-requires-clause-node c =
-    let may = c.requires.may in
-    let lawful = subst (λ (x : ReflectNow). IsLawful x.topology) c.self.view_is c.laws.ensures in
-    let spelled = subst (IsHeard c.bytes.result.now) c.in-Other.is c.in_ok-reflected.ensures in
-    subst (λ (t : Network). c.args.node.0 < length t.loopbacks)
-    (sym (stays_there c.args.peer.0 c.args.node.0 c.args.self.now c.take_next-letter.new.self c.hear_session-reply.new.self c.in-Other.message may.word
-    c.take_next-letter.ensures.taken (other_is c.args.self.now lawful c.args.peer.0 c.args.node.0 c.take_next-letter.result c.bytes.result.now c.take_next-letter.ensures.letter c.bytes.ensures may.labels may.word may.next c.in-Other.message spelled.0 spelled.1) c.hear_session-reply.ensures.heard)) c.requires.node
-
-pub answer-requires-clause-may : goal.answer-requires-clause-may
-answer-requires-clause-may c =
-    let may = c.requires.may in
-    let lawful = subst (λ (x : ReflectNow). IsLawful x.topology) c.self.view_is c.laws.ensures in
-    let spelled = subst (IsHeard c.bytes.result.now) c.in-Other.is c.in_ok-reflected.ensures in
-    hears_then c.args.peer.0 c.args.node.0 c.args.self.now c.take_next-letter.new.self c.hear_session-reply.new.self c.in-Other.message may.word
-    c.take_next-letter.ensures.taken (other_is c.args.self.now lawful c.args.peer.0 c.args.node.0 c.take_next-letter.result c.bytes.result.now c.take_next-letter.ensures.letter c.bytes.ensures may.labels may.word may.next c.in-Other.message spelled.0 spelled.1) c.hear_session-reply.ensures.heard may.may
+    let its = other_is c.args.self.now lawful c.args.peer.0 c.args.node.0 c.take_next-letter.result c.bytes.result.now c.take_next-letter.ensures.letter c.bytes.ensures may.labels may.word may.next c.in-Other.message spelled.0 spelled.1 in
+    let stays = sym (stays_there c.args.peer.0 c.args.node.0 c.args.self.now c.take_next-letter.new.self c.hear_session-reply.new.self c.in-Other.message may.word
+    c.take_next-letter.ensures.taken its c.hear_session-reply.ensures.heard) in
+    record {
+      peer = subst (λ (t : Network). c.args.peer.0 < length t.loopbacks) stays c.requires.peer;
+      node = subst (λ (t : Network). c.args.node.0 < length t.loopbacks) stays c.requires.node;
+      may = hears_then c.args.peer.0 c.args.node.0 c.args.self.now c.take_next-letter.new.self c.hear_session-reply.new.self c.in-Other.message may.word
+          c.take_next-letter.ensures.taken its c.hear_session-reply.ensures.heard may.may;
+    }
 
 pub returns-in-Routes : goal.returns-in-Routes
 returns-in-Routes c = λ labels word next.

@@ -1,4 +1,4 @@
-use Rattle.std.proofs.Common.{◌≡◌, [], None, length, replicate, refl, ◌∙◌, ap}
+use Rattle.std.proofs.Common.{[], ◌≡◌, None, length, replicate, refl, ◌∙◌, ap}
 use Rattle.std.proofs.lemmas.List.{length-map}
 use Rattle.mn_mail.specs.Mail.{Mail}
 use Rattle.mn_reflect_laws.proofs.Starting.{starts}

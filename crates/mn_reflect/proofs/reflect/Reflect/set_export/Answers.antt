@@ -1,31 +1,25 @@
-use Rattle.std.proofs.Common.{◌≡◌, ◌∙◌, ap, subst, sym, None}
-use Rattle.mn_ledger.specs.Places.{edge_of}
+use Rattle.std.proofs.Common.{◌≡◌, subst, sym, None}
 use Rattle.mn_vrf.specs.Vrf.{VrfState, set_refused}
 use Rattle.mn_pe.specs.Pe.{found_in}
 use Rattle.mn_pe.specs.Exports.{exports_at}
 use Rattle.mn_routing_laws.specs.Doing.{AreSayable, AreNews}
-use Rattle.mn_reflect_laws.specs.Now.{ReflectNow}
 use Rattle.mn_reflect_laws.specs.Goes.{edge_of_node}
 use Rattle.mn_reflect.specs.Changing.{exports_changed}
 use Rattle.mn_reflect.specs.Doing.{IsEdgeAt, changed_edge}
 use Rattle.mn_reflect_telling.proofs.Results.{on_ok}
-use Rattle.mn_reflect.proofs.Edging.{told_either, either_sayable}
+use Rattle.mn_reflect.proofs.Edging.{edge_so, told_either, either_sayable}
 use Rattle.mn_reflect.proofs.reflect.Reflect.set_export.Goals as goal
 
 pub export_on_edge-requires-clause-there : goal.export_on_edge-requires-clause-there
-export_on_edge-requires-clause-there c =
-    let at = c.edge_of-edge.ensures.edge ∙ ap (λ (x : ReflectNow). edge_of x.topology c.args.vrf.0) c.self.view_is in
-    subst (IsEdgeAt c.args.self.now) (sym at) c.requires.there
+export_on_edge-requires-clause-there c = subst (IsEdgeAt c.args.self.now) (sym (edge_so c.self.view_is c.args.vrf.0 c.edge_of-edge.ensures.edge)) c.requires.there
 
 pub export_on_edge-requires-clause-free : goal.export_on_edge-requires-clause-free
-export_on_edge-requires-clause-free c =
-    let at = c.edge_of-edge.ensures.edge ∙ ap (λ (x : ReflectNow). edge_of x.topology c.args.vrf.0) c.self.view_is in
-    subst (λ k. found_in c.args.vrf.0 (λ (state : VrfState). set_refused c.args.target c.args.on state.exports) (edge_of_node c.args.self.now.edges k).vrfs ≡ None) (sym at)
+export_on_edge-requires-clause-free c = subst (λ k. found_in c.args.vrf.0 (λ (state : VrfState). set_refused c.args.target c.args.on state.exports) (edge_of_node c.args.self.now.edges k).vrfs ≡ None) (sym (edge_so c.self.view_is c.args.vrf.0 c.edge_of-edge.ensures.edge))
     c.requires.free
 
 pub tell_peers-requires-clause-exports : goal.tell_peers-requires-clause-exports
 tell_peers-requires-clause-exports c =
-    let at = c.edge_of-edge.ensures.edge ∙ ap (λ (x : ReflectNow). edge_of x.topology c.args.vrf.0) c.self.view_is in
+    let at = edge_so c.self.view_is c.args.vrf.0 c.edge_of-edge.ensures.edge in
     subst AreSayable (sym c.deref.ensures.value)
     (either_sayable _ _ _ _ c.in_ok-news.ensures.news
     (subst (λ k. AreSayable (exports_at (exports_changed c.args.vrf c.args.target c.args.on (edge_of_node c.args.self.now.edges k)) c.args.vrf.0)) (sym at) c.requires.came)
@@ -33,7 +27,7 @@ tell_peers-requires-clause-exports c =
 
 pub returns : goal.returns
 returns c =
-    let at = c.edge_of-edge.ensures.edge ∙ ap (λ (x : ReflectNow). edge_of x.topology c.args.vrf.0) c.self.view_is in
+    let at = edge_so c.self.view_is c.args.vrf.0 c.edge_of-edge.ensures.edge in
     on_ok c.tell_peers.result
     (λ told. told_either _ _ _ _ at _ _ told (λ k. changed_edge k (exports_changed c.args.vrf c.args.target c.args.on) c.args.self.now)
     (λ k. exports_at (exports_changed c.args.vrf c.args.target c.args.on (edge_of_node c.args.self.now.edges k)) c.args.vrf.0)
