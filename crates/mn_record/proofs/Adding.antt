@@ -9,25 +9,19 @@ use Rattle.mn_edge.specs.Faults.{CountedUnless}
 use Rattle.mn_edge.specs.FaultLaws.{counted_out}
 use Rattle.mn_edge.specs.Files.{Files}
 use Rattle.mn_edge.specs.Kept.{HoldsOn, BeginsOn, Framed, Lacking}
-use Rattle.mn_edge.specs.KeptLaws.{begins_on, begins_on_more, framed_both, counted_framed}
+use Rattle.mn_edge.specs.KeptLaws.{begins_on, begins_on_more, framed_both, framed_same, counted_framed}
 use Rattle.mn_pcap.specs.Format.{record_header, record_of}
 use Rattle.mn_topo.specs.Network.{Network}
+use Rattle.mn_output_laws.specs.Files.{files_of}
 use Rattle.mn_record.specs.Recorded.{BooksNow, IsFor}
-use Rattle.mn_record.specs.Adding.{Adds, MayAdd, with_part, only_in}
+use Rattle.mn_record.specs.Adding.{Adds, MayAdd, Puts, Stays, with_part, only_in}
+pub use Rattle.mn_sched.proofs.Growing.{ok_then, err_then}
 
 -- 1. Results
 
 pub on_err : {T E : Type 0} (r : Result T E) (P : Type 0) → P → OnErr r P
 on_err (Ok x) P p = tt
 on_err (Err e) P p = p
-
-pub ok_then : {T E : Type 0} (r : Result T E) (P Q : Type 0) → OnOk r P → (P → Q) → OnOk r Q
-ok_then (Ok x) P Q p f = f p
-ok_then (Err e) P Q p f = tt
-
-pub err_then : {T E : Type 0} (r : Result T E) (P Q : Type 0) → OnErr r P → (P → Q) → OnErr r Q
-err_then (Ok x) P Q p f = tt
-err_then (Err e) P Q p f = f p
 
 -- 2. Contents that are the same
 
@@ -90,33 +84,6 @@ may_more part more a b f g goes_on may = λ contents holds.
 pub outside : (file : ℕ) (names : List (List ℕ)) (piece : List ℕ) → length names ≤ file → (k : ℕ) → k < length names → only_in file piece k ≡ []
 outside file names piece none k within = ap (λ b. if b then piece else []) (other_test file k (omega (arith, none, within)))
 
--- a piece for a file, among files that are seen by their fields
-pub seen_adds : (file number : ℕ) (piece bytes : List ℕ) (names other held later : List (List ℕ)) (places : List ℕ) (a : BooksNow) (f g : Option Files) →
-    number ≡ file → piece ≡ bytes → names ≡ other → record { names = other; held = held; places = places } ≡ a →
-    Adds (only_in number piece) (record { names = names; held = held; places = [] }) (record { names = names; held = later; places = [] }) f g →
-    Adds (only_in file bytes) a (record { names = other; held = later; places = places }) f g
-seen_adds file number piece bytes names other held later places a f g numbers pieces same is h =
-    subst (λ n. Adds (only_in n bytes) a (record { names = other; held = later; places = places }) f g) numbers
-    (subst (λ l. Adds (only_in number l) a (record { names = other; held = later; places = places }) f g) pieces
-    (subst (λ b. Adds (only_in number piece) b (record { names = other; held = later; places = places }) f g) is
-    (subst (λ n. Adds (only_in number piece) (record { names = n; held = held; places = places }) (record { names = n; held = later; places = places }) f g)
-    same h)))
-
-pub seen_may : (file number : ℕ) (piece bytes : List ℕ) (names other held later : List (List ℕ)) (places : List ℕ) (a : BooksNow) (f g : Option Files) →
-    number ≡ file → piece ≡ bytes → names ≡ other → record { names = other; held = held; places = places } ≡ a →
-    MayAdd (only_in number piece) (record { names = names; held = held; places = [] }) (record { names = names; held = later; places = [] }) f g →
-    MayAdd (only_in file bytes) a (record { names = other; held = later; places = places }) f g
-seen_may file number piece bytes names other held later places a f g numbers pieces same is h =
-    subst (λ n. MayAdd (only_in n bytes) a (record { names = other; held = later; places = places }) f g) numbers
-    (subst (λ l. MayAdd (only_in number l) a (record { names = other; held = later; places = places }) f g) pieces
-    (subst (λ b. MayAdd (only_in number piece) b (record { names = other; held = later; places = places }) f g) is
-    (subst (λ n. MayAdd (only_in number piece) (record { names = n; held = held; places = places }) (record {
-      names = n;
-      held = later;
-      places =
-          places;
-    }) f g) same h)))
-
 -- pieces for one file
 pub joined_in : (file k : ℕ) (a b : List ℕ) → only_in file a k ++ only_in file b k ≡ only_in file (a ++ b) k
 joined_in file k a b = by (file == k)
@@ -140,12 +107,11 @@ pub more_in : (file k : ℕ) (fewer more : List ℕ) → (rest : List ℕ) × (f
     (rest : List ℕ) × (only_in file fewer k ++ rest ≡ only_in file more k)
 more_in file k fewer more goes_on = (only_in file goes_on.0 k, joined_in file k fewer goes_on.0 ∙ ap (λ l. only_in file l k) goes_on.1)
 
--- a record of a capture in three pieces
-pub three_in : (file k tick : ℕ) (head front packet : List ℕ) → head ≡ record_header tick (length front + length packet) →
-    only_in file head k ++ (only_in file front k ++ only_in file packet k) ≡ only_in file (record_of tick (front ++ packet)) k
-three_in file k tick head front packet is =
-    ap (λ l. only_in file head k ++ l) (joined_in file k front packet)
-    ∙ joined_in file k head (front ++ packet)
+-- a record of a capture: its header and its packet
+pub header_then : (file k tick : ℕ) (head front packet : List ℕ) → head ≡ record_header tick (length front + length packet) →
+    only_in file head k ++ only_in file (front ++ packet) k ≡ only_in file (record_of tick (front ++ packet)) k
+header_then file k tick head front packet is =
+    joined_in file k head (front ++ packet)
     ∙ ap (λ l. only_in file (l ++ (front ++ packet)) k) (is ∙ ap (record_header tick) (sym (length-append front packet)))
 
 -- header, front and packet behind bytes
@@ -172,9 +138,6 @@ writes_out {U} a b f g first before now e result from same framed left counted =
     counted_out (Lacking a f) (Lacking a f) first first now e result from refl (λ lacking. lacking)
     (writes_then {T = Unit {0}} a b f g first before now (Err e) same framed left counted)
 
-pub still_for : (a b : BooksNow) (t : Network) → b.names ≡ a.names → b.places ≡ a.places → IsFor a t → IsFor b t
-still_for a b t names places is = record { files = ap length names ∙ is.files; table = places ∙ is.table }
-
 -- 6. Nothing
 
 pub none_add : (part : ℕ → List ℕ) (a : BooksNow) (f : Option Files) → ((k : ℕ) → k < length a.names → part k ≡ []) → Adds part a a f f
@@ -188,3 +151,112 @@ none_may part a b f same = λ contents holds. renamed a.names b.names (with_part
   where
     renamed : (one other : List (List ℕ)) (contents : ℕ → List ℕ) (f : Option Files) → other ≡ one → BeginsOn one contents f → BeginsOn other contents f
     renamed one other contents f e b = subst (λ n. BeginsOn n contents f) (sym e) b
+
+-- 7. Parts that are put, by a call's result
+
+-- a call that comes after others
+pub puts_then : {T U E : Type 0} {part more whole : ℕ → List ℕ} {a b c : BooksNow} {f g h : Option Files} {x : T} {result : Result U E} →
+    Puts {E = E} part a b f g (Ok x) → Puts more b c g h result → ((k : ℕ) → k < length c.names → part k ++ more k ≡ whole k) → Puts whole a c f h result
+puts_then {part} {more} {whole} {a} {b} {c} {f} {g} {h} {result} one other same = record {
+  adds = ok_then result _ _ other.adds (λ adds. adds_as (λ k. part k ++ more k) whole a c f h same (both_add part more a b c f g h one.adds adds));
+  may = err_then result _ _ other.may (λ may. may_as (λ k. part k ++ more k) whole a c f h same (second_may part more a b c f g h one.adds may));
+}
+
+-- the same parts
+pub puts_as : {T E : Type 0} {part whole : ℕ → List ℕ} {a b : BooksNow} {f g : Option Files} {result : Result T E} →
+    Puts part a b f g result → ((k : ℕ) → k < length b.names → part k ≡ whole k) → Puts whole a b f g result
+puts_as {part} {whole} {a} {b} {f} {g} {result} one same = record {
+  adds = ok_then result _ _ one.adds (adds_as part whole a b f g same);
+  may = err_then result _ _ one.may (may_as part whole a b f g same);
+}
+
+-- a fault in a call, which is answered
+pub puts_out : {T U : Type 0} {part : ℕ → List ℕ} {a b : BooksNow} {f g : Option Files} {e : DeviceBad} {result : Result U DeviceBad} →
+    IsErr result × IsErrAnd result (λ y. y ≡ e) → Puts {T = T} part a b f g (Err e) → Puts part a b f g result
+puts_out {result = Ok x} from one = absurd from.1
+puts_out {result = Err y} from one = record { adds = tt; may = one.may }
+
+-- a fault in a call that others were to follow
+pub puts_cut : {T E : Type 0} {part whole : ℕ → List ℕ} {a b : BooksNow} {f g : Option Files} {e : E} (more : ℕ → List ℕ) →
+    Puts {T = T} part a b f g (Err e) → ((k : ℕ) → k < length b.names → part k ++ more k ≡ whole k) → Puts {T = T} whole a b f g (Err e)
+puts_cut {part} {whole} {a} {b} {f} {g} more one same = record {
+  adds = tt;
+  may = may_as (λ k. part k ++ more k) whole a b f g same (first_may part more a b f g one.may);
+}
+
+pub puts_short : {T E : Type 0} {part whole : ℕ → List ℕ} {a b : BooksNow} {f g : Option Files} {e : E} →
+    Puts {T = T} part a b f g (Err e) → ((k : ℕ) → (rest : List ℕ) × (part k ++ rest ≡ whole k)) → Puts {T = T} whole a b f g (Err e)
+puts_short {part} {whole} {a} {b} {f} {g} one goes_on = record { adds = tt; may = may_more part whole a b f g goes_on one.may }
+
+-- no call
+pub puts_none : {E : Type 0} {part : ℕ → List ℕ} {a : BooksNow} {f : Option Files} → ((k : ℕ) → k < length a.names → part k ≡ []) →
+    Puts {T = Unit {0}} {E = E} part a a f f (Ok tt)
+puts_none {part} {a} {f} none = record { adds = none_add part a f none; may = tt }
+
+-- a piece for a file, among files that are seen by their fields
+pub puts_seen : {T E : Type 0} (part : ℕ → List ℕ) (names held later : List (List ℕ)) (a b : BooksNow) (f g : Option Files) (result : Result T E) →
+    names ≡ a.names → held ≡ a.held → b.names ≡ a.names → later ≡ b.held →
+    OnOk result ((contents : ℕ → List ℕ) → HoldsOn names contents held f → HoldsOn names (with_part contents part) later g) →
+    OnErr result ((contents : ℕ → List ℕ) → HoldsOn names contents held f → BeginsOn names (with_part contents part) g) → Puts part a b f g result
+puts_seen part names held later a b f g result same before stay after grown begun = record {
+  adds = ok_then result _ _ grown (λ puts contents holds.
+      subst (λ l. HoldsOn b.names (with_part contents part) l g) after
+      (subst (λ n. HoldsOn n (with_part contents part) later g) (same ∙ sym stay) (puts contents (seen contents holds))));
+  may = err_then result _ _ begun (λ puts contents holds.
+      subst (λ n. BeginsOn n (with_part contents part) g) (same ∙ sym stay) (puts contents (seen contents holds)));
+}
+  where
+    seen : (contents : ℕ → List ℕ) → HoldsOn a.names contents a.held f → HoldsOn names contents held f
+    seen contents holds =
+        subst (λ n. HoldsOn n contents held f) (sym same) (subst (λ l. HoldsOn a.names contents l f) (sym before) holds)
+
+-- 8. What stays
+
+pub stays_same : {Kept : Type 0} {files : Kept → Option Files} {write_faults read_faults : Kept → Option ℕ} {a : BooksNow} {f : Kept} →
+    Stays {T = Unit {0}} files write_faults read_faults a a f f (Ok tt)
+stays_same {files} {a} {f} = record { names = refl; places = refl; framed = framed_same a.names (files f); writes = refl; reads = refl }
+
+-- a call that comes after others fails over a sound shelf only where one of the files wasn't there before them
+pub stays_then : {Kept T U : Type 0} {files : Kept → Option Files} {write_faults read_faults : Kept → Option ℕ} {a b c : BooksNow} {f g h : Kept} {x : T}
+    {result : Result U DeviceBad} → Stays files write_faults read_faults a b f g (Ok x) → Stays files write_faults read_faults b c g h result →
+    Stays files write_faults read_faults a c f h result
+stays_then {files} {write_faults} {a} {b} {f} {g} {h} {result} one other = record {
+  names = other.names ∙ one.names;
+  places = other.places ∙ one.places;
+  framed = framed_then a.names b.names (files f) (files g) (files h) one.names one.framed other.framed;
+  writes = writes_then a.names b.names (files f) (files g) (write_faults f) (write_faults g) (write_faults h) result one.names one.framed one.writes other.writes;
+  reads = other.reads ∙ one.reads;
+}
+
+-- a fault in a call, which is answered
+pub stays_out : {Kept U : Type 0} {files : Kept → Option Files} {write_faults read_faults : Kept → Option ℕ} {a b : BooksNow} {f g : Kept} {e : DeviceBad}
+    {result : Result U DeviceBad} → IsErr result × IsErrAnd result (λ y. y ≡ e) → Stays {T = Unit {0}} files write_faults read_faults a b f g (Err e) →
+    Stays files write_faults read_faults a b f g result
+stays_out {files} {write_faults} {a} {f} {g} {e} {result} from one = record {
+  names = one.names;
+  places = one.places;
+  framed = one.framed;
+  writes = counted_out (Lacking a.names (files f)) (Lacking a.names (files f)) (write_faults f) (write_faults f) (write_faults g) e result from refl (λ lacking. lacking) one.writes;
+  reads = one.reads;
+}
+
+-- among files that are seen by their fields
+pub stays_seen : {Kept T : Type 0} {files : Kept → Option Files} {write_faults read_faults : Kept → Option ℕ} (names : List (List ℕ)) {a b : BooksNow} {f g : Kept}
+    {result : Result T DeviceBad} → names ≡ a.names → b.names ≡ a.names → b.places ≡ a.places → Framed names (files f) (files g) →
+    CountedUnless (Lacking names (files f)) (write_faults f) (write_faults g) result → read_faults g ≡ read_faults f →
+    Stays files write_faults read_faults a b f g result
+stays_seen {files} {write_faults} names {f = f} {g = g} {result = result} same stay places framed writes reads = record {
+  names = stay;
+  places = places;
+  framed = subst (λ n. Framed n (files f) (files g)) same framed;
+  writes = subst (λ n. CountedUnless (Lacking n (files f)) (write_faults f) (write_faults g) result) same writes;
+  reads = reads;
+}
+
+-- the files are still those of the run
+pub stays_for : {Kept T : Type 0} {files : Kept → Option Files} {write_faults read_faults : Kept → Option ℕ} {a b : BooksNow} {f g : Kept}
+    {result : Result T DeviceBad} (t : Network) → Stays files write_faults read_faults a b f g result → IsFor a t → IsFor b t
+stays_for t stays is = record { files = ap length stays.names ∙ is.files; table = stays.places ∙ is.table }
+
+pub in_run : (b : BooksNow) (t : Network) (k : ℕ) → IsFor b t → k < length b.names → k < length (files_of t)
+in_run b t k is within = subst (λ n. k < n) is.files within

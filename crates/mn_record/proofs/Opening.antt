@@ -15,12 +15,13 @@ use Rattle.mn_topo.specs.declared.steps.JournalEntry.{JournalEntry}
 use Rattle.mn_output_laws.specs.Files.{OutputFile, Journal, Labels, Deliveries, Frames, Said, files_of, file_name}
 use Rattle.mn_output_laws.specs.Files as file
 use Rattle.mn_output_laws.specs.Contents.{contents, whole, output, head_of, label_line, label_lines, raw_ipv4, ppp}
-use Rattle.mn_files.specs.Numbers.{file_at}
+use Rattle.mn_files.specs.Numbers.{IsNumber, file_at}
 use Rattle.mn_files.proofs.Finding.{is_there, frames_there}
 use Rattle.mn_record.specs.Recorded.{whole_at}
 use Rattle.mn_record.specs.Heads.{frame_heads}
-use Rattle.mn_record.specs.Parts.{in_file}
-use Rattle.mn_record.proofs.Same.{by_test}
+use Rattle.mn_record.specs.Adding.{only_in}
+use Rattle.mn_record.specs.Parts.{in_file, by_number}
+use Rattle.mn_record.proofs.Same.{by_test, in_place}
 
 -- 1. The files by their names
 
@@ -117,9 +118,15 @@ pub frames_within : (t : Network) (k l : ℕ) → k < length (files_of t) → fi
 frames_within t k l within is = frames_there t l (is_there t k (Frames l) within is)
 
 -- what the files begin with is their contents before the first step
-pub head_parts : (t : Network) (k : ℕ) → k < length (files_of t) →
+head_parts : (t : Network) (k : ℕ) → k < length (files_of t) →
     in_file (Some Deliveries) (header raw_ipv4) (file_at t k) ++ frame_heads (length t.links) (file_at t k) ≡ head_of (file_at t k)
 head_parts t k within = heads_are t (file_at t k) (λ l is. frames_within t k l within is)
+
+-- the header of deliveries, which is put by its file's number, and those of links
+pub heads_in : (t : Network) (number k : ℕ) → IsNumber t number Deliveries → k < length (files_of t) →
+    only_in number (header raw_ipv4) k ++ by_number t (frame_heads (length t.links)) k ≡ by_number t head_of k
+heads_in t number k is within =
+    ap (λ l. l ++ frame_heads (length t.links) (file_at t k)) (in_place t Deliveries number k (header raw_ipv4) is within) ∙ head_parts t k within
 
 -- 3. Labels
 

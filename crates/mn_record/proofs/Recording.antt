@@ -5,7 +5,8 @@ use Rattle.std.proofs.lemmas.Option.{none-some}
 use Rattle.std.specs.Option.{ForSome}
 use Rattle.mn_base.proofs.Bools.{and_left, and_right, at_most_tells}
 use Rattle.mn_edge.specs.Files.{Absent, Files, file}
-use Rattle.mn_edge.specs.Kept.{BeginsOn, Framed, Lacking}
+use Rattle.mn_edge.specs.declared.device.DeviceBad.{DeviceBad}
+use Rattle.mn_edge.specs.Kept.{BeginsOn, Lacking}
 use Rattle.mn_edge.specs.KeptLaws.{holds_there}
 use Rattle.mn_base.proofs.Rules.{some_is}
 use Rattle.mn_course_laws.specs.Course.{record_of, inputs_of}
@@ -18,10 +19,11 @@ use Rattle.mn_sched.specs.Playing.{After}
 use Rattle.mn_sched.specs.declared.line.Stopped.{Stopped}
 use Rattle.mn_sched.specs.declared.line.Stopped.TheVariants.{TooManySteps, Read, Write, NoMemory}
 use Rattle.mn_record.specs.Recorded.{BooksNow, IsFor, Records, RecordedAfter, contents_at, told_packets}
-use Rattle.mn_record.specs.Watched.{Holding, Beginning}
-use Rattle.mn_record.specs.Laws.{packets_are_there, same_packets}
+use Rattle.mn_record.specs.Watched.{Holding, Beginning, GoesOn}
+use Rattle.mn_record.specs.Laws.{packets_are_there, same_packets, packets_stay, holding_stays, goes_on_stays}
+use Rattle.mn_record.specs.Adding.{Stays}
 use Rattle.mn_record.specs.Parts.{RecordsLast, MayRecordLast}
-use Rattle.mn_record.proofs.Adding.{still_for}
+use Rattle.mn_record.proofs.Adding.{stays_for}
 
 -- a record's number is one of 1 to as many as there are
 pub record_within : (records nth : ℕ) → is_record records nth ≡ true → (1 ≤ nth) × (nth ≤ records)
@@ -66,27 +68,45 @@ recorded_after net books capture files packets (Err Read) same after = λ all to
 recorded_after net books capture files packets (Err Write) same after = λ all told. (after all told).1 all (same ∙ told)
 recorded_after net books capture files packets (Err NoMemory) same after = λ all told. after all told all (same ∙ told)
 
+-- a step changes no packet of the capture
+still_told : {Kept T : Type 0} {files : Kept → Option Files} {write_faults read_faults : Kept → Option ℕ} {old new : BooksNow} {before after : Kept}
+    {result : Result T DeviceBad} (all : List (List ℕ)) (capture : CaptureView) (other : List (List ℕ)) →
+    told_packets (files before) old.names capture ≡ Some all → Stays files write_faults read_faults old new before after result →
+    told_packets (files after) new.names capture ≡ Some other → all ≡ other
+still_told {files} {old} {before} {after} all capture other told stays said = some_is all other (sym told
+    ∙ sym (same_packets old.names capture (files before) (files after) stays.framed) ∙ ap (λ n. told_packets (files after) n capture) (sym stays.names) ∙ said)
+
 -- a step that is recorded
-pub step_holds : (net : NetNow) (all : List (List ℕ)) (old new : BooksNow) (capture : CaptureView) (before after : Option Files) →
-    told_packets before old.names capture ≡ Some all → new.names ≡ old.names → new.places ≡ old.places → Framed old.names before after →
-    Holding old capture before net.topology (but_last net.journal) → (IsFor old net.topology → RecordsLast net all old new before after) →
-    Holding new capture after net.topology net.journal
-step_holds net all old new capture before after told names places framed holding records = (
-  still_for old new net.topology names places holding.0,
-  λ other said.
-      let same : all ≡ other = some_is all other (sym told ∙ sym (same_packets old.names capture before after framed)
-      ∙ ap (λ n. told_packets after n capture) (sym names) ∙ said) in
-      subst (λ packets. Records net.topology net.journal packets new after) same (records holding.0 (holding.1 all told)),
+pub step_holds : {Kept T : Type 0} {files : Kept → Option Files} {write_faults read_faults : Kept → Option ℕ} {old new : BooksNow} {before after : Kept}
+    {result : Result T DeviceBad} (net : NetNow) (all : List (List ℕ)) (capture : CaptureView) → told_packets (files before) old.names capture ≡ Some all →
+    Stays files write_faults read_faults old new before after result → Holding old capture (files before) net.topology (but_last net.journal) →
+    (IsFor old net.topology → RecordsLast net all old new (files before) (files after)) → Holding new capture (files after) net.topology net.journal
+step_holds {files} {old} {new} {before} {after} net all capture told stays holding records = (
+  stays_for net.topology stays holding.0,
+  λ other said. subst (λ packets. Records net.topology net.journal packets new (files after)) (still_told all capture other told stays said)
+      (records holding.0 (holding.1 all told)),
 )
 
-pub step_begins : (net : NetNow) (all : List (List ℕ)) (old new : BooksNow) (capture : CaptureView) (before after : Option Files) →
-    told_packets before old.names capture ≡ Some all → new.names ≡ old.names → Framed old.names before after →
-    Holding old capture before net.topology (but_last net.journal) → (IsFor old net.topology → MayRecordLast net all old new before after) →
-    Beginning new capture after net.topology net.journal
-step_begins net all old new capture before after told names framed holding records = λ other said.
-    let same : all ≡ other = some_is all other (sym told ∙ sym (same_packets old.names capture before after framed)
-    ∙ ap (λ n. told_packets after n capture) (sym names) ∙ said) in
-    subst (λ packets. BeginsOn new.names (contents_at net.topology packets net.journal) after) same (records holding.0 (holding.1 all told))
+pub step_begins : {Kept T : Type 0} {files : Kept → Option Files} {write_faults read_faults : Kept → Option ℕ} {old new : BooksNow} {before after : Kept}
+    {result : Result T DeviceBad} (net : NetNow) (all : List (List ℕ)) (capture : CaptureView) → told_packets (files before) old.names capture ≡ Some all →
+    Stays files write_faults read_faults old new before after result → Holding old capture (files before) net.topology (but_last net.journal) →
+    (IsFor old net.topology → MayRecordLast net all old new (files before) (files after)) → Beginning new capture (files after) net.topology net.journal
+step_begins {files} {new} {after} net all capture told stays holding records = λ other said.
+    subst (λ packets. BeginsOn new.names (contents_at net.topology packets net.journal) (files after)) (still_told all capture other told stays said)
+    (records holding.0 (holding.1 all told))
+
+-- what is told and held where no file changed
+pub record Unmoved (books : BooksNow) (capture : CaptureView) (before after : Option Files) : Type 0 where
+  pub packets : told_packets after books.names capture ≡ told_packets before books.names capture
+  pub holding : (topology : Network) (journal : List JournalEntry) → Holding books capture before topology journal → Holding books capture after topology journal
+  pub goes_on : GoesOn books books capture capture before after
+
+pub unmoved : (books : BooksNow) (capture : CaptureView) (before after : Option Files) → after ≡ before → Unmoved books capture before after
+unmoved books capture before after same = record {
+  packets = packets_stay books.names capture before after same;
+  holding = λ topology journal. holding_stays books capture before after topology journal same;
+  goes_on = goes_on_stays books capture before after same;
+}
 
 -- no packets are told where the capture isn't there
 pub absent_untold : (files : Option Files) (names : List (List ℕ)) (capture : CaptureView) → Absent files capture.name → told_packets files names capture ≡ None

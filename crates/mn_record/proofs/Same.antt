@@ -1,6 +1,6 @@
 -- Files by their numbers.
 use Rattle.std.proofs.Common.{◌≡◌, ℕ, ◌<◌, ◌==◌, ◌&&◌, Bool, true, false, if◌then◌else◌, List, [], ◌++◌, length, zero, suc, ◌+◌, ◌-◌, ◌≤◌, Option}
-use Rattle.std.proofs.Common.{Some, None, refl, sym, ◌∙◌, ap, subst, append_assoc, arith}
+use Rattle.std.proofs.Common.{Some, None, refl, sym, ◌∙◌, ap, subst, append_assoc, arith, option_map}
 use Rattle.std.proofs.lemmas.List.{append-nil}
 use Rattle.mn_base.specs.declared.numbers.LinkNo.{LinkNo}
 use Rattle.mn_wiring.specs.declared.links.Dir.{Dir}
@@ -13,7 +13,7 @@ use Rattle.mn_sched.specs.Channel.TheVariants as channel
 use Rattle.mn_sched.specs.Told.{Told, told_at}
 use Rattle.mn_output_laws.specs.Files.{OutputFile, Journal, Labels, Deliveries, Frames, Said, files_of}
 use Rattle.mn_output_laws.specs.Files as file
-use Rattle.mn_files.specs.Numbers.{IsNumber, IsPlace, file_at}
+use Rattle.mn_files.specs.Numbers.{IsNumber, IsPlace, file_at, edge_places}
 use Rattle.mn_files.proofs.Places.{one_number}
 use Rattle.mn_record.specs.Adding.{only_in}
 use Rattle.mn_record.specs.Parts.{same_file, is_dir, in_file, file_for, piece_of, item_part, items_part, IsFileOf}
@@ -95,7 +95,7 @@ no_place t own k bytes none within = sym (ap (λ b. if b then bytes else []) (by
 -- 2. An item's file
 
 -- what an item adds to the file of its number
-pub placed_part : (t : Network) (tick number k : ℕ) (told : Told) → IsFileOf t (file_for told.channel) (Some number) → k < length (files_of t) →
+placed_part : (t : Network) (tick number k : ℕ) (told : Told) → IsFileOf t (file_for told.channel) (Some number) → k < length (files_of t) →
     only_in number (piece_of tick told.channel told.bytes) k ≡ item_part tick (Some told) (file_at t k)
 placed_part t tick number k told is within = by (file_for told.channel) refl is
   where
@@ -107,7 +107,7 @@ placed_part t tick number k told is within = by (file_for told.channel) refl is
         ∙ sym (ap (λ o. in_file o (piece_of tick told.channel told.bytes) (file_at t k)) e)
 
 -- one without a file adds nothing
-pub unplaced_part : (t : Network) (tick k : ℕ) (told : Told) → IsFileOf t (file_for told.channel) None → k < length (files_of t) →
+unplaced_part : (t : Network) (tick k : ℕ) (told : Told) → IsFileOf t (file_for told.channel) None → k < length (files_of t) →
     item_part tick (Some told) (file_at t k) ≡ []
 unplaced_part t tick k told is within = by (file_for told.channel) refl is
   where
@@ -117,6 +117,32 @@ unplaced_part t tick k told is within = by (file_for told.channel) refl is
     by (Some own) e has =
         ap (λ o. in_file o (piece_of tick told.channel told.bytes) (file_at t k)) e
         ∙ sym (no_place t own k (piece_of tick told.channel told.bytes) has within)
+
+-- what the net answered of an item, or of a delivery, as it is told
+pub some_told : {A B : Type 0} (f : A → B) (o : Option A) (a : A) (told : Option B) → o ≡ Some a → option_map f o ≡ told → Some (f a) ≡ told
+some_told f o a told is same = sym (ap (option_map f) is) ∙ same
+
+pub none_told : {A B : Type 0} (f : A → B) (o : Option A) (told : Option B) → o ≡ None → option_map f o ≡ told → None ≡ told
+none_told f o told is same = sym (ap (option_map f) is) ∙ same
+
+-- the file that was found for a channel
+pub file_found : (seen t : Network) (places : List ℕ) (own : Option OutputFile) (o found : Option ℕ) → seen ≡ t → o ≡ found →
+    (places ≡ edge_places seen → IsFileOf seen own o) → places ≡ edge_places t → IsFileOf t own found
+file_found seen t places own o found topology is finds table =
+    subst (λ u. IsFileOf u own found) topology (subst (λ x. IsFileOf seen own x) is (finds (table ∙ ap edge_places (sym topology))))
+
+-- an item that is written, by its bytes
+pub written_part : (t : Network) (tick number k : ℕ) (told : Told) (item : Option Told) (bytes : List ℕ) → Some told ≡ item →
+    bytes ≡ piece_of tick told.channel told.bytes → IsFileOf t (file_for told.channel) (Some number) → k < length (files_of t) →
+    only_in number bytes k ≡ item_part tick item (file_at t k)
+written_part t tick number k told item bytes is_told is_piece is_file within =
+    ap (λ l. only_in number l k) is_piece ∙ placed_part t tick number k told is_file within ∙ ap (λ o. item_part tick o (file_at t k)) is_told
+
+-- and one that is written to no file
+pub unwritten_part : (t : Network) (tick k : ℕ) (told : Told) (item : Option Told) → Some told ≡ item → IsFileOf t (file_for told.channel) None →
+    k < length (files_of t) → item_part tick item (file_at t k) ≡ []
+unwritten_part t tick k told item is_told no_file within =
+    sym (ap (λ o. item_part tick o (file_at t k)) is_told) ∙ unplaced_part t tick k told no_file within
 
 -- what is no frame is written as it is
 pub as_it_is : (tick : ℕ) (of : Channel) (bytes : List ℕ) → ((link : LinkNo) (dir : Dir) → of ≡ channel.Frame link dir → ⊥) → piece_of tick of bytes ≡ bytes

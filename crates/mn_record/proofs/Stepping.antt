@@ -1,6 +1,8 @@
 -- From what the calls of a step add to what the files are to hold.
 use Rattle.std.proofs.Common.{◌≡◌, ℕ, suc, ◌+◌, ◌-◌, ◌<◌, List, [], ◌∷◌, ◌++◌, length, take, slice_get}
-use Rattle.std.proofs.Common.{Option, Some, None, refl, sym, ◌∙◌, ap, subst, arith}
+use Rattle.std.proofs.Common.{Option, Some, None, Result, refl, sym, ◌∙◌, ap, subst, arith}
+use Rattle.std.specs.Borrow.{Bor}
+use Rattle.std.specs.Option.{option_copied}
 use Rattle.mn_edge.specs.Files.{Files}
 use Rattle.mn_edge.specs.Kept.{HoldsOn}
 use Rattle.mn_journal.specs.Lines.{line_of}
@@ -13,7 +15,7 @@ use Rattle.mn_ledger.specs.Lawful.{IsLawfulJournal}
 use Rattle.mn_course_laws.specs.Course.{inputs_of}
 use Rattle.mn_output_laws.specs.Moments.{Moment, journal_then, made}
 use Rattle.mn_output_laws.specs.Files.{OutputFile, Journal, Deliveries, files_of}
-use Rattle.mn_output_laws.specs.Contents.{contents, adds, delivery_record}
+use Rattle.mn_output_laws.specs.Contents.{contents, delivery_record}
 use Rattle.mn_output_laws.proofs.Adding.{adding}
 use Rattle.mn_files.specs.Numbers.{file_at}
 use Rattle.mn_files.proofs.Places.{journal_is, deliveries_are}
@@ -21,9 +23,9 @@ use Rattle.mn_sched.specs.Done.{Done}
 use Rattle.mn_net_laws.specs.Now.{NetNow, StandsFor}
 use Rattle.mn_sched.specs.Watching.{but_last, made_over}
 use Rattle.mn_record.specs.Recorded.{BooksNow, IsFor, contents_at}
-use Rattle.mn_record.specs.Adding.{Adds, MayAdd, with_part, only_in}
-use Rattle.mn_record.specs.Parts.{in_file, items_part, by_number, IsMade, RecordsLast, MayRecordLast}
-use Rattle.mn_record.proofs.Adding.{holds_as, begins_as}
+use Rattle.mn_record.specs.Adding.{Puts, with_part, only_in}
+use Rattle.mn_record.specs.Parts.{in_file, items_part, by_number, IsMade, RecordsLast, RecordsStep}
+use Rattle.mn_record.proofs.Adding.{holds_as, begins_as, ok_then, err_then}
 use Rattle.mn_record.proofs.Same.{in_place}
 use Rattle.mn_record.proofs.Steps.{lawful_step_adds, made_then_is}
 
@@ -45,12 +47,18 @@ none_last (x ∷ y ∷ more) h =
     none_last (y ∷ more) (ap (slice_get (x ∷ y ∷ more)) (let e : suc (length (y ∷ more) - 1) ≡ length (x ∷ y ∷ more) - 1 = omega arith in e) ∙ h) in
     absurd (let e : y ∷ more ≡ [] = rest in cc)
 
--- what the three calls of a step add, by the file's number
+-- what the items of a step add, by the file's number
+abbrev pub items_in : NetNow → List (List ℕ) → JournalEntry → Done → ℕ → List ℕ
+items_in net all entry made = by_number net.topology (items_part net.topology net.journal (inputs_of all net.journal) entry.tick made.first (made.end - made.first))
+
+-- with what it delivered
+abbrev pub behind_line : NetNow → List (List ℕ) → JournalEntry → Done → ℕ → List ℕ
+behind_line net all entry made k =
+    only_in 2 (delivery_record entry.tick (packets_of net.topology net.journal (inputs_of all net.journal)).delivered) k ++ items_in net all entry made k
+
+-- what the three calls of a step add
 abbrev pub parts_of : NetNow → List (List ℕ) → JournalEntry → Done → ℕ → List ℕ
-parts_of net all entry made k =
-    only_in 0 (line_of net.topology entry) k
-    ++ (only_in 2 (delivery_record entry.tick (packets_of net.topology net.journal (inputs_of all net.journal)).delivered) k
-    ++ by_number net.topology (items_part net.topology net.journal (inputs_of all net.journal) entry.tick made.first (made.end - made.first)) k)
+parts_of net all entry made k = only_in 0 (line_of net.topology entry) k ++ behind_line net all entry made k
 
 -- is what the step adds
 pub contents_grow : (net : NetNow) (all : List (List ℕ)) (entry : JournalEntry) (done : Done) (k : ℕ) → IsLawful net.topology →
@@ -89,23 +97,27 @@ contents_grow net all entry done k lawful stands is_made last within =
     ∙ sym (adding t all (but_last net.journal) entry out) ∙ ap (λ j. contents t all j out) (sym journal)
 
 -- the three calls record the step
-pub recorded : (net : NetNow) (all : List (List ℕ)) (entry : JournalEntry) (done : Done) (a d : BooksNow) (f g : Option Files) → IsLawful net.topology →
-    StandsFor net (inputs_of all net.journal) → IsMade net all done → slice_get net.journal (length net.journal - 1) ≡ Some entry → IsFor a net.topology →
-    d.names ≡ a.names → Adds (parts_of net all entry done) a d f g → RecordsLast net all a d f g
-recorded net all entry done a d f g lawful stands is_made last is names adds = λ holds.
-    holds_as d.names (with_part (contents_at net.topology all (but_last net.journal)) (parts_of net all entry done))
-    (contents_at net.topology all net.journal) d.held g
-    (λ k within. contents_grow net all entry done k lawful stands is_made last (subst (λ n. k < n) (ap length names ∙ is.files) within))
-    (adds (contents_at net.topology all (but_last net.journal)) holds)
+pub step_recorded : {E : Type 0} (net : NetNow) (all : List (List ℕ)) (entry : JournalEntry) (done : Done) {topology : Network} {a d : BooksNow}
+    {f g : Option Files} {result : Result (Unit {0}) E} → topology ≡ net.topology → IsLawful topology → StandsFor net (inputs_of all net.journal) →
+    IsMade net all done → slice_get net.journal (length net.journal - 1) ≡ Some entry → IsFor d net.topology → Puts (parts_of net all entry done) a d f g result →
+    RecordsStep net all a d f g result
+step_recorded net all entry done {d = d} {g = g} {result = result} same laws stands is_made last is puts = record {
+  records = ok_then result _ _ puts.adds (λ adds holds.
+      holds_as d.names (with_part before (parts_of net all entry done)) (contents_at net.topology all net.journal) d.held g grow (adds before holds));
+  may = err_then result _ _ puts.may (λ may holds.
+      begins_as d.names (with_part before (parts_of net all entry done)) (contents_at net.topology all net.journal) g grow (may before holds));
+}
+  where
+    before : ℕ → List ℕ
+    before = contents_at net.topology all (but_last net.journal)
 
-pub may_recorded : (net : NetNow) (all : List (List ℕ)) (entry : JournalEntry) (done : Done) (a d : BooksNow) (f g : Option Files) → IsLawful net.topology →
-    StandsFor net (inputs_of all net.journal) → IsMade net all done → slice_get net.journal (length net.journal - 1) ≡ Some entry → IsFor a net.topology →
-    d.names ≡ a.names → MayAdd (parts_of net all entry done) a d f g → MayRecordLast net all a d f g
-may_recorded net all entry done a d f g lawful stands is_made last is names adds = λ holds.
-    begins_as d.names (with_part (contents_at net.topology all (but_last net.journal)) (parts_of net all entry done))
-    (contents_at net.topology all net.journal) g
-    (λ k within. contents_grow net all entry done k lawful stands is_made last (subst (λ n. k < n) (ap length names ∙ is.files) within))
-    (adds (contents_at net.topology all (but_last net.journal)) holds)
+    grow : (k : ℕ) → k < length d.names → with_part before (parts_of net all entry done) k ≡ contents_at net.topology all net.journal k
+    grow k within = contents_grow net all entry done k (subst IsLawful same laws) stands is_made last (subst (λ n. k < n) is.files within)
+
+-- the last entry, by what was answered
+pub entry_is : (seen journal : List JournalEntry) (o : Option (Bor JournalEntry)) (found : Option (Bor JournalEntry)) → seen ≡ journal →
+    option_copied o ≡ slice_get seen (length seen - 1) → o ≡ found → slice_get journal (length journal - 1) ≡ option_copied found
+entry_is seen journal o found same last is = sym (ap (λ j. slice_get j (length j - 1)) same) ∙ sym last ∙ ap option_copied is
 
 -- where there is no step, there is nothing to record
 pub nothing_recorded : (net : NetNow) (all : List (List ℕ)) (a : BooksNow) (f : Option Files) → slice_get net.journal (length net.journal - 1) ≡ None →

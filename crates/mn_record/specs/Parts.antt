@@ -1,5 +1,5 @@
 -- What an entry, a delivery and the items that a step made add to each file, by the file's number.
-use Rattle.std.specs.Prelude.{◌≡◌, ℕ, zero, suc, ◌+◌, ◌==◌, ◌&&◌, Bool, true, false, if◌then◌else◌, List, [], ◌++◌, Option, Some, None}
+use Rattle.std.specs.Prelude.{◌≡◌, ℕ, zero, suc, ◌+◌, ◌==◌, ◌&&◌, Bool, true, false, if◌then◌else◌, List, [], ◌++◌, Option, Some, None, Result, OnOk, OnErr}
 use Rattle.mn_wiring.specs.declared.links.Dir.{Dir}
 use Rattle.mn_wiring.specs.declared.links.Dir.TheVariants.{Forth, Back}
 use Rattle.mn_pcap.specs.Format.{record_of}
@@ -89,3 +89,8 @@ abbrev pub MayRecordLast : NetNow → List (List ℕ) → BooksNow → BooksNow 
 MayRecordLast net all old new before after =
     HoldsOn old.names (contents_at net.topology all (but_last net.journal)) old.held before →
     BeginsOn new.names (contents_at net.topology all net.journal) after
+
+-- both, by what a call answered
+pub record RecordsStep {T E : Type 0} (net : NetNow) (all : List (List ℕ)) (old new : BooksNow) (before after : Option Files) (result : Result T E) : Type 0 where
+  pub records : OnOk result (RecordsLast net all old new before after)
+  pub may : OnErr result (MayRecordLast net all old new before after)

@@ -6,7 +6,7 @@ ghost use Rattle.mn_ledger.specs.Prelude.{nodes_of, wiring_of, JournalEntry};
 ghost use Rattle.mn_record.specs.Prelude.{Counted, CountedUnless, Files, Framed, Lacking, named, laid, PartWritten, given, StandsFor, inputs_of, Frames, files_of, file_name, head_of, label_lines, ppp, header};
 ghost use Rattle.mn_output_laws.specs.Contents.{output as run_output};
 ghost use Rattle.mn_record.specs.Recorded.{IsFor, IsFresh, Records, whole_at};
-ghost use Rattle.mn_record.specs.Adding.{Adds, MayAdd, only_in};
+ghost use Rattle.mn_record.specs.Adding.{Puts, Stays, only_in};
 ghost use Rattle.mn_record.specs.Heads.{frame_heads};
 ghost use Rattle.mn_record.specs.Parts.{by_number, in_file};
 
@@ -49,14 +49,8 @@ fn put_frame_head<S: Shelf>(
     shelf: &mut S,
     output: &mut Output,
 ) -> Result<(), DeviceBad>
-    ensures adds { OnOk result (IsFor output.old topology.now → Adds (by_number topology.now (in_file (Some (Frames link.0)) (header ppp))) output.old output.new (S.files shelf.old) (S.files shelf.new)) }
-    ensures may { OnErr result (IsFor output.old topology.now → MayAdd (by_number topology.now (in_file (Some (Frames link.0)) (header ppp))) output.old output.new (S.files shelf.old) (S.files shelf.new)) }
-    ensures names { output.new.names ≡ output.old.names }
-    ensures places { output.new.places ≡ output.old.places }
-    ensures framed { Framed output.old.names (S.files shelf.old) (S.files shelf.new) }
-    ensures writes { CountedUnless (Lacking output.old.names (S.files shelf.old))
-        (S.write_faults shelf.old) (S.write_faults shelf.new) result }
-    ensures reads { S.read_faults shelf.new ≡ S.read_faults shelf.old }
+    ensures puts { IsFor output.old topology.now → Puts (by_number topology.now (in_file (Some (Frames link.0)) (header ppp))) output.old output.new (S.files shelf.old) (S.files shelf.new) result }
+    ensures stays { Stays S.files S.write_faults S.read_faults output.old output.new shelf.old shelf.new result }
 {
     match find_frames(topology, link) {
         Some(file) => output.put_header(shelf, file, PPP),
@@ -70,14 +64,8 @@ fn put_frame_heads<S: Shelf>(
     shelf: &mut S,
     output: &mut Output,
 ) -> Result<(), DeviceBad>
-    ensures adds { OnOk result (IsFor output.old topology.now → Adds (by_number topology.now (frame_heads (length topology.now.links))) output.old output.new (S.files shelf.old) (S.files shelf.new)) }
-    ensures may { OnErr result (IsFor output.old topology.now → MayAdd (by_number topology.now (frame_heads (length topology.now.links))) output.old output.new (S.files shelf.old) (S.files shelf.new)) }
-    ensures names { output.new.names ≡ output.old.names }
-    ensures places { output.new.places ≡ output.old.places }
-    ensures framed { Framed output.old.names (S.files shelf.old) (S.files shelf.new) }
-    ensures writes { CountedUnless (Lacking output.old.names (S.files shelf.old))
-        (S.write_faults shelf.old) (S.write_faults shelf.new) result }
-    ensures reads { S.read_faults shelf.new ≡ S.read_faults shelf.old }
+    ensures puts { IsFor output.old topology.now → Puts (by_number topology.now (frame_heads (length topology.now.links))) output.old output.new (S.files shelf.old) (S.files shelf.new) result }
+    ensures stays { Stays S.files S.write_faults S.read_faults output.old output.new shelf.old shelf.new result }
 {
     topology.laws();
     for link in 0..topology.links().len() {
@@ -92,14 +80,8 @@ fn put_heads<S: Shelf>(
     shelf: &mut S,
     output: &mut Output,
 ) -> Result<(), DeviceBad>
-    ensures adds { OnOk result (IsFor output.old topology.now → Adds (by_number topology.now head_of) output.old output.new (S.files shelf.old) (S.files shelf.new)) }
-    ensures may { OnErr result (IsFor output.old topology.now → MayAdd (by_number topology.now head_of) output.old output.new (S.files shelf.old) (S.files shelf.new)) }
-    ensures names { output.new.names ≡ output.old.names }
-    ensures places { output.new.places ≡ output.old.places }
-    ensures framed { Framed output.old.names (S.files shelf.old) (S.files shelf.new) }
-    ensures writes { CountedUnless (Lacking output.old.names (S.files shelf.old))
-        (S.write_faults shelf.old) (S.write_faults shelf.new) result }
-    ensures reads { S.read_faults shelf.new ≡ S.read_faults shelf.old }
+    ensures puts { IsFor output.old topology.now → Puts (by_number topology.now head_of) output.old output.new (S.files shelf.old) (S.files shelf.new) result }
+    ensures stays { Stays S.files S.write_faults S.read_faults output.old output.new shelf.old shelf.new result }
 {
     output.put_header(shelf, deliveries_file(), RAW_IPV4)?;
     put_frame_heads(topology, shelf, output)
@@ -113,14 +95,8 @@ fn put_labels_of<S: Shelf>(
     shelf: &mut S,
     output: &mut Output,
 ) -> Result<(), DeviceBad>
-    ensures adds { OnOk result (Adds (only_in 1 (label_lines topology.now node.0 givings.now)) output.old output.new (S.files shelf.old) (S.files shelf.new)) }
-    ensures may { OnErr result (MayAdd (only_in 1 (label_lines topology.now node.0 givings.now)) output.old output.new (S.files shelf.old) (S.files shelf.new)) }
-    ensures names { output.new.names ≡ output.old.names }
-    ensures places { output.new.places ≡ output.old.places }
-    ensures framed { Framed output.old.names (S.files shelf.old) (S.files shelf.new) }
-    ensures writes { CountedUnless (Lacking output.old.names (S.files shelf.old))
-        (S.write_faults shelf.old) (S.write_faults shelf.new) result }
-    ensures reads { S.read_faults shelf.new ≡ S.read_faults shelf.old }
+    ensures puts { Puts (only_in 1 (label_lines topology.now node.0 givings.now)) output.old output.new (S.files shelf.old) (S.files shelf.new) result }
+    ensures stays { Stays S.files S.write_faults S.read_faults output.old output.new shelf.old shelf.new result }
 {
     for giving in givings {
         output.put_label(shelf, topology, node, *giving)?;
@@ -131,16 +107,9 @@ fn put_labels_of<S: Shelf>(
 /// Puts the lines of all labels that were given.
 fn put_labels<S: Shelf>(net: &Net, shelf: &mut S, output: &mut Output) -> Result<(), DeviceBad>
     requires { net.now.failed ≡ false }
-    ensures adds { OnOk result (Adds (only_in 1 (flat_map (λ node. label_lines net.now.topology node (given net.now.topology net.now.journal node).given) (nodes_of (wiring_of net.now.topology))))
-        output.old output.new (S.files shelf.old) (S.files shelf.new)) }
-    ensures may { OnErr result (MayAdd (only_in 1 (flat_map (λ node. label_lines net.now.topology node (given net.now.topology net.now.journal node).given) (nodes_of (wiring_of net.now.topology))))
-        output.old output.new (S.files shelf.old) (S.files shelf.new)) }
-    ensures names { output.new.names ≡ output.old.names }
-    ensures places { output.new.places ≡ output.old.places }
-    ensures framed { Framed output.old.names (S.files shelf.old) (S.files shelf.new) }
-    ensures writes { CountedUnless (Lacking output.old.names (S.files shelf.old))
-        (S.write_faults shelf.old) (S.write_faults shelf.new) result }
-    ensures reads { S.read_faults shelf.new ≡ S.read_faults shelf.old }
+    ensures puts { Puts (only_in 1 (flat_map (λ node. label_lines net.now.topology node (given net.now.topology net.now.journal node).given) (nodes_of (wiring_of net.now.topology))))
+        output.old output.new (S.files shelf.old) (S.files shelf.new) result }
+    ensures stays { Stays S.files S.write_faults S.read_faults output.old output.new shelf.old shelf.new result }
 {
     let topology = net.topology();
     topology.laws();

@@ -1,7 +1,7 @@
 //! The files, by number, and what waits for them.
 ghost use Rattle.std.specs.Prelude.{◌≡◌, ◌++◌, ◌<◌, ◌^◌, ℕ, List, [], true, length, replicate, IfOk, OnOk, OnErr, IsTrue};
 ghost use Rattle.mn_record.specs.Prelude.{CountedUnless, Files, BeginsOn, Framed, HoldsOn, Lacking, none_held, all_differ, texts, entry_fits, line_of, label_line, header, record_of, edge_places};
-ghost use Rattle.mn_record.specs.Adding.{Adds, MayAdd, only_in};
+ghost use Rattle.mn_record.specs.Adding.{Puts, Stays, only_in};
 ghost use Rattle.mn_record.specs.Parts.{file_for, IsFileOf};
 
 use crate::capture_record::{CaptureRecord, record_header};
@@ -15,7 +15,7 @@ use mn_topo::{JournalEntry, Topology};
 use std::alloc::{AllocError, Global};
 use std::marker::Model;
 
-/// A packet of more bytes isn't copied on its way into its file.
+/// The record of a packet of more bytes is put in pieces: a line that finds no room is taken back and copied, a piece is split.
 const MOST_JOINED: usize = 2_048;
 
 /// The files of a run.
@@ -83,14 +83,8 @@ impl Output {
         file: u32,
         piece: &[u8],
     ) -> Result<(), DeviceBad>
-        ensures adds { OnOk result (Adds (only_in file piece.now) self.old self.new (S.files shelf.old) (S.files shelf.new)) }
-        ensures may { OnErr result (MayAdd (only_in file piece.now) self.old self.new (S.files shelf.old) (S.files shelf.new)) }
-        ensures names { self.new.names ≡ self.old.names }
-        ensures places { self.new.places ≡ self.old.places }
-        ensures framed { Framed self.old.names (S.files shelf.old) (S.files shelf.new) }
-        ensures writes { CountedUnless (Lacking self.old.names (S.files shelf.old))
-            (S.write_faults shelf.old) (S.write_faults shelf.new) result }
-        ensures reads { S.read_faults shelf.new ≡ S.read_faults shelf.old }
+        ensures puts { Puts (only_in file piece.now) self.old self.new (S.files shelf.old) (S.files shelf.new) result }
+        ensures stays { Stays S.files S.write_faults S.read_faults self.old self.new shelf.old shelf.new result }
     {
         if file as usize >= self.names.len() {
             return Ok(());
@@ -106,14 +100,8 @@ impl Output {
         file: u32,
         line: &L,
     ) -> Result<(), DeviceBad>
-        ensures adds { OnOk result (Adds (only_in file (L.text line.now)) self.old self.new (S.files shelf.old) (S.files shelf.new)) }
-        ensures may { OnErr result (MayAdd (only_in file (L.text line.now)) self.old self.new (S.files shelf.old) (S.files shelf.new)) }
-        ensures names { self.new.names ≡ self.old.names }
-        ensures places { self.new.places ≡ self.old.places }
-        ensures framed { Framed self.old.names (S.files shelf.old) (S.files shelf.new) }
-        ensures writes { CountedUnless (Lacking self.old.names (S.files shelf.old))
-            (S.write_faults shelf.old) (S.write_faults shelf.new) result }
-        ensures reads { S.read_faults shelf.new ≡ S.read_faults shelf.old }
+        ensures puts { Puts (only_in file (L.text line.now)) self.old self.new (S.files shelf.old) (S.files shelf.new) result }
+        ensures stays { Stays S.files S.write_faults S.read_faults self.old self.new shelf.old shelf.new result }
     {
         if file as usize >= self.names.len() {
             return Ok(());
@@ -130,14 +118,8 @@ impl Output {
         entry: &JournalEntry,
     ) -> Result<(), DeviceBad>
         requires { entry_fits topology.now entry.now ≡ true }
-        ensures adds { OnOk result (Adds (only_in 0 (line_of topology.now entry.now)) self.old self.new (S.files shelf.old) (S.files shelf.new)) }
-        ensures may { OnErr result (MayAdd (only_in 0 (line_of topology.now entry.now)) self.old self.new (S.files shelf.old) (S.files shelf.new)) }
-        ensures names { self.new.names ≡ self.old.names }
-        ensures places { self.new.places ≡ self.old.places }
-        ensures framed { Framed self.old.names (S.files shelf.old) (S.files shelf.new) }
-        ensures writes { CountedUnless (Lacking self.old.names (S.files shelf.old))
-            (S.write_faults shelf.old) (S.write_faults shelf.new) result }
-        ensures reads { S.read_faults shelf.new ≡ S.read_faults shelf.old }
+        ensures puts { Puts (only_in 0 (line_of topology.now entry.now)) self.old self.new (S.files shelf.old) (S.files shelf.new) result }
+        ensures stays { Stays S.files S.write_faults S.read_faults self.old self.new shelf.old shelf.new result }
     {
         self.put_line(shelf, journal_file(), &JournalLine { topology, entry })
     }
@@ -149,14 +131,8 @@ impl Output {
         file: u32,
         link: u32,
     ) -> Result<(), DeviceBad>
-        ensures adds { OnOk result (Adds (only_in file (header link)) self.old self.new (S.files shelf.old) (S.files shelf.new)) }
-        ensures may { OnErr result (MayAdd (only_in file (header link)) self.old self.new (S.files shelf.old) (S.files shelf.new)) }
-        ensures names { self.new.names ≡ self.old.names }
-        ensures places { self.new.places ≡ self.old.places }
-        ensures framed { Framed self.old.names (S.files shelf.old) (S.files shelf.new) }
-        ensures writes { CountedUnless (Lacking self.old.names (S.files shelf.old))
-            (S.write_faults shelf.old) (S.write_faults shelf.new) result }
-        ensures reads { S.read_faults shelf.new ≡ S.read_faults shelf.old }
+        ensures puts { Puts (only_in file (header link)) self.old self.new (S.files shelf.old) (S.files shelf.new) result }
+        ensures stays { Stays S.files S.write_faults S.read_faults self.old self.new shelf.old shelf.new result }
     {
         self.put_line(shelf, file, &CaptureHeader { link })
     }
@@ -169,14 +145,8 @@ impl Output {
         node: NodeNo,
         giving: Given,
     ) -> Result<(), DeviceBad>
-        ensures adds { OnOk result (Adds (only_in 1 (label_line topology.now node.0 giving)) self.old self.new (S.files shelf.old) (S.files shelf.new)) }
-        ensures may { OnErr result (MayAdd (only_in 1 (label_line topology.now node.0 giving)) self.old self.new (S.files shelf.old) (S.files shelf.new)) }
-        ensures names { self.new.names ≡ self.old.names }
-        ensures places { self.new.places ≡ self.old.places }
-        ensures framed { Framed self.old.names (S.files shelf.old) (S.files shelf.new) }
-        ensures writes { CountedUnless (Lacking self.old.names (S.files shelf.old))
-            (S.write_faults shelf.old) (S.write_faults shelf.new) result }
-        ensures reads { S.read_faults shelf.new ≡ S.read_faults shelf.old }
+        ensures puts { Puts (only_in 1 (label_line topology.now node.0 giving)) self.old self.new (S.files shelf.old) (S.files shelf.new) result }
+        ensures stays { Stays S.files S.write_faults S.read_faults self.old self.new shelf.old shelf.new result }
     {
         self.put_line(
             shelf,
@@ -199,14 +169,8 @@ impl Output {
         front: &[u8],
         packet: &[u8],
     ) -> Result<(), DeviceBad>
-        ensures adds { OnOk result (Adds (only_in file (record_of tick (front.now ++ packet.now))) self.old self.new (S.files shelf.old) (S.files shelf.new)) }
-        ensures may { OnErr result (MayAdd (only_in file (record_of tick (front.now ++ packet.now))) self.old self.new (S.files shelf.old) (S.files shelf.new)) }
-        ensures names { self.new.names ≡ self.old.names }
-        ensures places { self.new.places ≡ self.old.places }
-        ensures framed { Framed self.old.names (S.files shelf.old) (S.files shelf.new) }
-        ensures writes { CountedUnless (Lacking self.old.names (S.files shelf.old))
-            (S.write_faults shelf.old) (S.write_faults shelf.new) result }
-        ensures reads { S.read_faults shelf.new ≡ S.read_faults shelf.old }
+        ensures puts { Puts (only_in file (record_of tick (front.now ++ packet.now))) self.old self.new (S.files shelf.old) (S.files shelf.new) result }
+        ensures stays { Stays S.files S.write_faults S.read_faults self.old self.new shelf.old shelf.new result }
     {
         if packet.len() > MOST_JOINED {
             self.put_parts(shelf, file, tick, front, packet)
@@ -225,14 +189,8 @@ impl Output {
         front: &[u8],
         packet: &[u8],
     ) -> Result<(), DeviceBad>
-        ensures adds { OnOk result (Adds (only_in file (record_of tick (front.now ++ packet.now))) self.old self.new (S.files shelf.old) (S.files shelf.new)) }
-        ensures may { OnErr result (MayAdd (only_in file (record_of tick (front.now ++ packet.now))) self.old self.new (S.files shelf.old) (S.files shelf.new)) }
-        ensures names { self.new.names ≡ self.old.names }
-        ensures places { self.new.places ≡ self.old.places }
-        ensures framed { Framed self.old.names (S.files shelf.old) (S.files shelf.new) }
-        ensures writes { CountedUnless (Lacking self.old.names (S.files shelf.old))
-            (S.write_faults shelf.old) (S.write_faults shelf.new) result }
-        ensures reads { S.read_faults shelf.new ≡ S.read_faults shelf.old }
+        ensures puts { Puts (only_in file (record_of tick (front.now ++ packet.now))) self.old self.new (S.files shelf.old) (S.files shelf.new) result }
+        ensures stays { Stays S.files S.write_faults S.read_faults self.old self.new shelf.old shelf.new result }
     {
         self.put_line(
             shelf,
@@ -245,7 +203,7 @@ impl Output {
         )
     }
 
-    /// The same, in three pieces, none of which is copied on its way.
+    /// The same, in three pieces: none is taken back where there is no room for all of it.
     fn put_parts<S: Shelf>(
         &mut self,
         shelf: &mut S,
@@ -254,14 +212,8 @@ impl Output {
         front: &[u8],
         packet: &[u8],
     ) -> Result<(), DeviceBad>
-        ensures adds { OnOk result (Adds (only_in file (record_of tick (front.now ++ packet.now))) self.old self.new (S.files shelf.old) (S.files shelf.new)) }
-        ensures may { OnErr result (MayAdd (only_in file (record_of tick (front.now ++ packet.now))) self.old self.new (S.files shelf.old) (S.files shelf.new)) }
-        ensures names { self.new.names ≡ self.old.names }
-        ensures places { self.new.places ≡ self.old.places }
-        ensures framed { Framed self.old.names (S.files shelf.old) (S.files shelf.new) }
-        ensures writes { CountedUnless (Lacking self.old.names (S.files shelf.old))
-            (S.write_faults shelf.old) (S.write_faults shelf.new) result }
-        ensures reads { S.read_faults shelf.new ≡ S.read_faults shelf.old }
+        ensures puts { Puts (only_in file (record_of tick (front.now ++ packet.now))) self.old self.new (S.files shelf.old) (S.files shelf.new) result }
+        ensures stays { Stays S.files S.write_faults S.read_faults self.old self.new shelf.old shelf.new result }
     {
         self.put(
             shelf,

@@ -1,9 +1,9 @@
 //! What a step adds to the files.
-ghost use Rattle.std.specs.Prelude.{◌≡◌, ◌-◌, ℕ, List, OnOk, OnErr};
-ghost use Rattle.mn_record.specs.Prelude.{CountedUnless, Framed, Lacking, packets_of, told_at, StandsFor, inputs_of, delivery_record, LastFits};
+ghost use Rattle.std.specs.Prelude.{◌-◌, ℕ, List};
+ghost use Rattle.mn_record.specs.Prelude.{packets_of, told_at, StandsFor, inputs_of, delivery_record, LastFits};
 ghost use Rattle.mn_record.specs.Recorded.{IsFor};
-ghost use Rattle.mn_record.specs.Adding.{Adds, MayAdd, only_in};
-ghost use Rattle.mn_record.specs.Parts.{by_number, item_part, items_part, IsMade, RecordsLast, MayRecordLast};
+ghost use Rattle.mn_record.specs.Adding.{Puts, Stays, only_in};
+ghost use Rattle.mn_record.specs.Parts.{by_number, item_part, items_part, IsMade, RecordsStep};
 
 use crate::output::Output;
 use mn_edge::{DeviceBad, Shelf};
@@ -20,16 +20,9 @@ fn write_delivery<S: Shelf>(
     shelf: &mut S,
     output: &mut Output,
 ) -> Result<(), DeviceBad>
-    ensures adds { OnOk result ((inputs : List (List ℕ)) → StandsFor net.now inputs →
-        Adds (only_in 2 (delivery_record tick (packets_of net.now.topology net.now.journal inputs).delivered)) output.old output.new (S.files shelf.old) (S.files shelf.new)) }
-    ensures may { OnErr result ((inputs : List (List ℕ)) → StandsFor net.now inputs →
-        MayAdd (only_in 2 (delivery_record tick (packets_of net.now.topology net.now.journal inputs).delivered)) output.old output.new (S.files shelf.old) (S.files shelf.new)) }
-    ensures names { output.new.names ≡ output.old.names }
-    ensures places { output.new.places ≡ output.old.places }
-    ensures framed { Framed output.old.names (S.files shelf.old) (S.files shelf.new) }
-    ensures writes { CountedUnless (Lacking output.old.names (S.files shelf.old))
-        (S.write_faults shelf.old) (S.write_faults shelf.new) result }
-    ensures reads { S.read_faults shelf.new ≡ S.read_faults shelf.old }
+    ensures puts { (inputs : List (List ℕ)) → StandsFor net.now inputs →
+        Puts (only_in 2 (delivery_record tick (packets_of net.now.topology net.now.journal inputs).delivered)) output.old output.new (S.files shelf.old) (S.files shelf.new) result }
+    ensures stays { Stays S.files S.write_faults S.read_faults output.old output.new shelf.old shelf.new result }
 {
     match net.delivered() {
         Some(packet) => output.put_record(shelf, deliveries_file(), tick, &[], packet),
@@ -45,16 +38,9 @@ fn write_item<S: Shelf>(
     shelf: &mut S,
     output: &mut Output,
 ) -> Result<(), DeviceBad>
-    ensures adds { OnOk result ((inputs : List (List ℕ)) → StandsFor net.now inputs → IsFor output.old net.now.topology →
-        Adds (by_number net.now.topology (item_part tick (told_at net.now.topology net.now.journal inputs number))) output.old output.new (S.files shelf.old) (S.files shelf.new)) }
-    ensures may { OnErr result ((inputs : List (List ℕ)) → StandsFor net.now inputs → IsFor output.old net.now.topology →
-        MayAdd (by_number net.now.topology (item_part tick (told_at net.now.topology net.now.journal inputs number))) output.old output.new (S.files shelf.old) (S.files shelf.new)) }
-    ensures names { output.new.names ≡ output.old.names }
-    ensures places { output.new.places ≡ output.old.places }
-    ensures framed { Framed output.old.names (S.files shelf.old) (S.files shelf.new) }
-    ensures writes { CountedUnless (Lacking output.old.names (S.files shelf.old))
-        (S.write_faults shelf.old) (S.write_faults shelf.new) result }
-    ensures reads { S.read_faults shelf.new ≡ S.read_faults shelf.old }
+    ensures puts { (inputs : List (List ℕ)) → StandsFor net.now inputs → IsFor output.old net.now.topology →
+        Puts (by_number net.now.topology (item_part tick (told_at net.now.topology net.now.journal inputs number))) output.old output.new (S.files shelf.old) (S.files shelf.new) result }
+    ensures stays { Stays S.files S.write_faults S.read_faults output.old output.new shelf.old shelf.new result }
 {
     let Some(item) = net.item(number) else {
         return Ok(());
@@ -76,16 +62,9 @@ fn write_items<S: Shelf>(
     shelf: &mut S,
     output: &mut Output,
 ) -> Result<(), DeviceBad>
-    ensures adds { OnOk result ((inputs : List (List ℕ)) → StandsFor net.now inputs → IsFor output.old net.now.topology →
-        Adds (by_number net.now.topology (items_part net.now.topology net.now.journal inputs tick made.first (made.end - made.first))) output.old output.new (S.files shelf.old) (S.files shelf.new)) }
-    ensures may { OnErr result ((inputs : List (List ℕ)) → StandsFor net.now inputs → IsFor output.old net.now.topology →
-        MayAdd (by_number net.now.topology (items_part net.now.topology net.now.journal inputs tick made.first (made.end - made.first))) output.old output.new (S.files shelf.old) (S.files shelf.new)) }
-    ensures names { output.new.names ≡ output.old.names }
-    ensures places { output.new.places ≡ output.old.places }
-    ensures framed { Framed output.old.names (S.files shelf.old) (S.files shelf.new) }
-    ensures writes { CountedUnless (Lacking output.old.names (S.files shelf.old))
-        (S.write_faults shelf.old) (S.write_faults shelf.new) result }
-    ensures reads { S.read_faults shelf.new ≡ S.read_faults shelf.old }
+    ensures puts { (inputs : List (List ℕ)) → StandsFor net.now inputs → IsFor output.old net.now.topology →
+        Puts (by_number net.now.topology (items_part net.now.topology net.now.journal inputs tick made.first (made.end - made.first))) output.old output.new (S.files shelf.old) (S.files shelf.new) result }
+    ensures stays { Stays S.files S.write_faults S.read_faults output.old output.new shelf.old shelf.new result }
 {
     for number in made.first..made.end {
         write_item(net, tick, number, shelf, output)?;
@@ -101,16 +80,9 @@ pub(crate) fn write_step<S: Shelf>(
     output: &mut Output,
 ) -> Result<(), DeviceBad>
     requires fitting { LastFits net.now }
-    ensures records { OnOk result ((all : List (List ℕ)) → StandsFor net.now (inputs_of all net.now.journal) → IsMade net.now all made → IsFor output.old net.now.topology →
-        RecordsLast net.now all output.old output.new (S.files shelf.old) (S.files shelf.new)) }
-    ensures may { OnErr result ((all : List (List ℕ)) → StandsFor net.now (inputs_of all net.now.journal) → IsMade net.now all made → IsFor output.old net.now.topology →
-        MayRecordLast net.now all output.old output.new (S.files shelf.old) (S.files shelf.new)) }
-    ensures names { output.new.names ≡ output.old.names }
-    ensures places { output.new.places ≡ output.old.places }
-    ensures framed { Framed output.old.names (S.files shelf.old) (S.files shelf.new) }
-    ensures writes { CountedUnless (Lacking output.old.names (S.files shelf.old))
-        (S.write_faults shelf.old) (S.write_faults shelf.new) result }
-    ensures reads { S.read_faults shelf.new ≡ S.read_faults shelf.old }
+    ensures records { (all : List (List ℕ)) → StandsFor net.now (inputs_of all net.now.journal) → IsMade net.now all made → IsFor output.old net.now.topology →
+        RecordsStep net.now all output.old output.new (S.files shelf.old) (S.files shelf.new) result }
+    ensures stays { Stays S.files S.write_faults S.read_faults output.old output.new shelf.old shelf.new result }
 {
     let Some(entry) = net.journal().last() else {
         return Ok(());

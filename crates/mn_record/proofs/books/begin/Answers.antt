@@ -17,23 +17,23 @@ returns-in_err-begin_all-clause-part g c = on_err c.from_residual.result _ (λ m
     (names_of_output folder c.args.topology.now capture entries ∙ sym (c.names.ensures ∙ named_so)) few.1)
 
 pub returns-clause-held : goal.returns-clause-held
-returns-clause-held g c = ok_then c.put_heads.result _ _ c.put_heads.ensures.adds (λ adds m is capture.
+returns-clause-held g c = ok_then c.put_heads.result _ _ (c.put_heads.ensures.puts c.requires.files).adds (λ adds m is capture.
     heads_hold c.args.topology.now capture c.args.output.now c.put_heads.new.output m _ _ c.requires.fresh.0 c.requires.fresh.1
-    (subst (λ n. Stands n [] m (g.S.Shelf.files c.begin_all.new.shelf)) c.names.ensures (c.in_ok-begin_all.ensures.begun m is)) (adds c.requires.files))
+    (subst (λ n. Stands n [] m (g.S.Shelf.files c.begin_all.new.shelf)) c.names.ensures (c.in_ok-begin_all.ensures.begun m is)) adds)
 
 pub returns-clause-framed : goal.returns-clause-framed
-returns-clause-framed g c = ok_then c.put_heads.result _ _ c.put_heads.ensures.adds (λ adds.
+returns-clause-framed g c = ok_then c.put_heads.result _ _ (c.put_heads.ensures.puts c.requires.files).adds (λ adds.
     framed_then c.args.output.now.names c.args.output.now.names (g.S.Shelf.files c.args.shelf.now) (g.S.Shelf.files c.begin_all.new.shelf)
     (g.S.Shelf.files c.put_heads.new.shelf) refl
     (framed_begun c.args.output.now.names (g.S.Shelf.files c.args.shelf.now) (g.S.Shelf.files c.begin_all.new.shelf) c.in_ok-begin_all.ensures.silent
     (λ m is. subst (λ n. Stands n [] m (g.S.Shelf.files c.begin_all.new.shelf)) c.names.ensures (c.in_ok-begin_all.ensures.begun m is)))
-    c.put_heads.ensures.framed)
+    c.put_heads.ensures.stays.framed)
 
 pub returns-clause-part : goal.returns-clause-part
-returns-clause-part g c = err_then c.put_heads.result _ _ c.put_heads.ensures.may (λ may m is folder capture entries named_so.
-    heads_part folder c.args.topology.now capture entries c.args.output.now c.put_heads.new.output m _ _ c.requires.fresh.0 named_so c.put_heads.ensures.names
+returns-clause-part g c = err_then c.put_heads.result _ _ (c.put_heads.ensures.puts c.requires.files).may (λ may m is folder capture entries named_so.
+    heads_part folder c.args.topology.now capture entries c.args.output.now c.put_heads.new.output m _ _ c.requires.fresh.0 named_so c.put_heads.ensures.stays.names
     c.requires.fresh.1 (subst (λ n. Stands n [] m (g.S.Shelf.files c.begin_all.new.shelf)) c.names.ensures (c.in_ok-begin_all.ensures.begun m is))
-    c.put_heads.ensures.framed (may c.requires.files))
+    c.put_heads.ensures.stays.framed may)
 
 pub returns-clause-writes : goal.returns-clause-writes
 returns-clause-writes g c =
@@ -42,4 +42,4 @@ returns-clause-writes g c =
     (λ m is lacking. lacking (begun-there c.args.output.now.names m (g.S.Shelf.files c.begin_all.new.shelf)
     (subst (λ n. Stands n [] m (g.S.Shelf.files c.begin_all.new.shelf)) c.names.ensures (c.in_ok-begin_all.ensures.begun m is))))
     (subst (λ n. CountedUnless (Lacking c.args.output.now.names (g.S.Shelf.files c.begin_all.new.shelf)) n
-    (g.S.Shelf.write_faults c.put_heads.new.shelf) c.put_heads.result) c.in_ok-begin_all.ensures.writes c.put_heads.ensures.writes)
+    (g.S.Shelf.write_faults c.put_heads.new.shelf) c.put_heads.result) c.in_ok-begin_all.ensures.writes c.put_heads.ensures.stays.writes)

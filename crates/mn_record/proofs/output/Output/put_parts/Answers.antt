@@ -1,69 +1,33 @@
-use Rattle.std.proofs.Common.{◌++◌, ◌∙◌}
-use Rattle.mn_pcap.specs.Format.{record_of}
+use Rattle.std.proofs.Common.{◌++◌}
 use Rattle.mn_record.specs.Adding.{only_in}
-use Rattle.mn_record.proofs.Adding.{on_err, ok_then, err_then, both_add, first_may, second_may, adds_as, may_as, three_in, framed_then, writes_then, writes_out}
+use Rattle.mn_record.proofs.Adding.{puts_then, puts_cut, puts_out, stays_then, stays_out, joined_in, header_then}
 use Rattle.mn_record.proofs.output.Output.put_parts.Goals as goal
 
-pub returns-in_err-put-clause-may : goal.returns-in_err-put-clause-may
-returns-in_err-put-clause-may g c =
-    on_err c.from_residual.result _
-    (may_as (λ k. only_in c.args.file c.record_header.result k ++ (only_in c.args.file c.args.front.now k ++ only_in c.args.file c.args.packet.now k))
-    (only_in c.args.file (record_of c.args.tick (c.args.front.now ++ c.args.packet.now))) c.args.self.now c.put.new.self _ _
-    (λ k within. three_in c.args.file k c.args.tick c.record_header.result c.args.front.now c.args.packet.now c.record_header.ensures)
-    (first_may (only_in c.args.file c.record_header.result) (λ k. only_in c.args.file c.args.front.now k ++ only_in c.args.file c.args.packet.now k)
-    c.args.self.now c.put.new.self _ _ c.in_err-put.ensures.may))
+pub returns-in_err-put-clause-puts : goal.returns-in_err-put-clause-puts
+returns-in_err-put-clause-puts g c =
+    puts_out c.from_residual.ensures (puts_cut (only_in c.args.file (c.args.front.now ++ c.args.packet.now)) c.in_err-put.ensures.puts
+    (λ k within. header_then c.args.file k c.args.tick c.record_header.result c.args.front.now c.args.packet.now c.record_header.ensures))
 
-pub returns-in_err-put-2-clause-may : goal.returns-in_err-put-2-clause-may
-returns-in_err-put-2-clause-may g c =
-    on_err c.from_residual-in_err-put-2.result _
-    (may_as (λ k. only_in c.args.file c.record_header.result k ++ (only_in c.args.file c.args.front.now k ++ only_in c.args.file c.args.packet.now k))
-    (only_in c.args.file (record_of c.args.tick (c.args.front.now ++ c.args.packet.now))) c.args.self.now c.put-2.new.self _ _
-    (λ k within. three_in c.args.file k c.args.tick c.record_header.result c.args.front.now c.args.packet.now c.record_header.ensures)
-    (second_may (only_in c.args.file c.record_header.result) (λ k. only_in c.args.file c.args.front.now k ++ only_in c.args.file c.args.packet.now k)
-    c.args.self.now c.put.new.self c.put-2.new.self _ _ _ c.in_ok-put.ensures.adds
-    (first_may (only_in c.args.file c.args.front.now) (only_in c.args.file c.args.packet.now) c.put.new.self c.put-2.new.self _ _ c.in_err-put-2.ensures.may)))
+pub returns-in_err-put-2-clause-puts : goal.returns-in_err-put-2-clause-puts
+returns-in_err-put-2-clause-puts g c =
+    puts_out c.from_residual-in_err-put-2.ensures
+    (puts_then c.in_ok-put.ensures.puts
+    (puts_cut {whole = only_in c.args.file (c.args.front.now ++ c.args.packet.now)} (only_in c.args.file c.args.packet.now) c.in_err-put-2.ensures.puts
+    (λ k within. joined_in c.args.file k c.args.front.now c.args.packet.now))
+    (λ k within. header_then c.args.file k c.args.tick c.record_header.result c.args.front.now c.args.packet.now c.record_header.ensures))
 
-pub returns-in_err-put-2-clause-framed : goal.returns-in_err-put-2-clause-framed
-returns-in_err-put-2-clause-framed g c =
-    framed_then c.args.self.now.names c.put.new.self.names _ _ _ c.in_ok-put.ensures.names c.in_ok-put.ensures.framed c.in_err-put-2.ensures.framed
+pub returns-clause-puts : goal.returns-clause-puts
+returns-clause-puts g c =
+    puts_then c.in_ok-put.ensures.puts
+    (puts_then {whole = only_in c.args.file (c.args.front.now ++ c.args.packet.now)} c.in_ok-put-2.ensures.puts c.put-3.ensures.puts
+    (λ k within. joined_in c.args.file k c.args.front.now c.args.packet.now))
+    (λ k within. header_then c.args.file k c.args.tick c.record_header.result c.args.front.now c.args.packet.now c.record_header.ensures)
 
-pub returns-clause-adds : goal.returns-clause-adds
-returns-clause-adds g c =
-    ok_then c.put-3.result _ _ c.put-3.ensures.adds
-    (λ h. adds_as
-    (λ k. only_in c.args.file c.record_header.result k ++ (only_in c.args.file c.args.front.now k ++ only_in c.args.file c.args.packet.now k))
-    (only_in c.args.file (record_of c.args.tick (c.args.front.now ++ c.args.packet.now))) c.args.self.now c.put-3.new.self _ _
-    (λ k within. three_in c.args.file k c.args.tick c.record_header.result c.args.front.now c.args.packet.now c.record_header.ensures)
-    (both_add (only_in c.args.file c.record_header.result) (λ k. only_in c.args.file c.args.front.now k ++ only_in c.args.file c.args.packet.now k)
-    c.args.self.now c.put.new.self c.put-3.new.self _ _ _ c.in_ok-put.ensures.adds
-    (both_add (only_in c.args.file c.args.front.now) (only_in c.args.file c.args.packet.now) c.put.new.self c.put-2.new.self c.put-3.new.self _ _ _
-    c.in_ok-put-2.ensures.adds h)))
+pub returns-in_err-put-clause-stays : goal.returns-in_err-put-clause-stays
+returns-in_err-put-clause-stays g c = stays_out c.from_residual.ensures c.in_err-put.ensures.stays
 
-pub returns-clause-may : goal.returns-clause-may
-returns-clause-may g c =
-    err_then c.put-3.result _ _ c.put-3.ensures.may
-    (λ h. may_as
-    (λ k. only_in c.args.file c.record_header.result k ++ (only_in c.args.file c.args.front.now k ++ only_in c.args.file c.args.packet.now k))
-    (only_in c.args.file (record_of c.args.tick (c.args.front.now ++ c.args.packet.now))) c.args.self.now c.put-3.new.self _ _
-    (λ k within. three_in c.args.file k c.args.tick c.record_header.result c.args.front.now c.args.packet.now c.record_header.ensures)
-    (second_may (only_in c.args.file c.record_header.result) (λ k. only_in c.args.file c.args.front.now k ++ only_in c.args.file c.args.packet.now k)
-    c.args.self.now c.put.new.self c.put-3.new.self _ _ _ c.in_ok-put.ensures.adds
-    (second_may (only_in c.args.file c.args.front.now) (only_in c.args.file c.args.packet.now) c.put.new.self c.put-2.new.self c.put-3.new.self _ _ _
-    c.in_ok-put-2.ensures.adds h)))
+pub returns-in_err-put-2-clause-stays : goal.returns-in_err-put-2-clause-stays
+returns-in_err-put-2-clause-stays g c = stays_out c.from_residual-in_err-put-2.ensures (stays_then c.in_ok-put.ensures.stays c.in_err-put-2.ensures.stays)
 
-pub returns-clause-framed : goal.returns-clause-framed
-returns-clause-framed g c =
-    framed_then c.args.self.now.names c.put-2.new.self.names _ _ _ (c.in_ok-put-2.ensures.names ∙ c.in_ok-put.ensures.names)
-    (framed_then c.args.self.now.names c.put.new.self.names _ _ _ c.in_ok-put.ensures.names c.in_ok-put.ensures.framed c.in_ok-put-2.ensures.framed)
-    c.put-3.ensures.framed
-
-pub returns-in_err-put-2-clause-writes : goal.returns-in_err-put-2-clause-writes
-returns-in_err-put-2-clause-writes g c =
-    writes_out c.args.self.now.names c.put.new.self.names _ _ _ _ _ _ _ c.from_residual-in_err-put-2.ensures c.in_ok-put.ensures.names
-    c.in_ok-put.ensures.framed c.in_ok-put.ensures.writes c.in_err-put-2.ensures.writes
-
-pub returns-clause-writes : goal.returns-clause-writes
-returns-clause-writes g c =
-    writes_then c.args.self.now.names c.put-2.new.self.names _ _ _ _ _ c.put-3.result (c.in_ok-put-2.ensures.names ∙ c.in_ok-put.ensures.names)
-    (framed_then c.args.self.now.names c.put.new.self.names _ _ _ c.in_ok-put.ensures.names c.in_ok-put.ensures.framed c.in_ok-put-2.ensures.framed)
-    (c.in_ok-put-2.ensures.writes ∙ c.in_ok-put.ensures.writes) c.put-3.ensures.writes
+pub returns-clause-stays : goal.returns-clause-stays
+returns-clause-stays g c = stays_then (stays_then c.in_ok-put.ensures.stays c.in_ok-put-2.ensures.stays) c.put-3.ensures.stays
