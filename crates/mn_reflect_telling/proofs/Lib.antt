@@ -11,3 +11,4 @@ pub mod Offering
 pub mod Newness
 pub mod Decisions
 pub mod Saying
+pub mod News

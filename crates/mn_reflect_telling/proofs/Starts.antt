@@ -7,6 +7,7 @@ use Rattle.std.proofs.lemmas.Bool.Decides.{eqb_tells, leb_tells}
 use Rattle.std.proofs.lemmas.List.{length-map, length-append}
 use Rattle.std.proofs.Math.Seq.{drop-cons}
 use Rattle.mn_base.proofs.Bools.{same_test, other_test, less_is, not_less, and_false}
+use Rattle.mn_base.specs.Limits.{most_static_routes}
 use Rattle.mn_prefix.specs.Prefix.{AddressBlock}
 use Rattle.mn_topo.specs.Network.{Network}
 use Rattle.mn_topo.specs.Lawful.{IsLawful}
@@ -161,3 +162,16 @@ of_next k site sites i below is =
 
 pub at_end : (k : ℕ) (sites : List SiteDef) (i : ℕ) → i ≡ length sites → length (statics_from k (drop i sites)) ≡ 0
 at_end k sites i end = ap (λ xs. length (statics_from k xs)) (drop_all sites i end)
+
+-- those counted with a site's own, and those of the sites behind it, make it all
+pub counted_on : (t : Network) (sites : List SiteDef) (i count : ℕ) (site : SiteDef) (prefixes : List AddressBlock) → sites ≡ t.sites → i < length sites →
+    site ≡ slice_index_or sites i site → prefixes ≡ site.prefixes → count + length (statics_from i (drop i t.sites)) ≡ length (first_config t).statics →
+    count + length prefixes + length (statics_from (i + 1) (drop (i + 1) t.sites)) ≡ length (first_config t).statics
+counted_on t sites i count site prefixes same below is its so =
+    let next = of_next i site t.sites i (subst (λ xs. i < length xs) same below) (is ∙ ap (λ xs. slice_index_or xs i site) same) in
+    let size = ap length its in
+    omega (arith, next, size, so)
+
+-- which are few
+pub few_at_start : (t : Network) → IsLawful t → length (first_config t).statics ≤ most_static_routes
+few_at_start t lawful = let many = as_many 0 t.sites in let few = lawful.sites.few_prefixes in omega (arith, many, few)

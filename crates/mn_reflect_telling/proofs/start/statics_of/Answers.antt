@@ -1,41 +1,23 @@
-use Rattle.std.proofs.Common.{◌≡◌, ◌<◌, length, arith, ◌∙◌, ap, subst}
-use Rattle.std.specs.Prelude.{slice_index_or}
-use Rattle.mn_reflect_telling.proofs.Starts.{as_many, of_next, at_end}
+use Rattle.std.proofs.Common.{◌≡◌, length, arith, ap}
+use Rattle.mn_reflect_telling.proofs.Starts.{counted_on, few_at_start, at_end}
 use Rattle.mn_reflect_telling.proofs.start.statics_of.Goals as goal
 
 pub overflow_cast-count : goal.overflow_cast-count
 overflow_cast-count c =
-    let t = c.args.topology.now in
-    let n = c.loop-site.site-index in
-    let size = ap length c.as_slice.ensures in
-    let below : n < length t.sites = subst (λ sites. n < length sites) c.sites-site-items.ensures c.loop-site-test.true in
-    let next = of_next n c.site-item.result t.sites n below (c.site-item.is ∙ ap (λ xs. slice_index_or xs n c.site-item.result) c.sites-site-items.ensures) in
-    let was = c.loop-site.invariant in
-    let many = as_many 0 t.sites in
-    let few = c.laws.ensures.sites.few_prefixes in
-    omega (arith, size, next, was, many, few)
+    let all = counted_on c.args.topology.now _ c.loop-site.site-index c.loop-site.count c.site-item.result _ c.sites-site-items.ensures c.loop-site-test.true
+    c.site-item.is c.as_slice.ensures c.loop-site.invariant in
+    omega (arith, all, few_at_start c.args.topology.now c.laws.ensures)
 
 pub overflow_add-count : goal.overflow_add-count
 overflow_add-count c =
-    let t = c.args.topology.now in
-    let n = c.loop-site.site-index in
-    let size = ap length c.as_slice.ensures in
-    let below : n < length t.sites = subst (λ sites. n < length sites) c.sites-site-items.ensures c.loop-site-test.true in
-    let next = of_next n c.site-item.result t.sites n below (c.site-item.is ∙ ap (λ xs. slice_index_or xs n c.site-item.result) c.sites-site-items.ensures) in
-    let was = c.loop-site.invariant in
-    let many = as_many 0 t.sites in
-    let few = c.laws.ensures.sites.few_prefixes in
-    omega (arith, size, next, was, many, few)
+    let all = counted_on c.args.topology.now _ c.loop-site.site-index c.loop-site.count c.site-item.result _ c.sites-site-items.ensures c.loop-site-test.true
+    c.site-item.is c.as_slice.ensures c.loop-site.invariant in
+    omega (arith, all, few_at_start c.args.topology.now c.laws.ensures)
 
 pub loop-site-preserved : goal.loop-site-preserved
 loop-site-preserved c =
-    let t = c.args.topology.now in
-    let n = c.loop-site.site-index in
-    let size = ap length c.as_slice.ensures in
-    let below : n < length t.sites = subst (λ sites. n < length sites) c.sites-site-items.ensures c.loop-site-test.true in
-    let next = of_next n c.site-item.result t.sites n below (c.site-item.is ∙ ap (λ xs. slice_index_or xs n c.site-item.result) c.sites-site-items.ensures) in
-    let was = c.loop-site.invariant in
-    omega (arith, size, next, was)
+    counted_on c.args.topology.now _ c.loop-site.site-index c.loop-site.count c.site-item.result _ c.sites-site-items.ensures c.loop-site-test.true c.site-item.is
+    c.as_slice.ensures c.loop-site.invariant
 
 pub returns : goal.returns
 returns c =

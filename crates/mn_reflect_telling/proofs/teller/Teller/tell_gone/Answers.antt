@@ -20,9 +20,7 @@ tell_lost-requires-clause-name c =
 pub loop-offered-preserved : goal.loop-offered-preserved
 loop-offered-preserved c =
     let at = c.loop-offered in
-    let t = c.args.self.now.topology.now in
-    let rs = numbers_of c.args.self.now.reflectors.now in
-    let node = c.args.self.now.node.0 in
+    let self = c.args.self.now in
     let heard = c.args.heard.now in
     let peer = c.args.peer.0 in
     let gone = c.args.gone.now in
@@ -33,13 +31,13 @@ loop-offered-preserved c =
     ap (λ v. let k : Key = record { vrf = v; prefix = c.prefix.result } in k) c.vrf.ensures
     ∙ ap (λ p. let k : Key = record { vrf = route.vrf; prefix = p } in k) c.prefix.ensures in
     record {
-      told = lost_next t rs node c.args.peers.now (row_with heard peer gone) (row_in heard) at.offered-iterator c.next.new.self route key at.mail c.tell_lost.new.mail _
+      told = lost_next self.topology.now (numbers_of self.reflectors.now) self.node.0 c.args.peers.now (row_with heard peer gone) (row_in heard) at.offered-iterator c.next.new.self route key at.mail c.tell_lost.new.mail _
           step same
           (c.in_ok-tell_lost.ensures.told (row_with heard peer gone) (row_in heard) (shown_before heard peer gone key)
           (shown_after heard peer gone c.requires.forgotten key))
           at.invariant.told;
       nodes = c.in_ok-tell_lost.ensures.nodes ∙ at.invariant.nodes;
-      passable = (subst (AllByRecursion (IsPassable t)) step at.invariant.passable).1;
+      passable = (subst (AllByRecursion (IsPassable self.topology.now)) step at.invariant.passable).1;
     }
 
 pub returns-clause-told : goal.returns-clause-told

@@ -7,22 +7,17 @@ use Rattle.mn_reflect_telling.proofs.teller.Teller.tell_peer.Goals as goal
 
 pub returns-in-Some-clause-told : goal.returns-in-Some-clause-told
 returns-in-Some-clause-told c = λ was row before after.
-    let t = c.args.self.now.topology.now in
-    let rs = numbers_of c.args.self.now.reflectors.now in
-    let node = c.args.self.now.node.0 in
-    let peer = c.args.peer.0 in
+    let self = c.args.self.now in
     let spelled = rw c.in-Some.is at c.in_ok-bytes.ensures in
     on_ok c.send.result
-    (says_it t node peer (named c.args.after.now.vrf c.args.after.now.prefix) rs was row _ _
-    (c.held_out-old.ensures.said was before ∙ ap (held_out t rs was node peer) c.requires.name) (c.held_out-new.ensures.said row after) c.args.mail.now
-    c.in-Some.bytes.items c.send.new.mail spelled) c.send.ensures.sent
+    (says_it self.topology.now self.node.0 c.args.peer.0 (named c.args.after.now.vrf c.args.after.now.prefix) (numbers_of self.reflectors.now) was row _ _
+    (c.held_out-old.ensures.said was before ∙ ap (held_out self.topology.now (numbers_of self.reflectors.now) was self.node.0 c.args.peer.0) c.requires.name)
+    (c.held_out-new.ensures.said row after) c.args.mail.now c.in-Some.bytes.items c.send.new.mail spelled) c.send.ensures.sent
 
 pub returns-in-None-clause-told : goal.returns-in-None-clause-told
 returns-in-None-clause-told c = λ was row before after.
-    let t = c.args.self.now.topology.now in
-    let rs = numbers_of c.args.self.now.reflectors.now in
-    let node = c.args.self.now.node.0 in
-    let peer = c.args.peer.0 in
+    let self = c.args.self.now in
     let spelled = rw c.in-None.is at c.in_ok-bytes.ensures in
-    says_none t node peer (named c.args.after.now.vrf c.args.after.now.prefix) rs was row _ _
-    (c.held_out-old.ensures.said was before ∙ ap (held_out t rs was node peer) c.requires.name) (c.held_out-new.ensures.said row after) c.args.mail.now spelled
+    says_none self.topology.now self.node.0 c.args.peer.0 (named c.args.after.now.vrf c.args.after.now.prefix) (numbers_of self.reflectors.now) was row _ _
+    (c.held_out-old.ensures.said was before ∙ ap (held_out self.topology.now (numbers_of self.reflectors.now) was self.node.0 c.args.peer.0) c.requires.name)
+    (c.held_out-new.ensures.said row after) c.args.mail.now spelled
