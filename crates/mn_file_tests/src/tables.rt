@@ -92,26 +92,18 @@ fn lines_say_what_they_are_given(rt: HostRuntime) -> Result<(), Fail> {
         VrfNo(1),
         SiteNo(1),
     )?;
-    put_far_route(
-        out,
-        &mut page,
-        &topology,
-        VrfNo(0),
-        b"10.3.0.0/16",
-        pe2,
-        18,
-        false,
-    )?;
-    put_far_route(
-        out,
-        &mut page,
-        &topology,
-        VrfNo(0),
-        b"10.4.0.0/16",
-        pe2,
-        19,
-        true,
-    )?;
+    for (prefix, label, unresolved) in [(b"10.3.0.0/16", 18, false), (b"10.4.0.0/16", 19, true)] {
+        put_far_route(
+            out,
+            &mut page,
+            &topology,
+            VrfNo(0),
+            prefix,
+            pe2,
+            label,
+            unresolved,
+        )?;
+    }
     page.end(out)?;
     assert_eq!(rt; sink.bytes(), LINES);
     Ok(())
