@@ -1,5 +1,6 @@
 pub mod OnChannels
 pub mod Nothing
+pub mod Asked
 pub mod Vrfs
 pub mod Already
 pub mod Statics
