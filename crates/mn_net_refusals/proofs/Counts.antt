@@ -12,8 +12,11 @@ use Rattle.mn_timetable_laws.specs.Keys.{keys_in}
 use Rattle.mn_timetable_laws.proofs.OtherKeys.{edge-below}
 use Rattle.mn_net_parts_laws.proofs.Counted.{counted_in}
 use Rattle.mn_lsr.specs.Standing.{Standing}
+use Rattle.mn_transport_laws.specs.Carried.{Carried}
+use Rattle.mn_routing_laws.specs.Routed.{Routed}
 use Rattle.mn_net_laws.specs.Refusal.{count_on}
 use Rattle.mn_net_laws.specs.Seen.{Labels, attachments_in, labels_asked}
+use Rattle.mn_net_refusals.specs.Parts.{HaveSizes}
 use Rattle.mn_net_refusals.proofs.Asked.{count_at}
 
 pub none_on : {T : Type 0} (n c d : ℕ) (xs ys : List (Item T)) → n ≡ length (on_channel c xs) → c ≡ d → xs ≡ ys → (n == 0) ≡ (count_on d (keys_in ys) == 0)
@@ -27,14 +30,16 @@ pub as_many_nodes : (loopbacks : List ℕ) → length (nodes_with loopbacks) ≡
 as_many_nodes [] = refl
 as_many_nodes (l ∷ loopbacks) = ap suc (as_many_nodes loopbacks)
 
--- the first edge of a BGP step is a node
-pub first_node : (t : Network) → IsLawful t → (a b : ℕ) → ((is_edge t.vrfs a && is_edge t.vrfs b) && nat_lt a b) ≡ true → a < length t.loopbacks
-first_node t lawful a b h =
-    edge-below t lawful a (and_left (is_edge t.vrfs a) (is_edge t.vrfs b) (and_left (is_edge t.vrfs a && is_edge t.vrfs b) (nat_lt a b) h))
-
-pub second_node : (t : Network) → IsLawful t → (a b : ℕ) → ((is_edge t.vrfs a && is_edge t.vrfs b) && nat_lt a b) ≡ true → b < length t.loopbacks
-second_node t lawful a b h =
-    edge-below t lawful b (and_right (is_edge t.vrfs a) (is_edge t.vrfs b) (and_left (is_edge t.vrfs a && is_edge t.vrfs b) (nat_lt a b) h))
+-- the two edges of a BGP step have an end of a session each
+pub ends_there : {carried : Carried} {routed : Routed} (t : Network) → IsLawful t → HaveSizes t carried routed → (a b : ℕ) →
+    ((is_edge t.vrfs a && is_edge t.vrfs b) && nat_lt a b) ≡ true →
+    (a < length routed.sessions) × (b < length (slice_index_or routed.sessions a []))
+ends_there {routed = routed} t lawful sizes a b h =
+    let both = and_left (is_edge t.vrfs a && is_edge t.vrfs b) (nat_lt a b) h in
+    let first = edge-below t lawful a (and_left (is_edge t.vrfs a) (is_edge t.vrfs b) both) in (
+      subst (λ n. a < n) (sym sizes.sessions) first,
+      subst (λ n. b < n) (sym (sizes.peers a first)) (edge-below t lawful b (and_right (is_edge t.vrfs a) (is_edge t.vrfs b) both)),
+    )
 
 pub switch_at : (xs : List Bool) (i : ℕ) (b : Bool) → slice_get xs i ≡ Some b → b ≡ slice_index_or xs i false
 switch_at [] i b e = cc

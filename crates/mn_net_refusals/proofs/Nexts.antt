@@ -1,21 +1,18 @@
 -- The first of each flight, as the code has it.
-use Rattle.std.proofs.Common.{ℕ, zero, suc, ◌≡◌, ◌+◌, ◌*◌, ◌<◌, ◌≤◌, inl, inr, Bool, true, false, List, [], ◌∷◌, length, map, refl, arith, sym, ap, ◌∙◌}
+use Rattle.std.proofs.Common.{ℕ, zero, suc, ◌≡◌, ◌+◌, ◌*◌, ◌<◌, ◌≤◌, inl, inr, Bool, true, false, List, [], ◌∷◌, length, refl, arith, sym, ap, ◌∙◌}
 use Rattle.std.proofs.Common.{subst, Option, Some, None}
-use Rattle.std.specs.Prelude.{◌==◌, ◌&&◌, ◌||◌, ◌/◌, ◌%◌, nat_lt, option_map, if◌then◌else◌}
+use Rattle.std.specs.Prelude.{◌==◌, ◌/◌, ◌%◌, option_map, if◌then◌else◌}
 use Rattle.std.specs.List.{All, AllByRecursion}
-use Rattle.std.proofs.lemmas.Bool.Decides.{nat_tests}
 use Rattle.std.proofs.lemmas.List.Elements.{All-nil, All-cons}
 use Rattle.std.proofs.Math.Nat.{div-lt_iff_lt-mul}
-use Rattle.mn_wiring.specs.declared.links.Dir.{Dir}
 use Rattle.mn_wiring.specs.declared.links.Dir.TheVariants.{Forth, Back}
-use Rattle.mn_wiring.specs.Wiring.{link, is_end}
+use Rattle.mn_wiring.specs.Wiring.{link}
 use Rattle.mn_base.proofs.Members.{In, contained_in}
 use Rattle.mn_flight.specs.declared.Item.{Item as ItemOf}
 use Rattle.mn_flight.specs.Earliest.{earliest}
 use Rattle.mn_flight.proofs.First.{is_earliest}
 use Rattle.mn_topo.specs.Lawful.{IsLawful}
 use Rattle.mn_topo.specs.Network.{Network, wiring_of}
-use Rattle.mn_topo.specs.VrfTable.{is_edge}
 use Rattle.mn_topo.specs.declared.steps.Step.{Step}
 use Rattle.mn_topo.specs.declared.steps.JournalEntry.{JournalEntry}
 use Rattle.mn_ledger.specs.Packets.{channel}
@@ -35,12 +32,12 @@ use Rattle.mn_net_laws.specs.Tallies.{Tally}
 use Rattle.mn_net_laws.proofs.Counting.{tells}
 use Rattle.mn_net_laws.proofs.Rising.{lost_rise}
 use Rattle.mn_course_laws.specs.Coming.{is_due_before, earlier, coming}
-use Rattle.mn_timetable_laws.specs.Keys.{Key, Numbering, key_of, keys_in, keys_on, with_key, of_notices, of_messages, of_routes, of_frames, channel_from}
+use Rattle.mn_timetable_laws.specs.Keys.{Key, Numbering, key_of, keys_in, keys_on, with_key, of_notices, of_messages, of_routes, of_frames}
 use Rattle.mn_timetable_laws.proofs.OtherKeys.{edge-below}
-use Rattle.mn_net_laws.specs.Coming.{first_key, as_coming, news_coming, coming_seen}
+use Rattle.mn_net_laws.specs.Coming.{hears_on, tells_on, first_key, as_coming, news_coming, coming_seen}
 use Rattle.mn_net_laws.proofs.Firsts.{earliest_key}
 use Rattle.mn_net_laws.proofs.Comes.{comes_alike}
-use Rattle.mn_net_refusals.specs.Parts.{OnChannels, PartsStand, packed_of}
+use Rattle.mn_net_refusals.specs.Parts.{AreInPlace, OnChannels, PartsStand, packed_of}
 
 -- 1. An item that is first
 
@@ -85,11 +82,19 @@ other_alone x y e = ap (λ z. earlier z y) e
 pub one_alone : (x y : Option Coming) (c : Coming) → Some c ≡ x → None ≡ y → Some c ≡ earlier x y
 one_alone x y c e f = ap (λ z. earlier z None) e ∙ ap (earlier x) f
 
-pub other_first : (x y : Option Coming) (c d : Coming) → Some c ≡ x → Some d ≡ y → is_due_before d.due d.number c.due c.number ≡ true → Some d ≡ earlier x y
-other_first x y c d e f h = sym (ap (λ b. if b then Some d else Some c) h) ∙ ap (λ z. earlier z (Some d)) e ∙ ap (earlier x) f
+first_of_two : (x y : Option Coming) (c d : Coming) (b : Bool) → Some c ≡ x → Some d ≡ y → is_due_before d.due d.number c.due c.number ≡ b →
+    (if b then Some d else Some c) ≡ earlier x y
+first_of_two x y c d b e f h = sym (ap (λ b. if b then Some d else Some c) h) ∙ ap (λ z. earlier z (Some d)) e ∙ ap (earlier x) f
 
-pub one_first : (x y : Option Coming) (c d : Coming) → Some c ≡ x → Some d ≡ y → is_due_before d.due d.number c.due c.number ≡ false → Some c ≡ earlier x y
-one_first x y c d e f h = sym (ap (λ b. if b then Some d else Some c) h) ∙ ap (λ z. earlier z (Some d)) e ∙ ap (earlier x) f
+-- of a PDU and a message
+pub first_news : (n limit : ℕ) (pdus messages : List (ItemOf (List ℕ))) (pdu message : ItemOf (List ℕ)) (b : Bool) →
+    earliest limit pdus ≡ Some pdu → earliest limit messages ≡ Some message → is_due_before message.due message.number pdu.due pdu.number ≡ b →
+    (if b then Some (as_coming (tells_on n) (λ number. false) (key_of message)) else Some (as_coming hears_on (λ number. false) (key_of pdu)))
+    ≡ earlier (news_coming hears_on limit (keys_in pdus)) (news_coming (tells_on n) limit (keys_in messages))
+first_news n limit pdus messages pdu message b e f h =
+    first_of_two (news_coming hears_on limit (keys_in pdus)) (news_coming (tells_on n) limit (keys_in messages))
+    (as_coming hears_on (λ number. false) (key_of pdu)) (as_coming (tells_on n) (λ number. false) (key_of message)) b
+    (news_by hears_on limit pdus pdu e) (news_by (tells_on n) limit messages message f) h
 
 -- 2. Numbers of two parts
 
@@ -120,12 +125,8 @@ Below n (Some c) = c < n
 module _ (t : Network) (lawful : IsLawful t) where
   notice_on : (on : Channel) (load : Load) → IsOfChannel t on load → Below (length t.links * length t.loopbacks) (of_notices (length t.loopbacks) on)
   notice_on (Notices l node) Notice h = of_two l node (length t.links) (length t.loopbacks) h.0 h.1
-  notice_on (Notices l node) (Says m) h = absurd h
-  notice_on (Notices l node) (Tells m) h = absurd h
-  notice_on (Notices l node) (Carries m) h = absurd h
-  notice_on (Messages l node) load h = tt
-  notice_on (Routes l node) load h = tt
-  notice_on (Frames l node) load h = tt
+  notice_on (Notices l node) _ h = absurd h
+  notice_on _ load h = tt
 
   message_on : (on : Channel) (load : Load) → IsOfChannel t on load → Below (2 * length t.links) (of_messages t on)
   message_on (Messages l end) (Says m) h = by (end == (link (wiring_of t) l).a.0) h.0
@@ -133,31 +134,19 @@ module _ (t : Network) (lawful : IsLawful t) where
       by : (b : Bool) → l < length t.links → (if b then 2 * l else 2 * l + 1) < 2 * length t.links
       by true g = omega (arith, g)
       by false g = omega (arith, g)
-  message_on (Messages l end) Notice h = absurd h
-  message_on (Messages l end) (Tells m) h = absurd h
-  message_on (Messages l end) (Carries m) h = absurd h
-  message_on (Notices l node) load h = tt
-  message_on (Routes l node) load h = tt
-  message_on (Frames l node) load h = tt
+  message_on (Messages l end) _ h = absurd h
+  message_on _ load h = tt
 
   route_on : (on : Channel) (load : Load) → IsOfChannel t on load → Below (length t.loopbacks * length t.loopbacks) (of_routes (length t.loopbacks) on)
   route_on (Routes a b) (Tells m) h = of_two a b (length t.loopbacks) (length t.loopbacks) (edge-below t lawful a h.0) (edge-below t lawful b h.1)
-  route_on (Routes a b) Notice h = absurd h
-  route_on (Routes a b) (Says m) h = absurd h
-  route_on (Routes a b) (Carries m) h = absurd h
-  route_on (Notices l node) load h = tt
-  route_on (Messages l node) load h = tt
-  route_on (Frames l node) load h = tt
+  route_on (Routes a b) _ h = absurd h
+  route_on _ load h = tt
 
   frame_on : (on : Channel) (load : Load) → IsOfChannel t on load → Below (2 * length t.links) (of_frames on)
   frame_on (Frames l Forth) (Carries m) h = omega (arith, h)
   frame_on (Frames l Back) (Carries m) h = omega (arith, h)
-  frame_on (Frames l d) Notice h = absurd h
-  frame_on (Frames l d) (Says m) h = absurd h
-  frame_on (Frames l d) (Tells m) h = absurd h
-  frame_on (Notices l node) load h = tt
-  frame_on (Messages l node) load h = tt
-  frame_on (Routes l node) load h = tt
+  frame_on (Frames l d) _ h = absurd h
+  frame_on _ load h = tt
 
 each_on : (n : ℕ) (number : Numbering) (xs : List Item) →
     ((x : Item) → In xs x → Below n (number x.on)) → AllByRecursion (λ (key : Key). key.channel < n) (keys_on number xs)
@@ -196,8 +185,14 @@ module _ (t : Network) (lawful : IsLawful t) (es : List JournalEntry) (ps : List
   pub frames_on : OnChannels (2 * length t.links) moving.flying
   frames_on = flight_on (2 * length t.links) of_frames t es ps moving.flying lawful h.packed.lawful (frame_on t lawful) h.packed.frames
 
-  pub rising : AreRising tally.lossy
-  rising = subst AreRising (sym h.counted.lossy) (lost_rise t es ps lawful h.packed.lawful)
+  pub in_place : AreInPlace t carried routed moving tally
+  in_place = record {
+    notices = notices_on;
+    pdus = pdus_on;
+    messages = messages_on;
+    frames = frames_on;
+    rising = subst AreRising (sym h.counted.lossy) (lost_rise t es ps lawful h.packed.lawful);
+  }
 
   pub comes : (kind : Kind) (limit : ℕ) →
       coming_seen t (packed_of carried routed moving (flight_of t es ps).made) tally.lossy kind limit ≡ coming t es ps kind limit

@@ -1,13 +1,15 @@
 -- The parts of a network, and when they stand for the ledger.
-use Rattle.std.specs.Prelude.{◌≡◌, ◌<◌, ◌*◌, ℕ, nat_le, List, [], ◌∷◌, length, map, slice_get, slice_index_or, Option, Some, option_map}
+use Rattle.std.specs.Prelude.{◌≡◌, ◌<◌, ◌*◌, ℕ, Bool, true, false, nat_le, List, [], ◌∷◌, length, map, slice_get, slice_index_or, Option, Some, option_map}
 use Rattle.std.specs.List.{All}
 use Rattle.mn_base.specs.Limits.{most_steps}
+use Rattle.mn_base.specs.declared.numbers.Rt.{Rt}
 use Rattle.mn_flight.specs.declared.Item.{Item}
 use Rattle.mn_topo.specs.Network.{Network}
 use Rattle.mn_topo.specs.declared.steps.Step.{Step}
 use Rattle.mn_topo.specs.declared.steps.JournalEntry.{JournalEntry}
 use Rattle.mn_ledger.specs.Items.{flight_of}
 use Rattle.mn_lsr.specs.Standing.{Standing}
+use Rattle.mn_vrf.specs.Vrf.{VrfState}
 use Rattle.mn_pe.specs.Pe.{PeNow}
 use Rattle.mn_routing_laws.specs.Routed.{Routed, IsRoutes}
 use Rattle.mn_routing_laws.specs.Whole.{RoutesNow}
@@ -21,6 +23,7 @@ use Rattle.mn_ledger.specs.declared.refused.Refused.TheVariants.{TargetsFull, La
 use Rattle.mn_ledger.specs.Refusal.{first_cause, where_holds}
 use Rattle.mn_net_laws.specs.Refusal.{has_all_targets, has_given_all, has_too_much}
 use Rattle.mn_net_laws.specs.Seen.{Seen, labels_asked}
+use Rattle.mn_net_laws.specs.Rising.{AreRising}
 use Rattle.mn_net_laws.specs.Tallies.{Tally, Tallies}
 
 -- what is in flight, of so many items made
@@ -31,6 +34,11 @@ packed_of carried routed moving made =
 -- edges and sessions
 abbrev pub shown : Routed → RoutesNow
 shown routed = record { edges = map (option_map (λ (pe : PeNow). pe.edge)) routed.edges; sessions = routed.sessions }
+
+-- the targets that a VRF exports, or those that it imports
+abbrev pub targets_of : Bool → VrfState → List Rt
+targets_of true state = state.exports
+targets_of false state = state.imports
 
 -- by node, how many labels are asked for
 abbrev pub asked_in : Carried → List ℕ
@@ -75,6 +83,14 @@ pub record HaveSizes (topology : Network) (carried : Carried) (routed : Routed) 
 -- items on channels of so many
 abbrev pub OnChannels : {T : Type 0} → ℕ → List (Item T) → Type 0
 OnChannels channels items = All (λ item. item.channel < channels) items
+
+-- all that flies is on a channel of its kind, and the numbers of the frames that get lost rise
+pub record AreInPlace (topology : Network) (carried : Carried) (routed : Routed) (moving : Moving) (tally : Tally) : Type 0 where
+  pub notices : OnChannels (length topology.links * length topology.loopbacks) carried.notices
+  pub pdus : OnChannels (2 * length topology.links) carried.messages
+  pub messages : OnChannels (length topology.loopbacks * length topology.loopbacks) routed.messages
+  pub frames : OnChannels (2 * length topology.links) moving.flying
+  pub rising : AreRising tally.lossy
 
 -- the last four causes alone
 abbrev pub limit_seen : Network → Seen → Step → List ℕ → Option Refused

@@ -3,9 +3,9 @@ ghost use Rattle.std.specs.Prelude.{◌≡◌, ◌<◌, ◌≤◌, ◌+◌, ◌*
 ghost use Rattle.mn_ledger.specs.Prelude.{most_targets, fits, agree, takes_out};
 ghost use Rattle.mn_net_refusals.specs.Prelude.{Moving, Routed, Carried, VrfState, of_vrf, is_so, has_nothing, of_static, has_all_targets, has_given_all, has_no_room, has_too_much};
 ghost use Rattle.mn_net_laws.specs.Tallies.{Tally as Counts};
-ghost use Rattle.mn_net_refusals.specs.Parts.{HaveSizes, HaveFecs, shown, asked_in, packed_of, seen_in};
+ghost use Rattle.mn_net_refusals.specs.Parts.{HaveSizes, HaveFecs, shown, targets_of, asked_in, packed_of, seen_in};
 
-use crate::sites::{exports, imports, is_attached, site_with, vrf_at};
+use crate::sites::{has_target, is_attached, site_with, targets_of};
 use mn_base::{LinkNo, MOST_FLYING_BYTES, MOST_IN_FLIGHT, MOST_STATIC_ROUTES, MOST_TARGETS, VrfNo};
 use mn_flight::Flight;
 use mn_ledger::Refused;
@@ -41,8 +41,11 @@ pub(crate) fn is_so(
         Step::LdpAdmin(link, on) => agree(on, transport.ldp_on(link)),
         Step::BgpUp(a, b) => routes.lives(a, b),
         Step::BgpDown(a, b) => !routes.lives(a, b),
-        Step::Import(vrf, on, target) => agree(on, imports(topology, routes, vrf, target)),
-        Step::Export(vrf, on, target) => agree(on, exports(topology, routes, vrf, target)),
+        Step::Import(vrf, on, target) => agree(
+            on,
+            has_target(topology, routes, vrf, false, target),
+        ),
+        Step::Export(vrf, on, target) => agree(on, has_target(topology, routes, vrf, true, target)),
         Step::Attach(site) => is_attached(topology, routes, site),
         Step::Detach(site) => !is_attached(topology, routes, site),
         Step::Learn(_, _)
@@ -132,26 +135,14 @@ pub(crate) fn of_static(
     }
 }
 
-/// A VRF imports 16 targets.
-fn imports_all(topology: &Topology, routes: &Routes, vrf: VrfNo) -> bool
+/// A VRF exports 16 targets, or imports so many.
+fn holds_all(topology: &Topology, routes: &Routes, vrf: VrfNo, exported: bool) -> bool
     requires edges { length routes.now.edges ≡ length topology.now.loopbacks }
     requires there { vrf.0 < length topology.now.vrfs }
-    ensures { result ≡ nat_le most_targets (unwrap_or (of_vrf topology.now (shown routes.now) vrf.0 (λ (state : VrfState). Some (length state.imports))) 0) }
+    ensures { result ≡ nat_le most_targets (unwrap_or (of_vrf topology.now (shown routes.now) vrf.0 (λ (state : VrfState). Some (length (targets_of exported state)))) 0) }
 {
-    match vrf_at(topology, routes, vrf) {
-        Some(held) => held.imports().as_slice().len() >= MOST_TARGETS,
-        None => false,
-    }
-}
-
-/// A VRF exports 16 targets.
-fn exports_all(topology: &Topology, routes: &Routes, vrf: VrfNo) -> bool
-    requires edges { length routes.now.edges ≡ length topology.now.loopbacks }
-    requires there { vrf.0 < length topology.now.vrfs }
-    ensures { result ≡ nat_le most_targets (unwrap_or (of_vrf topology.now (shown routes.now) vrf.0 (λ (state : VrfState). Some (length state.exports))) 0) }
-{
-    match vrf_at(topology, routes, vrf) {
-        Some(held) => held.exports().as_slice().len() >= MOST_TARGETS,
+    match targets_of(topology, routes, vrf, exported) {
+        Some(targets) => targets.as_slice().len() >= MOST_TARGETS,
         None => false,
     }
 }
@@ -165,13 +156,13 @@ pub(crate) fn has_all_targets(topology: &Topology, routes: &Routes, step: &Step)
     match *step {
         Step::Import(vrf, on, _) => {
             if on {
-                return imports_all(topology, routes, vrf);
+                return holds_all(topology, routes, vrf, false);
             }
             false
         }
         Step::Export(vrf, on, _) => {
             if on {
-                return exports_all(topology, routes, vrf);
+                return holds_all(topology, routes, vrf, true);
             }
             false
         }

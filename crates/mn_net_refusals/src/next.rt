@@ -3,7 +3,7 @@ ghost use Rattle.std.specs.Prelude.{◌≡◌, ◌<◌, ◌≤◌, ◌*◌, ◌+
 ghost use Rattle.std.specs.List.{All};
 ghost use Rattle.mn_net_refusals.specs.Prelude.{JournalEntry, is_due_before, earlier, IsNext, key_of, keys_in, AreRising, is_one, first_key, learns_on, hears_on, tells_on, carries_on, as_coming, news_coming, coming_seen, pending_seen};
 ghost use Rattle.mn_course_laws.specs.Coming.{coming as ledgers};
-ghost use Rattle.mn_net_refusals.specs.Parts.{PartsStand, OnChannels, packed_of};
+ghost use Rattle.mn_net_refusals.specs.Parts.{PartsStand, OnChannels, AreInPlace, packed_of};
 
 use crate::parts::Parts;
 use mn_base::{LinkNo, ListOf, NodeNo};
@@ -117,6 +117,18 @@ fn frame_coming(topology: &Topology, transit: &Transit, tally: &Tally, limit: u6
     })
 }
 
+/// What comes next of a kind, as the parts show it.
+fn coming_of(parts: Parts<'_>, kind: Kind, limit: u64) -> Option<Coming>
+    requires { AreInPlace parts.topology.now parts.transport.now parts.routes.now parts.transit.now parts.tally.now }
+    ensures { (made : ℕ) → result ≡ coming_seen parts.entry.topology.now (packed_of parts.entry.transport.now parts.entry.routes.now parts.entry.transit.now made) parts.entry.tally.now.lossy kind limit }
+{
+    match kind {
+        Kind::Notice => notice_coming(parts.topology, parts.transport, limit),
+        Kind::Message => news_coming(parts.topology, parts.transport, parts.routes, limit),
+        Kind::Frame => frame_coming(parts.topology, parts.transit, parts.tally, limit),
+    }
+}
+
 /// What comes next of a kind, if it is due by the limit: the ledger's, with the step that delivers it.
 pub fn coming(parts: Parts<'_>, kind: Kind, limit: u64) -> Option<Coming>
     requires { (journal : List JournalEntry) × (inputs : List (List ℕ)) × PartsStand parts.topology.now journal inputs parts.transport.now parts.routes.now parts.transit.now parts.tally.now }
@@ -124,11 +136,7 @@ pub fn coming(parts: Parts<'_>, kind: Kind, limit: u64) -> Option<Coming>
     ensures next { (journal : List JournalEntry) (inputs : List (List ℕ)) → PartsStand parts.entry.topology.now journal inputs parts.entry.transport.now parts.entry.routes.now parts.entry.transit.now parts.entry.tally.now → IsNext parts.entry.topology.now journal inputs kind limit result }
 {
     parts.topology.laws();
-    match kind {
-        Kind::Notice => notice_coming(parts.topology, parts.transport, limit),
-        Kind::Message => news_coming(parts.topology, parts.transport, parts.routes, limit),
-        Kind::Frame => frame_coming(parts.topology, parts.transit, parts.tally, limit),
-    }
+    coming_of(parts, kind, limit)
 }
 
 /// How many items of a kind are in flight.

@@ -1,12 +1,15 @@
 //! What edges and VRFs have.
-ghost use Rattle.std.specs.Prelude.{◌≡◌, ◌<◌, ◌≤◌, length, Some, option_map, is_some, slice_index};
+ghost use Rattle.std.specs.Prelude.{◌≡◌, ◌<◌, ◌≤◌, length, false, Some, option_map, unwrap_or, is_some, slice_index};
 ghost use Rattle.mn_ledger.specs.Places.{edge_of, vrf_of, home_of};
-ghost use Rattle.mn_net_refusals.specs.Parts.{shown};
-ghost use Rattle.mn_net_laws.specs.Refusal.{of_vrf, imports_it, exports_it, site_label, site_with};
+ghost use Rattle.mn_targets.specs.Targets.{has_target};
+ghost use Rattle.mn_vrf.specs.Vrf.{VrfState};
+ghost use Rattle.mn_net_refusals.specs.Parts.{shown, targets_of};
+ghost use Rattle.mn_net_laws.specs.Refusal.{of_vrf, site_label, site_with};
 
 use mn_base::{NodeNo, Rt, SiteNo, VrfNo};
 use mn_prefix::Prefix;
 use mn_routing::Routes;
+use mn_targets::Targets;
 use mn_topo::Topology;
 use mn_vrf::Vrf;
 
@@ -20,26 +23,38 @@ pub(crate) fn vrf_at<'a>(topology: &Topology, routes: &'a Routes, vrf: VrfNo) ->
     edge.vrf(vrf)
 }
 
-/// A VRF imports a target.
-pub(crate) fn imports(topology: &Topology, routes: &Routes, vrf: VrfNo, target: Rt) -> bool
+/// The targets that a VRF exports, or those that it imports.
+pub(crate) fn targets_of<'a>(
+    topology: &Topology,
+    routes: &'a Routes,
+    vrf: VrfNo,
+    exported: bool,
+) -> Option<&'a Targets>
     requires edges { length routes.now.edges ≡ length topology.now.loopbacks }
     requires there { vrf.0 < length topology.now.vrfs }
-    ensures { result ≡ imports_it topology.now (shown routes.now) vrf.0 target }
+    ensures { option_map (λ targets. targets.now) result ≡ of_vrf topology.now (shown routes.now) vrf.0 (λ (state : VrfState). Some (targets_of exported state)) }
 {
-    match vrf_at(topology, routes, vrf) {
-        Some(held) => held.imports().has(target),
-        None => false,
+    let held = vrf_at(topology, routes, vrf)?;
+    if exported {
+        return Some(held.exports());
     }
+    Some(held.imports())
 }
 
-/// A VRF exports a target.
-pub(crate) fn exports(topology: &Topology, routes: &Routes, vrf: VrfNo, target: Rt) -> bool
+/// A VRF exports a target, or imports it.
+pub(crate) fn has_target(
+    topology: &Topology,
+    routes: &Routes,
+    vrf: VrfNo,
+    exported: bool,
+    target: Rt,
+) -> bool
     requires edges { length routes.now.edges ≡ length topology.now.loopbacks }
     requires there { vrf.0 < length topology.now.vrfs }
-    ensures { result ≡ exports_it topology.now (shown routes.now) vrf.0 target }
+    ensures { result ≡ unwrap_or (of_vrf topology.now (shown routes.now) vrf.0 (λ (state : VrfState). Some (has_target target (targets_of exported state)))) false }
 {
-    match vrf_at(topology, routes, vrf) {
-        Some(held) => held.exports().has(target),
+    match targets_of(topology, routes, vrf, exported) {
+        Some(targets) => targets.has(target),
         None => false,
     }
 }

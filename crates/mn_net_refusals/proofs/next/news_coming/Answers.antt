@@ -1,10 +1,10 @@
-use Rattle.std.proofs.Common.{ℕ, ◌≡◌, ◌∙◌, ◌<◌, ◌*◌, arith, ap, sym, subst, length, false, Some, None}
+use Rattle.std.proofs.Common.{ℕ, ◌≡◌, ◌∙◌, ◌<◌, ◌*◌, arith, ap, sym, subst, length, true, false, Some, None}
 use Rattle.std.specs.Option.{option_copied}
 use Rattle.mn_flight.specs.Earliest.{earliest}
 use Rattle.mn_timetable_laws.specs.Keys.{key_of, keys_in}
 use Rattle.mn_net_laws.specs.Coming.{hears_on, tells_on, as_coming, news_coming}
 use Rattle.mn_net_refusals.proofs.Counts.{as_many_nodes}
-use Rattle.mn_net_refusals.proofs.Nexts.{news_by, news_none, first_on, both_none, other_alone, one_alone, other_first, one_first}
+use Rattle.mn_net_refusals.proofs.Nexts.{news_by, news_none, first_on, both_none, other_alone, one_alone, first_news}
 use Rattle.mn_net_refusals.proofs.next.news_coming.Goals as goal
 
 pub returns-in_err-message : goal.returns-in_err-message
@@ -64,14 +64,9 @@ pub returns-then-is_due_before : goal.returns-then-is_due_before
 returns-then-is_due_before c =
     ap Some c.message_coming-then-is_due_before.ensures ∙ ap (λ n. Some (as_coming (tells_on n) (λ number. false) (key_of c.in-Some-earliest.message.now)))
     (ap length c.nodes.ensures ∙ as_many_nodes c.args.topology.now.loopbacks)
-    ∙ other_first (news_coming hears_on c.args.limit (keys_in c.args.transport.now.messages))
-    (news_coming (tells_on (length c.args.topology.now.loopbacks)) c.args.limit (keys_in c.args.routes.now.messages))
-    (as_coming hears_on (λ number. false) (key_of c.in-Some.pdu.now))
-    (as_coming (tells_on (length c.args.topology.now.loopbacks)) (λ number. false) (key_of c.in-Some-earliest.message.now))
-    (news_by hears_on c.args.limit c.args.transport.now.messages c.in-Some.pdu.now (ap (earliest c.args.limit) (sym c.messages.ensures)
-    ∙ sym c.earliest.ensures.value ∙ ap option_copied c.in-Some.is))
-    (news_by (tells_on (length c.args.topology.now.loopbacks)) c.args.limit c.args.routes.now.messages c.in-Some-earliest.message.now
-    (ap (earliest c.args.limit) (sym c.messages-2.ensures) ∙ sym c.earliest-2.ensures.value ∙ ap option_copied c.in-Some-earliest.is))
+    ∙ first_news (length c.args.topology.now.loopbacks) c.args.limit c.args.transport.now.messages c.args.routes.now.messages c.in-Some.pdu.now
+    c.in-Some-earliest.message.now true (ap (earliest c.args.limit) (sym c.messages.ensures) ∙ sym c.earliest.ensures.value ∙ ap option_copied c.in-Some.is)
+    (ap (earliest c.args.limit) (sym c.messages-2.ensures) ∙ sym c.earliest-2.ensures.value ∙ ap option_copied c.in-Some-earliest.is)
     (sym c.is_due_before.ensures ∙ c.if-is_due_before.true)
 
 pub pdu_coming-requires-2 : goal.pdu_coming-requires-2
@@ -84,12 +79,7 @@ pdu_coming-requires-2 c =
 pub returns : goal.returns
 returns c =
     ap Some c.pdu_coming-2.ensures
-    ∙ one_first (news_coming hears_on c.args.limit (keys_in c.args.transport.now.messages))
-    (news_coming (tells_on (length c.args.topology.now.loopbacks)) c.args.limit (keys_in c.args.routes.now.messages))
-    (as_coming hears_on (λ number. false) (key_of c.in-Some.pdu.now))
-    (as_coming (tells_on (length c.args.topology.now.loopbacks)) (λ number. false) (key_of c.in-Some-earliest.message.now))
-    (news_by hears_on c.args.limit c.args.transport.now.messages c.in-Some.pdu.now (ap (earliest c.args.limit) (sym c.messages.ensures)
-    ∙ sym c.earliest.ensures.value ∙ ap option_copied c.in-Some.is))
-    (news_by (tells_on (length c.args.topology.now.loopbacks)) c.args.limit c.args.routes.now.messages c.in-Some-earliest.message.now
-    (ap (earliest c.args.limit) (sym c.messages-2.ensures) ∙ sym c.earliest-2.ensures.value ∙ ap option_copied c.in-Some-earliest.is))
+    ∙ first_news (length c.args.topology.now.loopbacks) c.args.limit c.args.transport.now.messages c.args.routes.now.messages c.in-Some.pdu.now
+    c.in-Some-earliest.message.now false (ap (earliest c.args.limit) (sym c.messages.ensures) ∙ sym c.earliest.ensures.value ∙ ap option_copied c.in-Some.is)
+    (ap (earliest c.args.limit) (sym c.messages-2.ensures) ∙ sym c.earliest-2.ensures.value ∙ ap option_copied c.in-Some-earliest.is)
     (sym c.is_due_before.ensures ∙ c.if-is_due_before.false)
