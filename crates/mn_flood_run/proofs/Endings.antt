@@ -1,37 +1,31 @@
 -- How a call ends.
-use Rattle.std.proofs.Common.{◌≡◌, ℕ, Bool, true, false, cond, List, [], ◌++◌, Option, Some, Result, Ok, Err, OnErr, refl, sym, ◌∙◌, ap, subst, append-nil}
+use Rattle.std.proofs.Common.{◌≡◌, ℕ, List, [], ◌++◌, Option, Some, Result, Ok, Err, OnErr, refl, sym, ◌∙◌, ap, subst, append-nil}
 use Rattle.std.specs.Prelude.{option_map}
-use Rattle.mn_base.specs.Limits.{most_steps}
+use Rattle.std.specs.Option.{ForSome}
 use Rattle.mn_edge.specs.Files.{Files, file}
 use Rattle.mn_topo.specs.Network.{Network}
 use Rattle.mn_topo_toml.specs.Topology.{topology_of}
 use Rattle.mn_script.specs.Reading.{lines_of}
-use Rattle.mn_flood_laws.specs.Course.{FloodRun}
 use Rattle.mn_lines.specs.Putting.{PutOn, PartPut, Puts, PutsPart}
 use Rattle.mn_lines.proofs.Putting.{begun, ended}
-use Rattle.mn_answer.specs.declared.outcome.Limit.TheVariants.{Steps}
 use Rattle.mn_answer.specs.declared.outcome.Outcome.{Outcome}
-use Rattle.mn_answer.specs.declared.outcome.Outcome.TheVariants.{Done, Usage, ReadFault, WriteFault, NoMemory, BadTopology, BadScript, BadCapture, BadSecond, BadJoints, TooLarge}
-use Rattle.mn_answer.specs.Endings.{OutcomeIs, TextIs, SinkCausedBy}
+use Rattle.mn_answer.specs.declared.outcome.Outcome.TheVariants.{Done}
+use Rattle.mn_answer.specs.Endings.{TextIs}
 use Rattle.mn_flood_run.specs.declared.command.FloodLine.{FloodLine}
 use Rattle.mn_flood_run.specs.Language.{flood_says}
-use Rattle.mn_flood_run.specs.Report.{course_of, report}
+use Rattle.mn_flood_run.specs.Report.{course_of}
 use Rattle.mn_flood_run.specs.Laws.{AreSettled, AreDrained}
-use Rattle.mn_flood_run.specs.Answer.{outcome_of, told, flood_done}
+use Rattle.mn_flood_run.specs.Answer.{flood_done}
 use Rattle.mn_flood_run.specs.Headline.{IsScriptTold, IsFloodTold}
 
 -- 1. What stands in the sink
 
-pub on_err : {T E : Type 0} (r : Result T E) (P : Type 0) → P → OnErr r P
+on_err : {T E : Type 0} (r : Result T E) (P : Type 0) → P → OnErr r P
 on_err (Ok x) P p = tt
 on_err (Err e) P p = p
 
-pub put_on : (waits before : List ℕ) (written : Option (List ℕ)) → waits ≡ [] → written ≡ Some before → PutOn before [] waits written
+put_on : (waits before : List ℕ) (written : Option (List ℕ)) → waits ≡ [] → written ≡ Some before → PutOn before [] waits written
 put_on waits before written none is = subst (λ w. PutOn before [] w written) (sym none) (begun before written is)
-
--- nothing was put
-pub nothing_put : (text before : List ℕ) (written : Option (List ℕ)) → written ≡ Some before → PartPut text before written
-nothing_put text before written is = ([], (text, refl), is ∙ ap Some (sym (append-nil before)))
 
 -- a text was put and all that waited
 pub all_put : (text before waits more rest : List ℕ) (one two three : Option (List ℕ)) → waits ≡ [] → one ≡ Some before → Puts text waits more one two → Puts [] more rest two three →
@@ -40,103 +34,33 @@ all_put text before waits more rest one two three none is first second done =
     let on : PutOn before (text ++ []) rest three = second before text (first before [] (put_on waits before one none is)) in
     ended before (text ++ []) three (subst (λ w. PutOn before (text ++ []) w three) done on) ∙ ap (λ t. Some (before ++ t)) (append-nil text)
 
-pub part_put : (text before waits : List ℕ) (one two : Option (List ℕ)) → waits ≡ [] → one ≡ Some before → PutsPart text waits one two → PartPut text before two
-part_put text before waits one two none is first = first before [] (put_on waits before one none is)
+-- or a first part of it
+module _ {T E : Type 0} (r : Result T E) (text waits : List ℕ) (one two : Option (List ℕ)) (none : waits ≡ []) where
+  part_put : PutsPart text waits one two → (before : List ℕ) → one ≡ Some before → PartPut text before two
+  part_put first before is = first before [] (put_on waits before one none is)
 
-pub part_ended : (text before waits more : List ℕ) (one two three : Option (List ℕ)) → waits ≡ [] → one ≡ Some before → Puts text waits more one two → PutsPart [] more two three →
-    PartPut text before three
-part_ended text before waits more one two three none is first second =
-    subst (λ t. PartPut t before three) (append-nil text) (second before text (first before [] (put_on waits before one none is)))
+  pub part_if_err : PutsPart text waits one two → OnErr r (ForSome one (λ before. PartPut text before two))
+  part_if_err first = on_err r (ForSome one (λ before. PartPut text before two)) (part_put first)
 
--- 2. The outcome of a course
+  part_ended : (more : List ℕ) (three : Option (List ℕ)) → Puts text waits more one two → PutsPart [] more two three → (before : List ℕ) → one ≡ Some before →
+      PartPut text before three
+  part_ended more three first second before is =
+      subst (λ t. PartPut t before three) (append-nil text) (second before text (first before [] (put_on waits before one none is)))
 
-module _ (topology : Network) (run : FloodRun) where
-  by_end : (b : Bool) → run.is_stopped ≡ b → OutcomeIs (Some (told topology run)) (cond b (TooLarge Steps most_steps) Done)
-  by_end true e = ap (λ b. cond b (TooLarge Steps most_steps) Done) e
-  by_end false e = ap (λ b. cond b (TooLarge Steps most_steps) Done) e
+  pub part_if_end_errs : (more : List ℕ) (three : Option (List ℕ)) → Puts text waits more one two → PutsPart [] more two three →
+      OnErr r (ForSome one (λ before. PartPut text before three))
+  part_if_end_errs more three first second = on_err r (ForSome one (λ before. PartPut text before three)) (part_ended more three first second)
 
-  pub outcome_told : (outcome : Outcome) → outcome ≡ outcome_of run → OutcomeIs (Some (told topology run)) outcome
-  outcome_told outcome is = subst (OutcomeIs (Some (told topology run))) (sym is) (by_end run.is_stopped refl)
-
-  text_by : (b : Bool) (before : List ℕ) (written : Option (List ℕ)) → written ≡ Some (before ++ report topology run) →
-      TextIs (Some (told topology run)) before written (cond b (TooLarge Steps most_steps) Done)
-  text_by true before written e = e
-  text_by false before written e = e
-
-  pub text_told : (outcome : Outcome) (before : List ℕ) (written : Option (List ℕ)) → outcome ≡ outcome_of run → written ≡ Some (before ++ report topology run) →
-      TextIs (Some (told topology run)) before written outcome
-  text_told outcome before written is e = subst (TextIs (Some (told topology run)) before written) (sym is) (text_by run.is_stopped before written e)
-
-  cause_by : (b : Bool) (old new : Option ℕ) → new ≡ old → SinkCausedBy old new (cond b (TooLarge Steps most_steps) Done)
-  cause_by true old new e = (refl, refl, e)
-  cause_by false old new e = (refl, refl, e)
-
-  pub cause_told : (outcome : Outcome) (old new : Option ℕ) → outcome ≡ outcome_of run → new ≡ old → SinkCausedBy old new outcome
-  cause_told outcome old new is e = subst (SinkCausedBy old new) (sym is) (cause_by run.is_stopped old new e)
-
-  usage_by : (b : Bool) → cond b (TooLarge Steps most_steps) Done ≡ Usage → ⊥
-  usage_by true e = cc
-  usage_by false e = cc
-
-  pub no_usage : (outcome : Outcome) → outcome ≡ outcome_of run → outcome ≡ Usage → ⊥
-  no_usage outcome is e = usage_by run.is_stopped (sym is ∙ e)
-
--- 3. What is told where all was done
+-- 2. What is told where all was done
 
 pub script_told : (topology : Network) (lines : List FloodLine) (script : List ℕ) (files : Files) (before : List ℕ) (written : Option (List ℕ)) (o : Outcome) →
     option_map (lines_of (flood_says topology) 1) (file files script) ≡ Some (Ok lines) → AreSettled topology (course_of topology lines) → AreDrained topology lines →
     TextIs (Some (flood_done topology lines)) before written o → IsScriptTold topology script files before written o
 script_told topology lines script files before written Done read settled drained text =
     record { lines = lines; run = course_of topology lines; lines_read = read; played = refl; settled = settled; drained = drained; told = text }
-script_told topology lines script files before written Usage read settled drained text = tt
-script_told topology lines script files before written ReadFault read settled drained text = tt
-script_told topology lines script files before written WriteFault read settled drained text = tt
-script_told topology lines script files before written NoMemory read settled drained text = tt
-script_told topology lines script files before written (BadTopology rule place) read settled drained text = tt
-script_told topology lines script files before written (BadScript rule line) read settled drained text = tt
-script_told topology lines script files before written (BadCapture rule place) read settled drained text = tt
-script_told topology lines script files before written (BadSecond rule place) read settled drained text = tt
-script_told topology lines script files before written (BadJoints rule line) read settled drained text = tt
-script_told topology lines script files before written (TooLarge which limit) read settled drained text = tt
-
-pub script_undone : (topology : Network) (script : List ℕ) (files : Files) (before : List ℕ) (written : Option (List ℕ)) (o : Outcome) → (o ≡ Done → ⊥) →
-    IsScriptTold topology script files before written o
-script_undone topology script files before written Done not = absurd (not refl)
-script_undone topology script files before written Usage not = tt
-script_undone topology script files before written ReadFault not = tt
-script_undone topology script files before written WriteFault not = tt
-script_undone topology script files before written NoMemory not = tt
-script_undone topology script files before written (BadTopology rule place) not = tt
-script_undone topology script files before written (BadScript rule line) not = tt
-script_undone topology script files before written (BadCapture rule place) not = tt
-script_undone topology script files before written (BadSecond rule place) not = tt
-script_undone topology script files before written (BadJoints rule line) not = tt
-script_undone topology script files before written (TooLarge which limit) not = tt
+script_told topology lines script files before written _ read settled drained text = tt
 
 pub flood_told : (topology : Network) (name script : List ℕ) (files : Files) (before : List ℕ) (written : Option (List ℕ)) (o : Outcome) →
     option_map topology_of (file files name) ≡ Some (Ok topology) → IsScriptTold topology script files before written o → IsFloodTold name script files before written o
 flood_told topology name script files before written Done read kept = record { topology = topology; topology_read = read; script = kept }
-flood_told topology name script files before written Usage read kept = tt
-flood_told topology name script files before written ReadFault read kept = tt
-flood_told topology name script files before written WriteFault read kept = tt
-flood_told topology name script files before written NoMemory read kept = tt
-flood_told topology name script files before written (BadTopology rule place) read kept = tt
-flood_told topology name script files before written (BadScript rule line) read kept = tt
-flood_told topology name script files before written (BadCapture rule place) read kept = tt
-flood_told topology name script files before written (BadSecond rule place) read kept = tt
-flood_told topology name script files before written (BadJoints rule line) read kept = tt
-flood_told topology name script files before written (TooLarge which limit) read kept = tt
-
-pub flood_undone : (name script : List ℕ) (files : Files) (before : List ℕ) (written : Option (List ℕ)) (o : Outcome) → (o ≡ Done → ⊥) →
-    IsFloodTold name script files before written o
-flood_undone name script files before written Done not = absurd (not refl)
-flood_undone name script files before written Usage not = tt
-flood_undone name script files before written ReadFault not = tt
-flood_undone name script files before written WriteFault not = tt
-flood_undone name script files before written NoMemory not = tt
-flood_undone name script files before written (BadTopology rule place) not = tt
-flood_undone name script files before written (BadScript rule line) not = tt
-flood_undone name script files before written (BadCapture rule place) not = tt
-flood_undone name script files before written (BadSecond rule place) not = tt
-flood_undone name script files before written (BadJoints rule line) not = tt
-flood_undone name script files before written (TooLarge which limit) not = tt
+flood_told topology name script files before written _ read kept = tt

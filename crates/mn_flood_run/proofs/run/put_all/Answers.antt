@@ -1,20 +1,14 @@
-use Rattle.std.specs.Option.{ForSome}
-use Rattle.mn_lines.specs.Putting.{PartPut}
 use Rattle.mn_flood_run.specs.Report.{report, course_of}
-use Rattle.mn_flood_run.proofs.Endings.{on_err, all_put, part_put, part_ended}
+use Rattle.mn_flood_run.proofs.Endings.{all_put, part_if_err, part_if_end_errs}
 use Rattle.mn_flood_run.proofs.run.put_all.Goals as goal
 
 pub returns-in_err-outcome-clause-part : goal.returns-in_err-outcome-clause-part
 returns-in_err-outcome-clause-part g c =
-    let text = report c.args.topology.now (course_of c.args.topology.now c.args.lines.now) in
-    on_err _ (ForSome (g.O.Sink.written c.args.out.now) (λ before. PartPut (report c.args.topology.now (course_of c.args.topology.now c.args.lines.now)) before (g.O.Sink.written c.put_report.new.out)))
-    (λ before is. part_put text before _ _ _ c.in_ok-page.ensures is c.in_err-outcome.ensures.told.part)
+    part_if_err _ (report c.args.topology.now (course_of c.args.topology.now c.args.lines.now)) _ _ _ c.in_ok-page.ensures c.in_err-outcome.ensures.told.part
 
 pub returns-in_err-end-clause-part : goal.returns-in_err-end-clause-part
 returns-in_err-end-clause-part g c =
-    let text = report c.args.topology.now (course_of c.args.topology.now c.args.lines.now) in
-    on_err _ (ForSome (g.O.Sink.written c.args.out.now) (λ before. PartPut (report c.args.topology.now (course_of c.args.topology.now c.args.lines.now)) before (g.O.Sink.written c.end.new.out)))
-    (λ before is. part_ended text before _ _ _ _ _ c.in_ok-page.ensures is c.in_ok-outcome.ensures.told.put c.in_err-end.ensures.part)
+    part_if_end_errs _ (report c.args.topology.now (course_of c.args.topology.now c.args.lines.now)) _ _ _ c.in_ok-page.ensures _ _ c.in_ok-outcome.ensures.told.put c.in_err-end.ensures.part
 
 pub returns-clause-put : goal.returns-clause-put
 returns-clause-put g c = λ before is.
