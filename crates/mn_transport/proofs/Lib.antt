@@ -1,3 +1,4 @@
+pub mod Attached
 pub mod Few
 pub mod Life
 pub mod Spent

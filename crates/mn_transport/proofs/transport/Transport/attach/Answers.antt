@@ -1,21 +1,24 @@
-use Rattle.std.proofs.Common.{ℕ, ◌≡◌, ◌↔◌, ◌+◌, length, Ok, Err}
+use Rattle.std.proofs.Common.{rules, ℕ, ◌≡◌, Ok, Err}
 use Rattle.std.specs.Prelude.{IsErrOf, Result}
 use Rattle.std.proofs.lemmas.Result.{err_from_is_err_and}
 use Rattle.mn_labels.specs.declared.refusal.LabelBad.{LabelBad}
 use Rattle.mn_labels.specs.declared.refusal.LabelBad.TheVariants as bad
 use Rattle.mn_transport_laws.specs.Carried.{Carried}
 use Rattle.mn_transport.specs.Inside.{carried_in}
-use Rattle.mn_transport_laws.proofs.Attaching.{IsAttached, IsSpent}
-use Rattle.mn_transport_laws.proofs.Sited.{attached-goes, attached-label, attached-next, still-stands}
+use Rattle.mn_transport_laws.proofs.Attaching.{IsSpent}
+use Rattle.mn_transport_laws.proofs.Sited.{still-stands}
+use Rattle.mn_transport.proofs.Attached.{attached-at}
 use Rattle.mn_transport.proofs.Spent.{spent-at}
 use Rattle.mn_transport.proofs.transport.Transport.attach.Goals as goal
 
-pub returns-clause-goes : goal.returns-clause-goes
-returns-clause-goes c =
+pub returns : goal.returns
+returns c =
     let old : Carried = carried_in c.self.inside in
     let done = c.in_ok-label.ensures in
-    let did : IsAttached c.args.site c.index_mut-edge.result.now c.attach.new.self c.in_ok-label.label =
-    record {
+    let at =
+    attached-at c.args.topology.now c.laws.ensures old c.args.self.now c.self.view_is c.args.site c.home_of-home.result.0 c.from.result
+    c.home_of-home.ensures.home c.from.ensures c.home_of-home.ensures.there
+    c.index_mut-edge.result.now c.index_mut-edge.ensures.value c.attach.new.self c.in_ok-label.label c.from-2.result c.from-2.ensures (record {
       label_is = done.label;
       labels_are = done.given;
       in_range = c.labels_fit.ensures;
@@ -23,55 +26,19 @@ returns-clause-goes c =
       others = done.others;
       table = done.table;
       kept = done.kept;
-    } in
-    λ journal tick stands turn.
-    attached-goes c.args.topology.now c.laws.ensures old c.args.self.now c.self.view_is c.args.site c.home_of-home.result.0 c.from.result
-    c.home_of-home.ensures.home c.from.ensures c.home_of-home.ensures.there
-    c.index_mut-edge.result.now c.index_mut-edge.ensures.value c.attach.new.self c.in_ok-label.label c.from-2.result c.from-2.ensures did journal stands turn tick
-
-pub returns-clause-label : goal.returns-clause-label
-returns-clause-label c =
-    let old : Carried = carried_in c.self.inside in
-    let done = c.in_ok-label.ensures in
-    let did : IsAttached c.args.site c.index_mut-edge.result.now c.attach.new.self c.in_ok-label.label =
+    }) in
     record {
-      label_is = done.label;
-      labels_are = done.given;
-      in_range = c.labels_fit.ensures;
-      used = done.used;
-      others = done.others;
-      table = done.table;
-      kept = done.kept;
-    } in
-    λ journal tick stands turn.
-    attached-label c.args.topology.now c.laws.ensures old c.args.self.now c.self.view_is c.args.site c.home_of-home.result.0 c.from.result
-    c.home_of-home.ensures.home c.from.ensures c.home_of-home.ensures.there
-    c.index_mut-edge.result.now c.index_mut-edge.ensures.value c.attach.new.self c.in_ok-label.label c.from-2.result c.from-2.ensures did journal stands turn tick
-
-pub returns-clause-next : goal.returns-clause-next
-returns-clause-next c =
-    let old : Carried = carried_in c.self.inside in
-    let done = c.in_ok-label.ensures in
-    let did : IsAttached c.args.site c.index_mut-edge.result.now c.attach.new.self c.in_ok-label.label =
-    record {
-      label_is = done.label;
-      labels_are = done.given;
-      in_range = c.labels_fit.ensures;
-      used = done.used;
-      others = done.others;
-      table = done.table;
-      kept = done.kept;
-    } in
-    λ journal stands turn.
-    attached-next c.args.topology.now c.laws.ensures old c.args.self.now c.self.view_is c.args.site c.home_of-home.result.0 c.from.result
-    c.home_of-home.ensures.home c.from.ensures c.home_of-home.ensures.there
-    c.index_mut-edge.result.now c.index_mut-edge.ensures.value c.attach.new.self c.in_ok-label.label c.from-2.result c.from-2.ensures did journal stands turn
-
-pub returns-clause-spent : goal.returns-clause-spent
-returns-clause-spent c =
-    let old : Carried = carried_in c.self.inside in
-    spent-at c.args.topology.now c.args.site old c.args.self.now c.self.view_is c.requires.may c.home_of-home.result.0 c.from.result
-    c.home_of-home.ensures.home c.from.ensures c.index_mut-edge.result.now c.index_mut-edge.ensures.value (let r : Result ℕ LabelBad = Ok c.in_ok-label.label in IsErrOf r bad.Spent) c.in_ok-label.ensures.spent
+      goes = at.goes;
+      label = at.label;
+      next = at.next;
+      spent =
+          spent-at c.args.topology.now c.args.site old c.args.self.now c.self.view_is c.requires.may c.home_of-home.result.0 c.from.result
+          c.home_of-home.ensures.home c.from.ensures c.index_mut-edge.result.now c.index_mut-edge.ensures.value
+          (let r : Result ℕ LabelBad = Ok c.in_ok-label.label in IsErrOf r bad.Spent) c.in_ok-label.ensures.spent;
+      notices = search rules;
+      messages = search rules;
+      still = λ refused. cc;
+    }
 
 pub returns-in_err-label-clause-spent : goal.returns-in_err-label-clause-spent
 returns-in_err-label-clause-spent c =
