@@ -1,11 +1,10 @@
 //! The steps and the mark of a damage, and the damage of an entry.
 ghost use Rattle.std.specs.Prelude.{◌≡◌};
-ghost use Rattle.mn_entry.specs.Entries.{mark_fits, entry_fits};
 ghost use Rattle.mn_topo.specs.declared.steps.Step.TheVariants.{BgpDown};
-ghost use Rattle.mn_entry.specs.Damages.{lesser, greater, hearing, ending, number_of, damage_fits, mark_of, damage_in};
+ghost use Rattle.mn_entry.specs.Damages.{lesser, greater, hearing, ending, number_of, mark_of, damage_in};
 
 use mn_base::NodeNo;
-use mn_topo::{Damage, Damaged, JournalEntry, Step, Topology};
+use mn_topo::{Damage, Damaged, JournalEntry, Step};
 use mn_wiring::Dir;
 
 /// The step by which the message would have been heard.
@@ -76,29 +75,4 @@ pub fn damage_of(entry: &JournalEntry) -> Option<Damage>
         (Step::BgpDown(a, b), Damaged::Back(number)) => Some(Damage::Bgp(b, a, number)),
         _ => None,
     }
-}
-
-/// Whether the topology has room for the damage: for the step by which its message would have been heard, and the record is from 1.
-pub fn damage_fits(topology: &Topology, damage: &Damage) -> bool
-    ensures { result ≡ damage_fits topology.now damage.now }
-{
-    topology.fits(&hearing(damage)) && number_of(damage) >= 1
-}
-
-/// The step has no mark, or it ends the session of the message that was damaged, and the record is from 1.
-#[tactic(auto, using(crate::proofs::Told::no_mark, crate::proofs::Told::plain_tells_none))]
-fn mark_fits(entry: &JournalEntry) -> bool
-    ensures { result ≡ mark_fits entry.now.step entry.now.damaged }
-{
-    match damage_of(entry) {
-        Some(damage) => number_of(&damage) >= 1,
-        None => entry.damaged == Damaged::Undamaged,
-    }
-}
-
-/// Whether the topology has room for the entry: for its step, which has no mark but that of a damage that ends so.
-pub fn entry_fits(topology: &Topology, entry: &JournalEntry) -> bool
-    ensures { result ≡ entry_fits topology.now entry.now }
-{
-    topology.fits(&entry.step) && mark_fits(entry)
 }

@@ -12,12 +12,12 @@
 //!
 //! - `specs/Damages`: these as values, and the damage that an entry tells
 //! - `specs/Entries`: which entries fit a topology
-//! - `damage`: the steps and the mark of a damage, the damage of an entry, and whether a topology has room for either
+//! - `damage`: the steps and the mark of a damage, and the damage of an entry
 //! - `laws`: an entry is of one damage; an entry that fits is a step's or a damage's
 #![tactic(auto)]
 
 mod damage;
 mod laws;
 
-pub use damage::{damage_fits, damage_of, ending, entry_fits, hearing, mark, number_of};
+pub use damage::{damage_of, ending, hearing, mark, number_of};
 pub use laws::{a_damage_has_a_fitting_entry, a_fitting_entry_has_a_maker, an_entry_is_one_damage};

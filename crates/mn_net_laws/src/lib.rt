@@ -43,8 +43,6 @@ ghost use Rattle.mn_net_laws.specs.Alike.{RefusesAlike, ComesAlike};
 ghost use Rattle.mn_net_laws.specs.Labels.{LabelsMean};
 ghost use Rattle.mn_net_laws.specs.Now.{NetNow, StandsFor};
 
-pub use mn_net_tally::{Tally, count_frame, count_static};
-
 /// What a network refuses by what its parts show is what the ledger refuses, for the same cause.
 pub fn what_is_seen_refuses_alike()
     ensures { RefusesAlike }

@@ -13,8 +13,6 @@
 ghost use Rattle.mn_net_parts_laws.specs.Counted.{IsCounted};
 ghost use Rattle.mn_net_parts_laws.specs.Stepped.{GoesOn};
 
-pub use mn_transit::Transit;
-
 /// Once each part has done a step, the network stands for the ledger after the journal with that step.
 pub fn a_network_goes_on()
     ensures { GoesOn }

@@ -9,7 +9,7 @@ use crate::sites::{has_target, is_attached, site_with, targets_of};
 use mn_base::{LinkNo, MOST_FLYING_BYTES, MOST_IN_FLIGHT, MOST_STATIC_ROUTES, MOST_TARGETS, VrfNo};
 use mn_flight::Flight;
 use mn_ledger::Refused;
-use mn_net_laws::Tally;
+use mn_net_tally::Tally;
 use mn_routing::Routes;
 use mn_topo::{Step, Topology};
 use mn_transit::Transit;

@@ -25,7 +25,7 @@ mod parts;
 mod sites;
 
 pub use first::refusal;
-pub use mn_net_laws::{Tally, count_frame, count_static};
+pub use mn_net_tally::{Tally, count_frame, count_static};
 pub use mn_routing::Routes;
 pub use mn_transport::{MOST_NODES, Transport};
 pub use next::{coming, pending};

@@ -9,7 +9,7 @@ use crate::parts::Parts;
 use mn_base::{LinkNo, ListOf, NodeNo};
 use mn_course_laws::{Coming, Kind};
 use mn_flight::{Flight, Item};
-use mn_net_laws::Tally;
+use mn_net_tally::Tally;
 use mn_routing::Routes;
 use mn_topo::{Step, Topology};
 use mn_transit::Transit;

@@ -1,5 +1,5 @@
 //! The parts of a network.
-use mn_net_laws::Tally;
+use mn_net_tally::Tally;
 use mn_routing::Routes;
 use mn_topo::Topology;
 use mn_transit::Transit;

@@ -3,10 +3,10 @@ ghost use Rattle.std.specs.Prelude.{◌≡◌, None, Some, ⊤, is_some};
 ghost use Rattle.std.proofs.lemmas.Option.{none-some};
 ghost use Rattle.mn_sched.specs.Watching.{is_record};
 
-use mn_entry::entry_fits;
 use mn_journal::put_entry;
 use mn_net::{Done, Net};
 use mn_sched::{Watch, WatchBad};
+use mn_script::entry_fits;
 use std::alloc::{AllocError, Global};
 
 /// A capture of one packet, and the lines of the steps. Its calls are numbered from 1, and the one of a number fails.

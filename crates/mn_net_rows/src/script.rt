@@ -7,11 +7,10 @@ ghost use Rattle.mn_script.specs.Lines.{command_fits};
 ghost use Rattle.mn_sched.specs.Playing.{is_show};
 
 use crate::recorder::Recorder;
-use mn_entry::damage_fits;
 use mn_net::Net;
 use mn_rows::{Answer, Call, shown};
 use mn_sched::{Played, Stopped, play};
-use mn_script::{Command, Line, ScriptBad, count_lines, read_script};
+use mn_script::{Command, Line, ScriptBad, count_lines, damage_fits, read_script};
 use mn_topo::Topology;
 use std::alloc::{AllocError, Global};
 

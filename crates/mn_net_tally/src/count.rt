@@ -5,8 +5,8 @@ ghost use Rattle.mn_flight.specs.Flying.{IsFlight};
 ghost use Rattle.mn_net_tally.specs.Tallies.{frame_of, after_frame, after_static, HasStatic};
 
 use crate::tally::Tally;
-use mn_net_parts_laws::Transit;
 use mn_topo::{Step, Topology};
+use mn_transit::Transit;
 
 /// Counts the frame of a number, if it flies: the frame that a step sent.
 pub fn count_frame(tally: &mut Tally, topology: &Topology, transit: &Transit, number: u64)

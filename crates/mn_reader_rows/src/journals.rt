@@ -1,9 +1,9 @@
 //! Journals over the last topology, read and written.
 use crate::escapes::{escaped, unescaped};
 use crate::topologies::Topologies;
-use mn_entry::entry_fits;
 use mn_journal::{JournalBad, put_entry, read_journal};
 use mn_rows::{Answer, Call};
+use mn_script::entry_fits;
 use mn_topo::{Damaged, JournalEntry, Topology};
 use std::alloc::{AllocError, Global};
 use std::fmt::Write;

@@ -23,6 +23,7 @@
 //! - `operands`: what the words of a line name, S3 to S6
 //! - `steps`: the lines that name a step, a function each
 //! - `damages`: the lines that name a damaged message
+//! - `fits`: whether a topology has room for a damage or an entry
 //! - `lines`: all lines, by their first word
 //! - `reading`: the lines of a file in any language of lines, of which a script is one
 //! - `read`: the whole script
@@ -31,6 +32,7 @@
 
 mod command;
 mod damages;
+mod fits;
 mod laws;
 mod lines;
 mod operands;
@@ -41,6 +43,7 @@ mod steps;
 mod words;
 
 pub use command::{Command, Line, Show};
+pub use fits::{damage_fits, entry_fits};
 pub use laws::{all_read, command_again, command_only, first_refused};
 pub use lines::{drain_line, line_says, show_vrf};
 pub use operands::{link_in, node_in, number_in, prefix_in, site_in, target_in, vrf_in};

@@ -1,7 +1,8 @@
-pub mod NameKeys
+pub mod Places
+pub mod NameNumbers
 pub mod NodeList
-pub mod LinkKeys
-pub mod VrfKeys
+pub mod LinkNumbers
+pub mod Edges
 pub mod Prefixes
 pub mod Targets
 pub mod Wirings

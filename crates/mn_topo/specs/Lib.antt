@@ -2,6 +2,7 @@ pub mod Tables
 pub mod Names
 pub mod Nodes
 pub mod Links
+pub mod Numbers
 pub mod VrfTable
 pub mod SiteTable
 pub mod Network

@@ -11,7 +11,7 @@
 //! Whoever makes one fills the tables entry by entry, and hands them over as parts that are lawful. The rooms:
 //!
 //! - `names`: names, numbered in their order
-//! - `nodes`, `links`, `vrfs`, `sites`: a table each, with sets to look among
+//! - `nodes`, `links`, `vrfs`, `sites`: a table each, with what is looked up in it
 //! - `topology`: the parts, and what a topology answers; `laws`: what follows from the definitions
 //! - `steps`: the steps that a network is moved by, and the entries of its journal
 #![tactic(auto)]

@@ -2,26 +2,27 @@
 ghost use Rattle.std.specs.Prelude.{◌≡◌, ◌<◌, ◌^◌, ◌++◌, ◌∷◌, [], false, length, position, OnOk, IfSome, is_some};
 ghost use Rattle.mn_topo.specs.Links.{joins, are_joined};
 
-use indexmap::IndexSet;
 use mn_wiring::LinkEnds;
 use std::alloc::{AllocError, Global};
+use std::collections::HashMap;
 use std::marker::Model;
 
-/// The links in order, and the pairs of nodes that they join to look among.
+/// The links in order, and the number of each by the pair of nodes that it joins.
 pub struct Links {
     links: Vec<LinkEnds>,
-    pairs: IndexSet<(u16, u16)>,
+    pairs: HashMap<(u16, u16), u16>,
 }
 
 impl Model for Links {
-    ghost use Rattle.std.specs.Prelude.{◌≡◌, ◌≤◌, ◌^◌, List, length, map, min, max};
+    ghost use Rattle.std.specs.Prelude.{◌≤◌, ◌^◌, List, length};
     ghost use Rattle.mn_wiring.specs.declared.links.LinkEnds.{LinkEnds};
+    ghost use Rattle.mn_topo.specs.Numbers.{ArePairs};
 
     ghost Value = { List LinkEnds };
 
     ghost view = { λ a. a.links.items };
 
-    ghost invariant = { λ a. (a.pairs.keys ≡ map (λ link. (min link.a.0 link.b.0, max link.a.0 link.b.0)) a.links.items) × (length a.links.items ≤ 2 ^ 16) };
+    ghost invariant = { λ a. ArePairs a.pairs a.links.items × (length a.links.items ≤ 2 ^ 16) };
 }
 
 /// By hand, so that whoever owns them drops them by one call.
@@ -38,7 +39,7 @@ impl Links {
     {
         Links {
             links: Vec::new(alloc),
-            pairs: IndexSet::new(alloc),
+            pairs: HashMap::new(alloc),
         }
     }
 
@@ -55,17 +56,14 @@ impl Links {
         ensures within { IfSome result (λ l. l < length self.now) }
         ensures found { is_some result ≡ are_joined self.now m n }
     {
-        match self.pairs.get_index_of(&(m.min(n), m.max(n))) {
-            Some(index) => Some(index as u16),
-            None => None,
-        }
+        self.pairs.get(&(m.min(n), m.max(n))).copied()
     }
 
     /// Whether a link joins the two nodes.
     pub fn are_joined(&self, m: u16, n: u16) -> bool
         ensures { result ≡ are_joined self.now m n }
     {
-        self.pairs.contains(&(m.min(n), m.max(n)))
+        self.pairs.contains_key(&(m.min(n), m.max(n)))
     }
 
     /// Adds a link, between two nodes that no link joins.
@@ -75,8 +73,9 @@ impl Links {
         ensures { OnOk result (self.new ≡ self.old ++ link ∷ []) }
     {
         let (a, b) = (link.a.0, link.b.0);
+        let number = self.links.len() as u16;
         self.links.reserve(1)?;
-        self.pairs.insert((a.min(b), a.max(b)))?;
+        self.pairs.insert((a.min(b), a.max(b)), number)?;
         self.links.push(link)?;
         Ok(())
     }

@@ -2,29 +2,34 @@
 ghost use Rattle.std.specs.Prelude.{◌≡◌, ◌≤◌, ◌<◌, ◌^◌, ◌++◌, ◌∷◌, [], false, Some, IfSome, OnOk, length, slice_get};
 ghost use Rattle.mn_topo.specs.Names.{number_of, has_name};
 
-use indexmap::IndexSet;
 use std::alloc::{AllocError, Global};
+use std::collections::HashMap;
 use std::marker::Model;
 
-/// At most 2^16 names, in the order in which they came.
+/// At most 2^16 names, in the order in which they came, and the number of each to look up.
 pub struct Names {
-    names: IndexSet<Vec<u8>>,
+    names: Vec<Vec<u8>>,
+    numbers: HashMap<Vec<u8>, u16>,
 }
 
 impl Model for Names {
     ghost use Rattle.std.specs.Prelude.{ℕ, List, map, length, ◌≤◌, ◌^◌};
+    ghost use Rattle.mn_topo.specs.Numbers.{AreNumbers};
 
     ghost Value = { List (List ℕ) };
 
-    ghost view = { λ a. map (λ name. name.items) a.names.keys };
+    ghost view = { λ a. map (λ name. name.items) a.names.items };
 
-    ghost invariant = { λ a. length a.names.keys ≤ 2 ^ 16 };
+    ghost invariant = { λ a. AreNumbers a.numbers (map (λ name. name.items) a.names.items) × (length a.names.items ≤ 2 ^ 16) };
 }
 
 /// By hand, so that whoever owns them drops them by one call.
 impl Drop for Names {
     fn drop(self) {
-        let Names { names: _ } = self;
+        let Names {
+            names: _,
+            numbers: _,
+        } = self;
     }
 }
 
@@ -34,7 +39,8 @@ impl Names {
         ensures { result ≡ [] }
     {
         Names {
-            names: IndexSet::new(alloc),
+            names: Vec::new(alloc),
+            numbers: HashMap::new(alloc),
         }
     }
 
@@ -51,17 +57,14 @@ impl Names {
         ensures value { result ≡ number_of self.now name.now }
         ensures within { IfSome result (λ n. n < length self.now) }
     {
-        match self.names.get_index_of(name) {
-            Some(index) => Some(index as u16),
-            None => None,
-        }
+        self.numbers.get(name).copied()
     }
 
     /// Whether the name is among them.
     pub fn has(&self, name: &[u8]) -> bool
         ensures { result ≡ has_name self.now name.now }
     {
-        self.names.contains(name)
+        self.numbers.contains_key(name)
     }
 
     /// The name of the number.
@@ -69,10 +72,7 @@ impl Names {
         requires { number < length self.now }
         ensures { slice_get self.now number ≡ Some result.now }
     {
-        match self.names.get_index(number as usize) {
-            Some(name) => name.as_slice(),
-            None => unreachable!(),
-        }
+        self.names[usize::from(number)].as_slice()
     }
 
     /// Adds a name.
@@ -82,7 +82,11 @@ impl Names {
         ensures { OnOk result (self.new ≡ self.old ++ name.now ∷ []) }
     {
         let copy = Vec::from_slice(alloc, name)?;
-        self.names.insert(copy)?;
+        let key = Vec::from_slice(alloc, name)?;
+        let number = self.names.len() as u16;
+        self.names.reserve(1)?;
+        self.numbers.insert(key, number)?;
+        self.names.push(copy)?;
         Ok(())
     }
 }

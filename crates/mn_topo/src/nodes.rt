@@ -1,11 +1,11 @@
 //! The nodes.
-ghost use Rattle.std.specs.Prelude.{◌≡◌, ◌<◌, ◌^◌, ◌++◌, ◌∷◌, [], false, length, map, OnOk};
+ghost use Rattle.std.specs.Prelude.{◌≡◌, ◌==◌, ◌<◌, ◌^◌, ◌++◌, ◌∷◌, [], false, length, map, OnOk};
+ghost use Rattle.std.specs.List.{list_any};
 ghost use Rattle.mn_topo.specs.Names.{has_name};
 ghost use Rattle.mn_topo.specs.Network.{nodes_with};
 ghost use Rattle.mn_topo.specs.Nodes.{no_nodes, has_loopback};
 
 use crate::names::Names;
-use indexmap::IndexSet;
 use std::alloc::{AllocError, Global};
 use std::marker::Model;
 
@@ -16,33 +16,32 @@ pub struct Node {
     pub loopback: u32,
 }
 
-/// The nodes in order, and their loopbacks to look among.
+/// The nodes in order, at most some hundreds.
 pub struct Nodes {
     names: Names,
     nodes: Vec<Node>,
-    loopbacks: IndexSet<u32>,
 }
 
 impl Model for Nodes {
-    ghost use Rattle.std.specs.Prelude.{◌≡◌, map};
+    ghost use Rattle.std.specs.Prelude.{map};
     ghost use Rattle.mn_topo.specs.Nodes.{NodeTable};
 
     ghost Value = { NodeTable };
 
-    ghost view = { λ a. record { names = a.names; loopbacks = a.loopbacks.keys } };
-
-    ghost invariant = { λ a. a.loopbacks.keys ≡ map (λ node. node.loopback) a.nodes.items };
+    ghost view = { λ a. record { names = a.names; loopbacks = map (λ node. node.loopback) a.nodes.items } };
 }
 
 /// By hand, so that whoever owns them drops them by one call.
 impl Drop for Nodes {
     fn drop(self) {
-        let Nodes {
-            names: _,
-            nodes: _,
-            loopbacks: _,
-        } = self;
+        let Nodes { names: _, nodes: _ } = self;
     }
+}
+
+fn is_loopback_of(nodes: &[Node], loopback: u32) -> bool
+    ensures { result ≡ list_any (λ node. loopback == node.loopback) nodes.now }
+{
+    nodes.iter().any(|node| loopback == node.loopback)
 }
 
 impl Nodes {
@@ -53,7 +52,6 @@ impl Nodes {
         Nodes {
             names: Names::new(alloc),
             nodes: Vec::new(alloc),
-            loopbacks: IndexSet::new(alloc),
         }
     }
 
@@ -76,7 +74,7 @@ impl Nodes {
     pub fn has_loopback(&self, loopback: u32) -> bool
         ensures { result ≡ has_loopback self.now loopback }
     {
-        self.loopbacks.contains(&loopback)
+        is_loopback_of(&self.nodes, loopback)
     }
 
     /// Adds a node, of a new name and a new loopback.
@@ -88,7 +86,6 @@ impl Nodes {
     {
         self.nodes.reserve(1)?;
         self.names.put(alloc, name)?;
-        self.loopbacks.insert(loopback)?;
         self.nodes.push(Node { loopback })?;
         Ok(())
     }

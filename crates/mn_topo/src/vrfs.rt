@@ -1,9 +1,9 @@
 //! The VRFs.
-ghost use Rattle.std.specs.Prelude.{◌≡◌, ◌<◌, ◌^◌, ◌++◌, ◌∷◌, [], false, length, OnOk};
+ghost use Rattle.std.specs.Prelude.{◌≡◌, ◌==◌, ◌<◌, ◌^◌, ◌++◌, ◌∷◌, [], if◌then◌else◌, false, length, OnOk, OnErr};
+ghost use Rattle.std.specs.List.{list_any};
 ghost use Rattle.mn_topo.specs.Names.{has_name};
 
 use crate::names::Names;
-use indexmap::IndexSet;
 use mn_wiring::{ListOf, NodeNo, Rd, Rt};
 use std::alloc::{AllocError, Global};
 use std::marker::Model;
@@ -19,23 +19,22 @@ pub struct VrfDef {
     pub export: ListOf<Rt>,
 }
 
-/// The VRFs in order, with their distinguishers and the nodes that have one to look among.
+/// The VRFs in order, and the nodes that have one to look among: at most some hundreds.
 pub struct Vrfs {
     names: Names,
     vrfs: Vec<VrfDef>,
-    rds: IndexSet<u64>,
-    edges: IndexSet<u16>,
+    edges: Vec<u16>,
 }
 
 impl Model for Vrfs {
-    ghost use Rattle.std.specs.Prelude.{◌≡◌, map};
+    ghost use Rattle.std.specs.Prelude.{◌≡◌};
     ghost use Rattle.mn_topo.specs.VrfTable.{VrfTable, edges_of};
 
     ghost Value = { VrfTable };
 
     ghost view = { λ a. record { names = a.names; vrfs = a.vrfs.items } };
 
-    ghost invariant = { λ a. (a.rds.keys ≡ map (λ vrf. vrf.rd.0) a.vrfs.items) × (a.edges.keys ≡ edges_of a.vrfs.items) };
+    ghost invariant = { λ a. a.edges.items ≡ edges_of a.vrfs.items };
 }
 
 /// By hand, so that whoever owns them drops them by one call.
@@ -44,13 +43,29 @@ impl Drop for Vrfs {
         let Vrfs {
             names: _,
             vrfs: _,
-            rds: _,
             edges: _,
         } = self;
     }
 }
 
 ghost use Rattle.mn_topo.specs.VrfTable.{no_vrfs, has_rd, is_edge, edges_of};
+
+fn is_among(edges: &[u16], node: u16) -> bool
+    ensures { result ≡ list_any (λ edge. node == edge) edges.now }
+{
+    edges.iter().any(|edge| node == *edge)
+}
+
+/// One more edge, unless it is among them.
+fn add_edge(edges: &mut Vec<u16>, node: u16) -> Result<(), AllocError>
+    ensures ok { OnOk result (edges.new.items ≡ (if list_any (λ edge. node == edge) edges.old.items then edges.old.items else edges.old.items ++ node ∷ [])) }
+    ensures err { OnErr result (edges.new.items ≡ edges.old.items) }
+{
+    if !is_among(edges, node) {
+        edges.push(node)?;
+    }
+    Ok(())
+}
 
 impl Vrfs {
     /// No VRFs.
@@ -60,8 +75,7 @@ impl Vrfs {
         Vrfs {
             names: Names::new(alloc),
             vrfs: Vec::new(alloc),
-            rds: IndexSet::new(alloc),
-            edges: IndexSet::new(alloc),
+            edges: Vec::new(alloc),
         }
     }
 
@@ -83,14 +97,14 @@ impl Vrfs {
     pub fn has_rd(&self, rd: Rd) -> bool
         ensures { result ≡ has_rd self.now.vrfs rd }
     {
-        self.rds.contains(&rd.0)
+        self.vrfs.iter().any(|vrf| rd.0 == vrf.rd.0)
     }
 
     /// Whether a VRF is at the node.
     pub fn is_edge(&self, node: u16) -> bool
         ensures { result ≡ is_edge self.now.vrfs node }
     {
-        self.edges.contains(&node)
+        is_among(&self.edges, node)
     }
 
     /// How many nodes have a VRF.
@@ -108,10 +122,8 @@ impl Vrfs {
         ensures { OnOk result (self.new ≡ record { names = self.old.names ++ name.now ∷ []; vrfs = self.old.vrfs ++ vrf ∷ [] }) }
     {
         self.vrfs.reserve(1)?;
-        self.edges.reserve(1)?;
         self.names.put(alloc, name)?;
-        self.rds.insert(vrf.rd.0)?;
-        self.edges.insert(vrf.node.0)?;
+        add_edge(&mut self.edges, vrf.node.0)?;
         self.vrfs.push(vrf)?;
         Ok(())
     }

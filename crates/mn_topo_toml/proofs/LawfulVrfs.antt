@@ -25,7 +25,7 @@ use Rattle.mn_topo.specs.Lawful.{AreTargets, AreVrfs, is_vrf_of}
 use Rattle.mn_topo_toml.proofs.LawfulEntries.{all_kept, kept, AreReadInTurn, all_push, apart_push, distinct_push, names_push}
 use Rattle.mn_topo_toml.proofs.LawfulLinks.{named_within}
 use Rattle.mn_topo.proofs.Targets.{no_targets}
-use Rattle.mn_topo.proofs.VrfKeys.{edges_from}
+use Rattle.mn_topo.proofs.Edges.{edges_from}
 
 rd_formed : (pair : Option ℕ) → (n : ℕ) →
     ((m : ℕ) → pair ≡ Some m → has_rd_form m ≡ true) → is_none (option_map (λ n. let rd : Rd = record { 0 = n } in rd) pair) ≡ false →

@@ -1,5 +1,6 @@
 pub mod Keys
 pub mod Arrays
+pub mod NameKeys
 pub mod StaticKeys
 pub mod LawfulEntries
 pub mod LawfulLinks

@@ -4,7 +4,7 @@ use Rattle.std.specs.List.{list_any}
 use Rattle.std.proofs.lemmas.List.{map-append}
 use Rattle.mn_prefix.specs.Prefix.{AddressBlock}
 use Rattle.mn_topo.specs.SiteTable.{Static, stands}
-use Rattle.mn_topo.proofs.NameKeys.{put_last}
+use Rattle.mn_topo_toml.proofs.NameKeys.{put_last}
 
 abbrev pub Key : Type 0
 Key = ℕ × ℕ × ℕ

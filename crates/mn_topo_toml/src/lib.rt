@@ -13,13 +13,14 @@
 //!
 //! - `refusal`: the rules, and the places at which they are broken
 //! - `tables`: what is taken from a table of the document
-//! - `top`, `nodes`, `links`, `vrfs`, `sites`: the rules of one kind of table each; `statics`: the prefixes of
-//!   all sites, to look among
+//! - `top`, `nodes`, `links`, `vrfs`, `sites`: the rules of one kind of table each; `numbered`: the sites so far,
+//!   numbered by their names; `statics`: the prefixes of all sites, to look among
 //! - `read`: the whole file, array by array
 #![tactic(auto)]
 
 mod links;
 mod nodes;
+mod numbered;
 mod read;
 mod refusal;
 mod sites;

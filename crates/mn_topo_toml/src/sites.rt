@@ -4,6 +4,7 @@ ghost use Rattle.toml.specs.View.{view, table_view, items_view};
 ghost use Rattle.mn_topo_toml.specs.Rules.{Reads};
 ghost use Rattle.mn_topo_toml.specs.Tables.{tables_of};
 
+use crate::numbered::NumberedSites;
 use crate::statics::Statics;
 use crate::tables::{array_at, has_unknown_key, is_name, lacks, named_at, text_at};
 use crate::{Place, TopoBad, TopoRule};
@@ -66,7 +67,7 @@ fn prefixes_at(alloc: Global, entry: &Table) -> Result<Option<Vec<Prefix>>, Allo
 #[tactic(auto, unfolding(crate::specs::Sites::site_head_rule))]
 fn head_in<'a>(
     alloc: Global,
-    sites: &Sites,
+    sites: &NumberedSites,
     vrfs: &Vrfs,
     entry: &'a Table,
 ) -> Result<Result<SiteHead<'a>, TopoRule>, AllocError>
@@ -91,7 +92,7 @@ fn head_in<'a>(
     if !is_name(name) {
         return Ok(Err(TopoRule::BadName));
     }
-    if sites.names().has(name) {
+    if sites.has(name) {
         return Ok(Err(TopoRule::TwiceNamed));
     }
     let Some(vrf) = named_at(vrfs.names(), "vrf", entry) else {
@@ -108,7 +109,7 @@ fn head_in<'a>(
 #[tactic(auto, unfolding(crate::specs::Sites::site_rule))]
 fn site_in<'a>(
     alloc: Global,
-    sites: &Sites,
+    sites: &NumberedSites,
     vrfs: &Vrfs,
     statics: &mut Statics,
     entry: &'a Table,
@@ -138,17 +139,17 @@ pub(crate) fn read_sites(alloc: Global, vrfs: &Vrfs, values: &[Value]) -> Result
     requires { length values.now ≤ 2 ^ 16 }
     ensures { Reads result (sites_from vrfs.now.names (tables_of (items_view values.now)) no_sites) }
 {
-    let mut sites = Sites::new(alloc);
+    let mut sites = NumberedSites::new(alloc);
     let mut statics = Statics::new(alloc);
     for value in values {
         let Some(entry) = value.as_table() else {
             continue;
         };
-        let place = Place::Site(sites.names().len() as u32);
+        let place = Place::Site(sites.next() as u32);
         match site_in(alloc, &sites, vrfs, &mut statics, entry)? {
-            Ok((name, site)) => sites.put(alloc, name, site)?,
+            Ok((name, site)) => sites = sites.with(alloc, name, site)?,
             Err(rule) => return Err(TopoBad::Refused { rule, place }),
         }
     }
-    Ok(sites)
+    Ok(sites.sites())
 }

@@ -1,12 +1,10 @@
-use Rattle.std.proofs.Common.{ap, ◌∙◌}
+use Rattle.std.proofs.Common.{ap, ◌∙◌, sym, subst, IfSome, ◌<◌, length}
+use Rattle.std.specs.Str.{bytes_eq}
 use Rattle.mn_topo.specs.Names.{number_of}
-use Rattle.mn_topo.proofs.NameKeys.{position_mapped}
+use Rattle.mn_topo.proofs.Places.{is_within}
 use Rattle.mn_topo.proofs.names.Names.number_of.Goals as goal
 
-pub returns-in-Some-clause-value : goal.returns-in-Some-clause-value
-returns-in-Some-clause-value c =
-    c.in-Some.ensures.index ∙ position_mapped c.args.name.now c.self.inside.names.keys ∙ ap (λ names. number_of names c.args.name.now) c.self.view_is
-
-pub returns-in-None-clause-value : goal.returns-in-None-clause-value
-returns-in-None-clause-value c =
-    c.in-None.ensures.index ∙ position_mapped c.args.name.now c.self.inside.names.keys ∙ ap (λ names. number_of names c.args.name.now) c.self.view_is
+pub returns-clause-within : goal.returns-clause-within
+returns-clause-within c =
+    let found = c.copied.ensures ∙ c.get.ensures.value ∙ c.self.invariant.0 c.args.name.now ∙ ap (λ names. number_of names c.args.name.now) c.self.view_is in
+    subst (λ r. IfSome r (λ n. n < length c.args.self.now)) (sym found) (is_within (bytes_eq c.args.name.now) c.args.self.now)

@@ -1,24 +1,11 @@
--- The distinguishers of VRFs and the nodes that have one, as the keys of sets.
-use Rattle.std.proofs.Common.{◌≡◌, ℕ, Bool, true, false, ◌||◌, ◌==◌, if◌then◌else◌, List, [], ◌∷◌, ◌++◌, map, fold, refl, ap, ◌∙◌, sym}
+-- The nodes that have a VRF, each once.
+use Rattle.std.proofs.Common.{◌≡◌, ℕ, Bool, true, false, ◌||◌, ◌==◌, if◌then◌else◌, List, [], ◌∷◌, ◌++◌, fold, refl, ap, ◌∙◌, sym}
 use Rattle.std.specs.List.{list_any}
 use Rattle.std.proofs.lemmas.Bool.{eqb-true, or_right}
-use Rattle.std.proofs.lemmas.List.{map-append}
 use Rattle.std.proofs.lemmas.List.Folds.{list_any-append}
 use Rattle.std.proofs.lemmas.List.Sums.{fold_push}
 use Rattle.mn_topo.specs.declared.vrfs.VrfDef.{VrfDef}
-use Rattle.mn_topo.specs.VrfTable.{has_rd, with_edge, edges_of}
-use Rattle.mn_topo.proofs.NameKeys.{put_last}
-
-abbrev pub rd_key : VrfDef → ℕ
-rd_key vrf = vrf.rd.0
-
-rds_mapped : (q : ℕ) (vs : List VrfDef) → list_any (λ k. q == k) (map rd_key vs) ≡ list_any (λ v. q == v.rd.0) vs
-rds_mapped q [] = refl
-rds_mapped q (v ∷ vs) = ap (λ rest. (q == v.rd.0) || rest) (rds_mapped q vs)
-
--- a look-up among the distinguishers is one among the VRFs
-pub rd_known : (q : ℕ) (keys : List ℕ) (vs : List VrfDef) → keys ≡ map rd_key vs → list_any (λ k. q == k) keys ≡ list_any (λ v. q == v.rd.0) vs
-rd_known q keys vs same = rw same (rds_mapped q vs)
+use Rattle.mn_topo.specs.VrfTable.{with_edge, edges_of}
 
 or_none : (b : Bool) → b ≡ (b || false)
 or_none true = refl
@@ -58,17 +45,10 @@ edges_from q (v ∷ vs) edges = edges_from q vs (with_edge edges v)
 pub edge_known : (q : ℕ) (keys : List ℕ) (vs : List VrfDef) → keys ≡ edges_of vs → list_any (λ k. q == k) keys ≡ list_any (λ v. q == v.node.0) vs
 edge_known q keys vs same = rw same (edges_from q vs [])
 
--- the sets after one more VRF
-pub put_vrf : (vrf : VrfDef) (rds new_rds edges room_edges new_edges : List ℕ) (vs room now after : List VrfDef) → rds ≡ map rd_key vs →
-    edges ≡ edges_of vs → vs ≡ now
-    → has_rd now vrf.rd ≡ false
-    → new_rds ≡ (if list_any (λ k. vrf.rd.0 == k) rds then rds else rds ++ vrf.rd.0 ∷ [])
-    → room_edges ≡ edges
-    → new_edges ≡ (if list_any (λ k. vrf.node.0 == k) room_edges then room_edges else room_edges ++ vrf.node.0 ∷ [])
-    → room ≡ vs → after ≡ room ++ vrf ∷ [] → (new_rds ≡ map rd_key after) × (new_edges ≡ edges_of after)
-put_vrf vrf rds new_rds edges room_edges new_edges vs room now after same same_edges seen absent e kept f room_is pushed =
-    let free : list_any (λ k. vrf.rd.0 == k) rds ≡ false = rd_known vrf.rd.0 rds vs same ∙ ap (λ table. has_rd table vrf.rd) seen ∙ absent in
-    let all : after ≡ vs ++ vrf ∷ [] = pushed ∙ ap (λ front. front ++ vrf ∷ []) room_is in (
-      put_last _ rds new_rds vrf.rd.0 free e ∙ rw (all, map-append rd_key vs (vrf ∷ []), ← same) refl,
-      f ∙ ap (λ es. with_edge es vrf) (kept ∙ same_edges) ∙ sym (rw all (fold_push with_edge [] vs vrf)),
-    )
+-- the edges after one more VRF
+pub put_vrf : (vrf : VrfDef) (edges after_edges : List ℕ) (vs room after : List VrfDef) → edges ≡ edges_of vs
+    → after_edges ≡ (if list_any (λ edge. vrf.node.0 == edge) edges then edges else edges ++ vrf.node.0 ∷ [])
+    → room ≡ vs → after ≡ room ++ vrf ∷ [] → after_edges ≡ edges_of after
+put_vrf vrf edges after_edges vs room after same e room_is pushed =
+    let all : after ≡ vs ++ vrf ∷ [] = pushed ∙ ap (λ front. front ++ vrf ∷ []) room_is in
+    e ∙ ap (λ es. with_edge es vrf) same ∙ sym (rw all (fold_push with_edge [] vs vrf))

@@ -1,7 +1,7 @@
 -- Names as the keys of a set.
-use Rattle.std.proofs.Common.{◌≡◌, ℕ, suc, ◌+◌, not, cond, length, position, Bool, false, ◌||◌, if◌then◌else◌, List, [], ◌∷◌, ◌++◌, map, Vec, Global, refl}
+use Rattle.std.proofs.Common.{◌≡◌, ℕ, suc, length, Bool, false, ◌||◌, if◌then◌else◌, List, [], ◌∷◌, ◌++◌, map, Vec, Global, refl}
 use Rattle.std.proofs.Common.{ap, ◌∙◌, sym}
-use Rattle.std.specs.List.{list_any, position_or_len}
+use Rattle.std.specs.List.{list_any}
 use Rattle.std.specs.Str.{bytes_eq}
 use Rattle.std.proofs.lemmas.List.{map-append}
 
@@ -25,14 +25,6 @@ put_name name copy ks new same absent e =
     let free : list_any (λ y. bytes_eq copy.items y.items) ks ≡ false = rw same (sym (has_mapped name ks) ∙ absent) in
     ap (map bytes_of) (put_last _ ks new copy free e) ∙ map-append bytes_of ks (copy ∷ []) ∙ ap (λ n. map bytes_of ks ++ n ∷ []) same
 
-place_mapped : (name : List ℕ) (ks : List (Vec ℕ Global)) → position_or_len (bytes_eq name) (map bytes_of ks) ≡ position_or_len (λ k. bytes_eq name k.items) ks
-place_mapped name [] = refl
-place_mapped name (k ∷ ks) = ap (λ n. cond (not (bytes_eq name k.items)) (1 + n) 0) (place_mapped name ks)
-
 pub count_mapped : (ks : List (Vec ℕ Global)) → length (map bytes_of ks) ≡ length ks
 count_mapped [] = refl
 count_mapped (k ∷ ks) = ap (λ n. suc n) (count_mapped ks)
-
--- the place of a name among the keys is its place among their bytes
-pub position_mapped : (name : List ℕ) (ks : List (Vec ℕ Global)) → position (λ k. bytes_eq name k.items) ks ≡ position (bytes_eq name) (map bytes_of ks)
-position_mapped name ks = rw (place_mapped name ks, count_mapped ks) refl

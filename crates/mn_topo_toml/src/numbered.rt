@@ -1,0 +1,80 @@
+//! The sites so far, numbered by their names.
+ghost use Rattle.std.specs.Prelude.{◌≡◌, ◌<◌, ◌^◌, ◌++◌, ◌∷◌, [], false, length, IfOk};
+ghost use Rattle.mn_topo.specs.Names.{has_name};
+ghost use Rattle.mn_topo.specs.SiteTable.{no_sites};
+
+use indexmap::IndexSet;
+use mn_topo::{SiteDef, Sites};
+use std::alloc::{AllocError, Global};
+use std::marker::Model;
+
+/// Sites, and their names in the order in which they came: the next site's number is how many there are.
+#[derive(Drop)]
+pub(crate) struct NumberedSites {
+    names: IndexSet<Vec<u8>>,
+    sites: Sites,
+}
+
+impl Model for NumberedSites {
+    ghost use Rattle.std.specs.Prelude.{◌≡◌, map};
+    ghost use Rattle.mn_topo.specs.SiteTable.{SiteTable};
+
+    ghost Value = { SiteTable };
+
+    ghost view = { λ a. a.sites };
+
+    ghost invariant = { λ a. map (λ name. name.items) a.names.keys ≡ a.sites.names };
+}
+
+impl NumberedSites {
+    pub(crate) fn new(alloc: Global) -> NumberedSites
+        ensures { result ≡ no_sites }
+    {
+        NumberedSites {
+            names: IndexSet::new(alloc),
+            sites: Sites::new(alloc),
+        }
+    }
+
+    /// The number of the next one.
+    pub(crate) fn next(&self) -> usize
+        ensures { result ≡ length self.now.names }
+    {
+        self.names.len()
+    }
+
+    /// Whether one of them has the name.
+    pub(crate) fn has(&self, name: &[u8]) -> bool
+        ensures { result ≡ has_name self.now.names name.now }
+    {
+        self.names.contains(name)
+    }
+
+    /// With one more, of a new name.
+    pub(crate) fn with(
+        self,
+        alloc: Global,
+        name: &[u8],
+        site: SiteDef,
+    ) -> Result<NumberedSites, AllocError>
+        requires room { length self.names < 2 ^ 16 }
+        requires fresh { has_name self.names name.now ≡ false }
+        ensures { IfOk result (λ more. more ≡ record { names = self.names ++ name.now ∷ []; sites = self.sites ++ site ∷ [] }) }
+    {
+        let NumberedSites {
+            mut names,
+            mut sites,
+        } = self;
+        let copy = Vec::from_slice(alloc, name)?;
+        names.insert(copy)?;
+        sites.put(alloc, name, site)?;
+        Ok(NumberedSites { names, sites })
+    }
+
+    pub(crate) fn sites(self) -> Sites
+        ensures { result ≡ self }
+    {
+        let NumberedSites { names: _, sites } = self;
+        sites
+    }
+}
