@@ -3,7 +3,7 @@ use Rattle.std.proofs.Common.{◌≡◌, ◌+◌, ◌<◌, ◌≤◌, ℕ, List,
 use Rattle.std.proofs.lemmas.List.{append-nil, map-append, take_all, take_more}
 use Rattle.std.proofs.lemmas.Grind.{flat_map-append}
 use Rattle.mn_topo.specs.declared.steps.JournalEntry.{JournalEntry}
-use Rattle.mn_leg_laws.specs.Pairing.{Pairing, Both, no_travel, travel}
+use Rattle.mn_join_laws.specs.Pairing.{Pairing, Both, no_travel, travel}
 use Rattle.mn_join_report.specs.Report.{site_of, sites_of, end_of, ends_of}
 
 -- the sites of one step more

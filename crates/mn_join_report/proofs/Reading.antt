@@ -2,10 +2,10 @@
 use Rattle.std.proofs.Common.{◌≡◌, false, refl, ◌∙◌, ap}
 use Rattle.mn_net_laws.specs.Now.{StandsFor}
 use Rattle.mn_ledger.specs.Ledger.{packets_of}
-use Rattle.mn_leg_laws.specs.declared.leg.Which.{Which}
-use Rattle.mn_leg_laws.specs.declared.leg.Which.TheVariants.{First, Second}
-use Rattle.mn_leg_laws.specs.Pairing.{Pairing, network, Both, side, packets_in}
-use Rattle.mn_option_a.specs.Pairs.{PairNow, net_of, side_of, PairStands}
+use Rattle.mn_join_laws.specs.declared.leg.Which.{Which}
+use Rattle.mn_join_laws.specs.declared.leg.Which.TheVariants.{First, Second}
+use Rattle.mn_join_laws.specs.Pairing.{Pairing, network, Both, side, packets_in}
+use Rattle.mn_join.specs.Pairs.{PairNow, net_of, side_of, PairStands}
 use Rattle.mn_join_report.specs.Reading.{SitesNow, AreOf, sites_in}
 use Rattle.mn_join_report.specs.Report.{sites_of}
 

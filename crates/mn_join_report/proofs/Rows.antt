@@ -11,8 +11,8 @@ use Rattle.mn_ledger.specs.declared.verdict.Verdict.TheVariants.{Delivered, Drop
 use Rattle.mn_course_laws.specs.Expansion.{SentLine}
 use Rattle.mn_lines.specs.Names.{NameLists, name_at, ends_at, sender_of, hearer_of}
 use Rattle.mn_lines.specs.Lines.{text, rule_name}
-use Rattle.mn_leg_laws.specs.declared.leg.Leg.{Leg}
-use Rattle.mn_leg_laws.specs.Pairing.{Pairing, network, Both, side}
+use Rattle.mn_join_laws.specs.declared.leg.Leg.{Leg}
+use Rattle.mn_join_laws.specs.Pairing.{Pairing, network, Both, side}
 use Rattle.mn_join_report.specs.declared.ends.Totals.{Totals}
 use Rattle.mn_join_report.specs.Report.{number_text, sites_of, leg_text, verdict_text, sent_text, total_line}
 

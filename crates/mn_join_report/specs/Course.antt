@@ -9,8 +9,8 @@ use Rattle.mn_course_laws.specs.declared.coming.Ending.TheVariants as ending
 use Rattle.mn_course_laws.specs.Course.{record_of}
 use Rattle.mn_course_laws.specs.Expansion.{SentLine, sending_by}
 use Rattle.mn_lines.specs.Lines.{cause_text}
-use Rattle.mn_leg_laws.specs.Pairing.{Pairing, network, Both, at_first}
-use Rattle.mn_leg_laws.specs.Course.{Exit, PairCourse, played}
+use Rattle.mn_join_laws.specs.Pairing.{Pairing, network, Both, at_first}
+use Rattle.mn_join_laws.specs.Course.{Exit, PairCourse, played}
 use Rattle.mn_join_script.specs.declared.line.JoinLine.{JoinLine}
 
 -- a line that was refused, and the cause as it is told

@@ -1,10 +1,10 @@
 -- What is told of two joined networks that have become what some lines made of them.
 use Rattle.std.specs.Prelude.{◌≡◌, ◌+◌, ◌<◌, ◌^◌, List, length}
 use Rattle.mn_base.specs.declared.numbers.SiteNo.{SiteNo}
-use Rattle.mn_leg_laws.specs.declared.leg.Which.{Which}
-use Rattle.mn_leg_laws.specs.declared.leg.Which.TheVariants.{First, Second}
-use Rattle.mn_leg_laws.specs.Pairing.{Pairing, Both}
-use Rattle.mn_option_a.specs.Pairs.{PairNow, PairStands}
+use Rattle.mn_join_laws.specs.declared.leg.Which.{Which}
+use Rattle.mn_join_laws.specs.declared.leg.Which.TheVariants.{First, Second}
+use Rattle.mn_join_laws.specs.Pairing.{Pairing, Both}
+use Rattle.mn_join.specs.Pairs.{PairNow, PairStands}
 use Rattle.mn_join_report.specs.declared.ends.End.{End}
 use Rattle.mn_join_report.specs.declared.ends.Totals.{Totals}
 use Rattle.mn_join_report.specs.Report.{sites_of, totals_of}

@@ -14,11 +14,11 @@ use Rattle.mn_ledger.specs.Verdicts.{verdict_on}
 use Rattle.mn_course_laws.specs.Expansion.{SentLine}
 use Rattle.mn_lines.specs.Names.{NameLists, names_of, name_at, ends_at, sender_of, hearer_of}
 use Rattle.mn_lines.specs.Lines.{text, rule_name, cause_name, refused_line}
-use Rattle.mn_leg_laws.specs.declared.leg.Which.{Which}
-use Rattle.mn_leg_laws.specs.declared.leg.Which.TheVariants.{First, Second}
-use Rattle.mn_leg_laws.specs.declared.leg.Leg.{Leg}
-use Rattle.mn_leg_laws.specs.Pairing.{Pairing, network, Both, side, packets_in, Travel, travel}
-use Rattle.mn_leg_laws.specs.Course.{Exit}
+use Rattle.mn_join_laws.specs.declared.leg.Which.{Which}
+use Rattle.mn_join_laws.specs.declared.leg.Which.TheVariants.{First, Second}
+use Rattle.mn_join_laws.specs.declared.leg.Leg.{Leg}
+use Rattle.mn_join_laws.specs.Pairing.{Pairing, network, Both, side, packets_in, Travel, travel}
+use Rattle.mn_join_laws.specs.Course.{Exit}
 use Rattle.mn_join_report.specs.declared.ends.End.{End}
 use Rattle.mn_join_report.specs.declared.ends.End.TheVariants as end
 use Rattle.mn_join_report.specs.declared.ends.Totals.{Totals}

@@ -6,8 +6,8 @@ ghost use Rattle.mn_join_report.specs.Report.{last_leg, end_of, ends_of, totals_
 
 use mn_base::SiteNo;
 use mn_ledger::{Refused, Verdict};
-use mn_leg_laws::{Leg, Which};
-use mn_option_a::{Net, Pair};
+use mn_join_laws::{Leg, Which};
+use mn_join::{Net, Pair};
 
 /// The end of a packet.
 #[derive(Clone, Copy, Debug, PartialEq, Eq)]

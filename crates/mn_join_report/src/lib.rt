@@ -20,5 +20,5 @@ mod report;
 mod sites;
 
 pub use ends::{End, Totals};
-pub use mn_option_a::{Pair, PairBad, Played};
+pub use mn_join::{Pair, PairBad, Played};
 pub use report::put_ended;

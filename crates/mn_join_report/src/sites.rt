@@ -1,13 +1,13 @@
 //! The sites at which packets were sent into each network.
 ghost use Rattle.std.specs.Prelude.{◌≡◌, IfOk, OnOk, ◌++◌, slice_index_or};
-ghost use Rattle.mn_leg_laws.specs.Pairing.{Pairing, Both};
-ghost use Rattle.mn_option_a.specs.Pairs.{PairStands};
+ghost use Rattle.mn_join_laws.specs.Pairing.{Pairing, Both};
+ghost use Rattle.mn_join.specs.Pairs.{PairStands};
 ghost use Rattle.mn_join_report.specs.Reading.{AreOf, sites_in};
 ghost use Rattle.mn_join_report.specs.Report.{site_of, sites_of};
 
 use mn_base::SiteNo;
-use mn_leg_laws::Which;
-use mn_option_a::Pair;
+use mn_join_laws::Which;
+use mn_join::Pair;
 use mn_topo::{JournalEntry, Step};
 use std::alloc::{AllocError, Global};
 use std::marker::Model;

@@ -15,8 +15,8 @@ use Rattle.mn_perform.specs.Running.{is_stopped}
 use Rattle.mn_ledger.specs.Lawful.{IsLawfulJournal}
 use Rattle.mn_ledger.specs.Verdicts.{injections}
 use Rattle.mn_course_laws.specs.Course.{Past}
-use Rattle.mn_leg_laws.specs.declared.leg.Which.{Which}
-use Rattle.mn_leg_laws.specs.Pairing.{Pairing, Both, side}
+use Rattle.mn_join_laws.specs.declared.leg.Which.{Which}
+use Rattle.mn_join_laws.specs.Pairing.{Pairing, Both, side}
 use Rattle.mn_join_report.specs.Pairs.{PairNow, PairStands, side_of}
 use Rattle.mn_join_report.specs.Course.{JoinRun}
 use Rattle.mn_join_report.specs.Report.{refused_texts, report, exits_file}

@@ -13,7 +13,7 @@ use Rattle.mn_edge.specs.Written.{laid, Stands, PartWritten}
 use Rattle.mn_pcap.specs.Format.{header}
 use Rattle.mn_perform.proofs.Adding.{holds_as, begins_as}
 use Rattle.mn_perform.proofs.Closing.{all_is_laid}
-use Rattle.mn_leg_laws.specs.Course.{Exit}
+use Rattle.mn_join_laws.specs.Course.{Exit}
 use Rattle.mn_join_report.specs.Report.{exit_record, exits_file}
 use Rattle.mn_join_run.specs.Outside.{FileNow, Holding, Beginning}
 

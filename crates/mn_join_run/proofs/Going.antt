@@ -9,7 +9,7 @@ use Rattle.mn_perform.specs.Recorded.{told_packets}
 use Rattle.mn_script.specs.declared.command.Command.{Command}
 use Rattle.mn_perform.specs.declared.ended.Ended.TheVariants as ended
 use Rattle.mn_perform.specs.declared.ended.Fault.{Fault}
-use Rattle.mn_leg_laws.specs.Pairing.{Pairing}
+use Rattle.mn_join_laws.specs.Pairing.{Pairing}
 use Rattle.mn_join_report.specs.Pairs.{PairNow}
 use Rattle.mn_join_script.specs.declared.line.JoinLine.{JoinLine}
 use Rattle.mn_join_report.specs.Course.{JoinRun, packet_for, with_packet, with_line, unless_stopped, run_from, run_of}

@@ -6,8 +6,8 @@ use Rattle.mn_edge.specs.Written.{IsPrefix}
 use Rattle.mn_pcap.specs.Format.{header}
 use Rattle.mn_course_laws.specs.declared.coming.Ending.{Ending}
 use Rattle.mn_course_laws.specs.declared.coming.Ending.TheVariants as ending
-use Rattle.mn_leg_laws.specs.Pairing.{Pairing}
-use Rattle.mn_leg_laws.specs.Course.{Exit, PairCourse, played}
+use Rattle.mn_join_laws.specs.Pairing.{Pairing}
+use Rattle.mn_join_laws.specs.Course.{Exit, PairCourse, played}
 use Rattle.mn_join_script.specs.declared.line.JoinLine.{JoinLine}
 use Rattle.mn_join_report.specs.Course.{RefusedLine, JoinRun, after_course, with_packet, packet_for, with_line, unless_stopped, run_from}
 use Rattle.mn_join_report.specs.Report.{refused_text, refused_texts, exit_record, exits_file}

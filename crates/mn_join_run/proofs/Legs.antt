@@ -2,11 +2,11 @@
 use Rattle.std.proofs.Common.{◌≡◌, ◌<◌, ℕ, Bool, true, false, List, [], ◌∷◌, ◌++◌, length, Option, Some, None, refl, sym, ◌∙◌, ap, subst}
 use Rattle.mn_course_laws.specs.declared.coming.Ending.{Ending}
 use Rattle.mn_course_laws.specs.declared.coming.Ending.TheVariants as ending
-use Rattle.mn_leg_laws.specs.declared.leg.Which.{Which}
-use Rattle.mn_leg_laws.specs.Pairing.{Pairing, Both, travel, at_first}
-use Rattle.mn_leg_laws.specs.Course.{PairCourse, played}
-use Rattle.mn_leg_laws.specs.Legs.{Line, after_lines, ArrivesByItsLegs, IsLawfulIn}
-use Rattle.mn_leg_laws.proofs.Arriving.{arrive_by_legs}
+use Rattle.mn_join_laws.specs.declared.leg.Which.{Which}
+use Rattle.mn_join_laws.specs.Pairing.{Pairing, Both, travel, at_first}
+use Rattle.mn_join_laws.specs.Course.{PairCourse, played}
+use Rattle.mn_join_laws.specs.Legs.{Line, after_lines, ArrivesByItsLegs, IsLawfulIn}
+use Rattle.mn_join_laws.proofs.Arriving.{arrive_by_legs}
 use Rattle.mn_join_script.specs.declared.line.JoinLine.{JoinLine}
 use Rattle.mn_join_report.specs.Course.{JoinRun, after_course, with_packet, packet_for, with_line, unless_stopped, run_from, run_of}
 

@@ -6,8 +6,8 @@ use Rattle.mn_course_laws.specs.declared.coming.Ending.{Ending}
 use Rattle.mn_course_laws.specs.declared.coming.Ending.TheVariants as ending
 use Rattle.mn_lines.specs.Lines.{refused_line}
 use Rattle.mn_lines.specs.Putting.{Puts, PutsPart}
-use Rattle.mn_leg_laws.specs.Pairing.{Pairing}
-use Rattle.mn_leg_laws.specs.Course.{Exit, PairCourse}
+use Rattle.mn_join_laws.specs.Pairing.{Pairing}
+use Rattle.mn_join_laws.specs.Course.{Exit, PairCourse}
 use Rattle.mn_join_script.specs.declared.line.JoinLine.{JoinLine}
 use Rattle.mn_join_report.specs.Course.{JoinRun, goes_on, with_refusal, after_course}
 use Rattle.mn_join_report.specs.Report.{refused_texts, exit_record, exits_file}

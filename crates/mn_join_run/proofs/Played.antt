@@ -6,10 +6,10 @@ use Rattle.mn_perform.specs.Shown.{sending_of}
 use Rattle.mn_perform.specs.declared.ended.Ended.{Ended}
 use Rattle.mn_perform.specs.declared.ended.Ended.TheVariants as ended
 use Rattle.mn_perform.specs.declared.ended.Fault.{Fault}
-use Rattle.mn_leg_laws.specs.declared.leg.Which.{Which}
-use Rattle.mn_leg_laws.specs.declared.leg.Which.TheVariants.{First, Second}
-use Rattle.mn_leg_laws.specs.Pairing.{Pairing, network, Both}
-use Rattle.mn_leg_laws.specs.Course.{PairCourse}
+use Rattle.mn_join_laws.specs.declared.leg.Which.{Which}
+use Rattle.mn_join_laws.specs.declared.leg.Which.TheVariants.{First, Second}
+use Rattle.mn_join_laws.specs.Pairing.{Pairing, network, Both}
+use Rattle.mn_join_laws.specs.Course.{PairCourse}
 use Rattle.mn_join_report.specs.Played.{Played}
 use Rattle.mn_join_report.specs.Played.TheVariants as played
 use Rattle.mn_join_report.specs.PairBad.TheVariants.{TooManySteps}

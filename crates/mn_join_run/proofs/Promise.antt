@@ -16,13 +16,13 @@ use Rattle.mn_arrival_laws.proofs.Arriving.{it_arrives}
 use Rattle.mn_arrival_laws.proofs.Resolving.{arrives_where_it_can}
 use Rattle.mn_course_laws.specs.Course.{record_of}
 use Rattle.mn_course_laws.specs.Expansion.{SentLine}
-use Rattle.mn_leg_laws.specs.declared.leg.Leg.{Leg}
-use Rattle.mn_leg_laws.specs.declared.leg.Which.{Which}
-use Rattle.mn_leg_laws.specs.declared.leg.Which.TheVariants.{First}
-use Rattle.mn_leg_laws.specs.Pairing.{Pairing, network, Both, side, packets_in, Travel, travel}
-use Rattle.mn_leg_laws.specs.Crossing.{all_nodes}
-use Rattle.mn_leg_laws.specs.Legs.{SentLeg, leg_of, WasSent, GoOn, passage_of, last_of, ArrivesByItsLegs}
-use Rattle.mn_leg_laws.proofs.Passing.{all_passed, all_lowered}
+use Rattle.mn_join_laws.specs.declared.leg.Leg.{Leg}
+use Rattle.mn_join_laws.specs.declared.leg.Which.{Which}
+use Rattle.mn_join_laws.specs.declared.leg.Which.TheVariants.{First}
+use Rattle.mn_join_laws.specs.Pairing.{Pairing, network, Both, side, packets_in, Travel, travel}
+use Rattle.mn_join_laws.specs.Crossing.{all_nodes}
+use Rattle.mn_join_laws.specs.Legs.{SentLeg, leg_of, WasSent, GoOn, passage_of, last_of, ArrivesByItsLegs}
+use Rattle.mn_join_laws.proofs.Passing.{all_passed, all_lowered}
 use Rattle.mn_join_report.specs.declared.ends.End.TheVariants as end
 use Rattle.mn_join_report.specs.Course.{JoinRun, run_of}
 use Rattle.mn_join_report.specs.Report.{no_line, last_leg, end_by, end_of}

@@ -18,7 +18,7 @@ use Rattle.mn_perform.specs.Fails.{fault_of}
 use Rattle.mn_perform.specs.Inside.{is_inside}
 use Rattle.mn_perform.specs.declared.ended.Ended.{Ended}
 use Rattle.mn_perform.specs.declared.ended.Fault.{Fault}
-use Rattle.mn_leg_laws.specs.Pairing.{Pairing, at_first}
+use Rattle.mn_join_laws.specs.Pairing.{Pairing, at_first}
 use Rattle.mn_join_report.specs.Pairs.{PairNow, PairStands}
 use Rattle.mn_join_script.specs.declared.line.JoinLine.{JoinLine}
 use Rattle.mn_join_report.specs.Course.{JoinRun, at_start, run_of}

@@ -24,14 +24,14 @@ use Rattle.mn_course_laws.specs.declared.coming.Ending.TheVariants as ending
 use Rattle.mn_course_laws.specs.Coming.{next_arrival}
 use Rattle.mn_course_laws.specs.Course.{record_of, is_journal_full, all, most_of}
 use Rattle.mn_course_laws.specs.Expansion.{SentLine, sending_by}
-use Rattle.mn_leg_laws.specs.declared.leg.Leg.{Leg}
-use Rattle.mn_leg_laws.specs.declared.leg.Which.{Which}
-use Rattle.mn_leg_laws.specs.declared.leg.Which.TheVariants.{First, Second}
-use Rattle.mn_leg_laws.specs.Pairing.{opposite, Pairing, network, partner, Side, Both, side, packets_in, Travel, travel, no_travel, with_marked, with_plain_step}
-use Rattle.mn_leg_laws.specs.Pairing.{with_damage, with_travel, with_injection, with_refusal, Landing, landed}
-use Rattle.mn_leg_laws.specs.Course.{PairCourse, refusal_on, taken_in, enters, lands, crossed, handed_on, tried, stepped, arrived, one_by_one, deliver, until, played}
-use Rattle.mn_leg_laws.specs.Course as pair
-use Rattle.mn_leg_laws.proofs.Growing.{get_end}
+use Rattle.mn_join_laws.specs.declared.leg.Leg.{Leg}
+use Rattle.mn_join_laws.specs.declared.leg.Which.{Which}
+use Rattle.mn_join_laws.specs.declared.leg.Which.TheVariants.{First, Second}
+use Rattle.mn_join_laws.specs.Pairing.{opposite, Pairing, network, partner, Side, Both, side, packets_in, Travel, travel, no_travel, with_marked, with_plain_step}
+use Rattle.mn_join_laws.specs.Pairing.{with_damage, with_travel, with_injection, with_refusal, Landing, landed}
+use Rattle.mn_join_laws.specs.Course.{PairCourse, refusal_on, taken_in, enters, lands, crossed, handed_on, tried, stepped, arrived, one_by_one, deliver, until, played}
+use Rattle.mn_join_laws.specs.Course as pair
+use Rattle.mn_join_laws.proofs.Growing.{get_end}
 use Rattle.mn_join_script.specs.declared.line.JoinLine.{JoinLine}
 use Rattle.mn_join_report.specs.Course.{JoinRun, packet_for, after_course, with_packet, with_line, unless_stopped, run_from, at_start, run_of}
 use Rattle.mn_join_report.specs.Report.{no_line}

@@ -10,7 +10,7 @@ use Rattle.mn_perform.specs.declared.ended.Ended.TheVariants as how
 use Rattle.mn_perform.specs.declared.ended.Fault.{Fault}
 use Rattle.mn_perform.specs.declared.ended.Fault.TheVariants as fault
 use Rattle.mn_perform.specs.Faults.{Counts, Blamed}
-use Rattle.mn_leg_laws.specs.Pairing.{Pairing}
+use Rattle.mn_join_laws.specs.Pairing.{Pairing}
 use Rattle.mn_join_report.specs.Course.{JoinRun}
 use Rattle.mn_join_report.specs.Report.{refused_texts, report}
 use Rattle.mn_join_run.specs.Answer.{run_done}

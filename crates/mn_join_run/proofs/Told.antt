@@ -16,9 +16,9 @@ use Rattle.mn_answer.specs.declared.outcome.Outcome.TheVariants.{Done, Usage, Re
 use Rattle.mn_answer.specs.Answer.{Answer, refusal_of}
 use Rattle.mn_answer.specs.Endings.{OutcomeIs, FilesAre, TextIs, SinkCausedBy, Answers}
 use Rattle.mn_answer.proofs.Ending.{sink_answers}
-use Rattle.mn_leg_laws.specs.declared.leg.Which.{Which}
-use Rattle.mn_leg_laws.specs.declared.leg.Which.TheVariants.{First, Second}
-use Rattle.mn_leg_laws.specs.Pairing.{network}
+use Rattle.mn_join_laws.specs.declared.leg.Which.{Which}
+use Rattle.mn_join_laws.specs.declared.leg.Which.TheVariants.{First, Second}
+use Rattle.mn_join_laws.specs.Pairing.{network}
 use Rattle.mn_join_report.specs.Pairs.{pairing_of}
 use Rattle.mn_join_script.specs.declared.line.JoinLine.{JoinLine}
 use Rattle.mn_join_script.specs.Language.{join_says}

@@ -8,7 +8,7 @@ use Rattle.mn_answer.specs.declared.outcome.Limit.TheVariants.{Steps}
 use Rattle.mn_answer.specs.declared.outcome.Outcome.{Outcome}
 use Rattle.mn_answer.specs.declared.outcome.Outcome.TheVariants.{Done, TooLarge}
 use Rattle.mn_answer.specs.Answer.{Answer, with_topology, with_second, with_joints, with_lines_of, with_capture}
-use Rattle.mn_leg_laws.specs.Pairing.{Pairing}
+use Rattle.mn_join_laws.specs.Pairing.{Pairing}
 use Rattle.mn_join_report.specs.Pairs.{pairing_of}
 use Rattle.mn_join_script.specs.declared.line.JoinLine.{JoinLine}
 use Rattle.mn_join_script.specs.Language.{join_says}

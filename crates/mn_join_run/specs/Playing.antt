@@ -11,7 +11,7 @@ use Rattle.mn_perform.specs.declared.ended.Ended.TheVariants as ended
 use Rattle.mn_perform.specs.declared.ended.Fault.{Fault}
 use Rattle.mn_course_laws.specs.declared.coming.Ending.{Ending}
 use Rattle.mn_course_laws.specs.declared.coming.Ending.TheVariants as ending
-use Rattle.mn_leg_laws.specs.Pairing.{Pairing}
+use Rattle.mn_join_laws.specs.Pairing.{Pairing}
 use Rattle.mn_join_report.specs.Played.{Played}
 use Rattle.mn_join_report.specs.Played.TheVariants as played
 use Rattle.mn_join_report.specs.Pairs.{PairNow, PairStands}

@@ -9,8 +9,8 @@ pub use Rattle.mn_capture.specs.Packets.{packets_in}
 pub use Rattle.mn_topo_toml.specs.Topology.{topology_of}
 pub use Rattle.mn_joints.specs.Joints.{joints_of}
 pub use Rattle.mn_script.specs.Reading.{lines_of}
-pub use Rattle.mn_leg_laws.specs.Course.{Exit, PairCourse}
-pub use Rattle.mn_leg_laws.specs.Pairing.{Pairing, network, at_first}
+pub use Rattle.mn_join_laws.specs.Course.{Exit, PairCourse}
+pub use Rattle.mn_join_laws.specs.Pairing.{Pairing, network, at_first}
 pub use Rattle.mn_join_script.specs.Language.{join_says, line_fits}
 pub use Rattle.mn_tables.specs.Telling.{standing, Tells}
 pub use Rattle.mn_join_report.specs.Course.{JoinRun, at_start, after_course, with_packet, run_of}

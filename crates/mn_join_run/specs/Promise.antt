@@ -11,10 +11,10 @@ use Rattle.mn_ledger_laws.specs.Named.{AreBytes}
 use Rattle.mn_arrival_laws.specs.Arrival.{IsSentInSteadyStretch, HasAWay, ItArrives, ArrivesWhereItCan}
 use Rattle.mn_course_laws.specs.Course.{record_of}
 use Rattle.mn_course_laws.specs.Expansion.{SentLine}
-use Rattle.mn_leg_laws.specs.declared.leg.Which.{Which}
-use Rattle.mn_leg_laws.specs.Pairing.{Pairing, network, Both, side, Travel}
-use Rattle.mn_leg_laws.specs.Crossing.{CrossesAll, all_nodes}
-use Rattle.mn_leg_laws.specs.Legs.{SentLeg, HasLegs, passage_of, last_of}
+use Rattle.mn_join_laws.specs.declared.leg.Which.{Which}
+use Rattle.mn_join_laws.specs.Pairing.{Pairing, network, Both, side, Travel}
+use Rattle.mn_join_laws.specs.Crossing.{CrossesAll, all_nodes}
+use Rattle.mn_join_laws.specs.Legs.{SentLeg, HasLegs, passage_of, last_of}
 use Rattle.mn_join_report.specs.declared.ends.End.TheVariants.{Judged}
 use Rattle.mn_join_report.specs.Report.{end_of}
 

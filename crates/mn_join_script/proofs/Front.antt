@@ -9,7 +9,7 @@ use Rattle.mn_script.specs.declared.refusal.ScriptRule.TheVariants.{UnknownWord}
 use Rattle.mn_script.specs.Words.{is_word, is_comment, line_words}
 use Rattle.mn_script.specs.Lines as script
 use Rattle.mn_script.proofs.Front.{says_by_six}
-use Rattle.mn_leg_laws.specs.declared.leg.Which.TheVariants.{First, Second}
+use Rattle.mn_join_laws.specs.declared.leg.Which.TheVariants.{First, Second}
 use Rattle.mn_join_script.specs.Language.{network_says, line_says, word_says, join_says}
 
 first_kept : (ws : List (List ℕ)) (text : List ℕ) → is_word (take 6 ws) 0 text ≡ is_word ws 0 text

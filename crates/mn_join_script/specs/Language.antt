@@ -12,8 +12,8 @@ use Rattle.mn_script.specs.Rules.{◌>>=◌}
 use Rattle.mn_script.specs.Words.{is_word}
 use Rattle.mn_script.specs.Lines as script
 use Rattle.mn_script.specs.Reading.{Says}
-use Rattle.mn_leg_laws.specs.declared.leg.Which.{Which}
-use Rattle.mn_leg_laws.specs.declared.leg.Which.TheVariants.{First, Second}
+use Rattle.mn_join_laws.specs.declared.leg.Which.{Which}
+use Rattle.mn_join_laws.specs.declared.leg.Which.TheVariants.{First, Second}
 use Rattle.mn_join_script.specs.declared.line.JoinLine.{JoinLine}
 
 -- two networks play steps, `drain` and `flush`

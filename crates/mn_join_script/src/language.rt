@@ -6,7 +6,7 @@ ghost use Rattle.mn_script.specs.Words.{texts, is_comment, line_words};
 ghost use Rattle.mn_join_script.specs.Language.{is_played, network_says, line_says, join_says, line_fits, ReadsLine};
 
 use crate::line::JoinLine;
-use mn_leg_laws::Which;
+use mn_join_laws::Which;
 use mn_script::{Command, ScriptBad, ScriptRule, is_word, line_says as command_says, line_words};
 use mn_text::first_word;
 use mn_topo::Topology;

@@ -1,6 +1,6 @@
 //! What a line asks for, and of which network.
 
-use mn_leg_laws::Which;
+use mn_join_laws::Which;
 use mn_script::Command;
 
 /// A command for one of two networks, and the number of its line.

@@ -18,21 +18,21 @@ use Rattle.mn_labels.specs.declared.meaning.Bind.{Bind}
 use Rattle.mn_labels.specs.declared.meaning.Bind.TheVariants as bind
 use Rattle.mn_labels.specs.Labels.{Labels, LabelTable, meaning_of, offered as offered_labels}
 use Rattle.mn_labels.proofs.Offering.{offered_alike, offered_many}
-use Rattle.mn_rest.specs.Rests.{Resting, count_in, is_over}
+use Rattle.mn_releases.specs.Rests.{Resting, count_in, is_over}
 use Rattle.mn_lfib.specs.declared.answer.Use.{Use}
 use Rattle.mn_lfib.specs.Uses.{use_of, fec_use, IsNextHop}
-use Rattle.mn_lib.specs.News.{begun, ended}
-use Rattle.mn_lib.specs.Known.{Known, is_free, rested_events, owed_for, all_stopped, known_after}
-use Rattle.mn_lib.proofs.Resting.{owed_for_owed}
-use Rattle.mn_lib.specs.declared.event.LibEvent.{LibEvent}
-use Rattle.mn_lib.specs.declared.event.LibEvent.TheVariants as event
-use Rattle.mn_lib.specs.declared.event.Tell.{Tell}
-use Rattle.mn_lib.specs.Bindings.{Bindings, nodes, is_open, EventsFit, after_event, after_events}
-use Rattle.mn_lib.specs.Bindings as lib
-use Rattle.mn_lib.specs.Tells as lib_tells
-use Rattle.mn_lib.specs.Tells.{tell, told, tells_of, changes, releases, tells, opens}
-use Rattle.mn_lib.proofs.Events.{nodes-after_events, told_of-same}
-use Rattle.mn_lib.proofs.Ranges.{flat_none}
+use Rattle.mn_bindings.specs.News.{begun, ended}
+use Rattle.mn_bindings.specs.Known.{Known, is_free, rested_events, owed_for, all_stopped, known_after}
+use Rattle.mn_bindings.proofs.Resting.{owed_for_owed}
+use Rattle.mn_bindings.specs.declared.event.LibEvent.{LibEvent}
+use Rattle.mn_bindings.specs.declared.event.LibEvent.TheVariants as event
+use Rattle.mn_bindings.specs.declared.event.Tell.{Tell}
+use Rattle.mn_bindings.specs.Bindings.{Bindings, nodes, is_open, EventsFit, after_event, after_events}
+use Rattle.mn_bindings.specs.Bindings as lib
+use Rattle.mn_bindings.specs.Tells as lib_tells
+use Rattle.mn_bindings.specs.Tells.{tell, told, tells_of, changes, releases, tells, opens}
+use Rattle.mn_bindings.proofs.Events.{nodes-after_events, told_of-same}
+use Rattle.mn_bindings.proofs.Ranges.{flat_none}
 use Rattle.mn_node.specs.Ldp.{Message, Said, said_on, is_operational, offers, offered, news}
 use Rattle.mn_node.specs.Node.{Session, Node, session_at, hearing_in, knowledge_in}
 use Rattle.mn_node.specs.Machine.{Event, with_count, counted_from, having_said, changed, answers, said, after_event as after}

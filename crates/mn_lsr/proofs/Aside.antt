@@ -6,8 +6,8 @@ use Rattle.mn_labels.specs.declared.meaning.Bind.TheVariants as bind
 use Rattle.mn_labels.specs.Labels.{LabelTable}
 use Rattle.mn_lfib.specs.declared.answer.Use.{Use}
 use Rattle.mn_lfib.specs.Uses.{fec_use}
-use Rattle.mn_lib.specs.Bindings.{Bindings}
-use Rattle.mn_lib.specs.Bindings as lib
+use Rattle.mn_bindings.specs.Bindings.{Bindings}
+use Rattle.mn_bindings.specs.Bindings as lib
 use Rattle.mn_lsr.specs.Standing.{IsUseOf}
 use Rattle.mn_lsr.specs.Parts.{HaveLabels}
 

@@ -14,7 +14,7 @@ use Rattle.mn_base.proofs.Members.{In, in_append, in_front, in_rest, in_containe
 use Rattle.mn_lfib.specs.declared.answer.Use.{Use}
 use Rattle.mn_lfib.specs.declared.answer.Use.TheVariants as use_kind
 use Rattle.mn_lfib.specs.Uses.{use_of}
-use Rattle.mn_lib.specs.Bindings as lib
+use Rattle.mn_bindings.specs.Bindings as lib
 use Rattle.mn_lsr.specs.declared.parts.Parts.{Parts}
 use Rattle.mn_lsr.specs.Standing.{IsUseOf, IsAttachment, is_of, attachments}
 use Rattle.mn_lsr.specs.Parts.{Stands}

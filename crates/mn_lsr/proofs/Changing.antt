@@ -4,8 +4,8 @@ use Rattle.std.specs.Prelude.{◌==◌, ◌&&◌, nat_le, is_some, slice_index_o
 use Rattle.std.proofs.lemmas.Bool.Decides.{eqb_tells}
 use Rattle.std.proofs.lemmas.List.{get_or-set_same, get_or-set_other}
 use Rattle.mn_wiring.specs.Wiring.{Wiring, links_at, across, joining}
-use Rattle.mn_lib.specs.Bindings.{Bindings, nodes, is_open, row_of}
-use Rattle.mn_lib.specs.Bindings as lib
+use Rattle.mn_bindings.specs.Bindings.{Bindings, nodes, is_open, row_of}
+use Rattle.mn_bindings.specs.Bindings as lib
 use Rattle.mn_node.specs.Ldp.{is_operational}
 use Rattle.mn_node.specs.Node.{Session, Node, session_at, hearing_in, knowledge_in}
 use Rattle.mn_node.specs.Machine.{Opens, with_session, changed}

@@ -8,11 +8,11 @@ use Rattle.mn_base.specs.declared.numbers.NodeNo.{NodeNo}
 use Rattle.mn_states.specs.declared.states.LdpState.{LdpState}
 use Rattle.mn_states.specs.declared.states.LdpState.TheVariants.{Initialized, OpenSent, OpenRec, Operational}
 use Rattle.mn_wiring.specs.Wiring.{Wiring, is_end, across, joining}
-use Rattle.mn_lib.specs.declared.event.LibEvent.{LibEvent}
-use Rattle.mn_lib.specs.declared.event.LibEvent.TheVariants as event
-use Rattle.mn_lib.specs.Bindings.{Bindings, nodes, row_of, is_open, EventsFit, after_events}
-use Rattle.mn_lib.specs.Bindings as lib
-use Rattle.mn_lib.specs.Tells.{opens, releases}
+use Rattle.mn_bindings.specs.declared.event.LibEvent.{LibEvent}
+use Rattle.mn_bindings.specs.declared.event.LibEvent.TheVariants as event
+use Rattle.mn_bindings.specs.Bindings.{Bindings, nodes, row_of, is_open, EventsFit, after_events}
+use Rattle.mn_bindings.specs.Bindings as lib
+use Rattle.mn_bindings.specs.Tells.{opens, releases}
 use Rattle.mn_node.specs.Ldp.{Message, said_on, is_operational}
 use Rattle.mn_node.specs.Node.{Session, Node, session_at, knowledge_in, count_by}
 use Rattle.mn_node.specs.Machine.{Event, Closes, with_session, changed, answers}
@@ -23,9 +23,9 @@ use Rattle.mn_lsr.specs.Telling.{said_by_tell, MayTell}
 use Rattle.mn_lsr.specs.Replies.{closing_by, closing_events}
 use Rattle.mn_lsr.specs.Ties.{AreTied}
 use Rattle.mn_labels.specs.Labels.{Labels}
-use Rattle.mn_rest.specs.Rests.{Resting, count_in}
-use Rattle.mn_rest.specs.Rests as rests
-use Rattle.mn_lib.specs.Known.{rested_events}
+use Rattle.mn_releases.specs.Rests.{Resting, count_in}
+use Rattle.mn_releases.specs.Rests as rests
+use Rattle.mn_bindings.specs.Known.{rested_events}
 use Rattle.mn_lsr.specs.Turns.{rested_by_end, rested_by_event, owed_for_said}
 use Rattle.mn_lsr.specs.Parts.{FitsLabel, IsOwn, AreOwed, Owes, Nothing, AtMost, wiring_in, node_in, Stands}
 use Rattle.mn_lsr.proofs.Saying.{with_ends, at-is}

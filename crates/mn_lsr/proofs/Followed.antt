@@ -9,17 +9,17 @@ use Rattle.mn_base.specs.declared.numbers.NodeNo.{NodeNo}
 use Rattle.mn_base.proofs.Members.{In}
 use Rattle.mn_labels.specs.Labels.{LabelTable, label_now, offered, numbers, is_one_of, meaning_of, IsTold}
 use Rattle.mn_labels.proofs.Offering.{offered_alike}
-use Rattle.mn_rest.specs.Rests.{is_over}
-use Rattle.mn_lib.specs.declared.event.LibEvent.{LibEvent}
-use Rattle.mn_lib.specs.declared.event.LibEvent.TheVariants as event
-use Rattle.mn_lib.specs.declared.event.TellKind.TheVariants as kind
-use Rattle.mn_lib.specs.Bindings.{Bindings, nodes, usable, offers, is_open, after_event, after_events}
-use Rattle.mn_lib.specs.News.{InOrder, Apart, fecs_in, begun}
-use Rattle.mn_lib.specs.Tells.{tell, told, tells_of, changes, releases, closes, opens, mention, tells}
-use Rattle.mn_lib.specs.Tells as lib_tells
-use Rattle.mn_lib.specs.Known.{is_free}
-use Rattle.mn_lib.proofs.Events.{nodes-after_events}
-use Rattle.mn_lib.proofs.Staying.{usable_stays}
+use Rattle.mn_releases.specs.Rests.{is_over}
+use Rattle.mn_bindings.specs.declared.event.LibEvent.{LibEvent}
+use Rattle.mn_bindings.specs.declared.event.LibEvent.TheVariants as event
+use Rattle.mn_bindings.specs.declared.event.TellKind.TheVariants as kind
+use Rattle.mn_bindings.specs.Bindings.{Bindings, nodes, usable, offers, is_open, after_event, after_events}
+use Rattle.mn_bindings.specs.News.{InOrder, Apart, fecs_in, begun}
+use Rattle.mn_bindings.specs.Tells.{tell, told, tells_of, changes, releases, closes, opens, mention, tells}
+use Rattle.mn_bindings.specs.Tells as lib_tells
+use Rattle.mn_bindings.specs.Known.{is_free}
+use Rattle.mn_bindings.proofs.Events.{nodes-after_events}
+use Rattle.mn_bindings.proofs.Staying.{usable_stays}
 use Rattle.mn_lfib.specs.declared.answer.Use.{Use}
 use Rattle.mn_lfib.specs.Uses.{use_of, fec_use, IsNotSite}
 use Rattle.mn_lsr.specs.declared.parts.Parts.{Parts}

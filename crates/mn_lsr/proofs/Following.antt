@@ -16,12 +16,12 @@ use Rattle.mn_wiring.proofs.Dist.{dists_are_least}
 use Rattle.mn_linkdb.proofs.OneTree.{next_computed}
 use Rattle.mn_linkdb.specs.Trees.{IsTree, hop_alone}
 use Rattle.mn_linkdb.specs.PathTable.{PathTable, next_at}
-use Rattle.mn_lib.specs.declared.event.LibEvent.{LibEvent}
-use Rattle.mn_lib.specs.declared.event.LibEvent.TheVariants as event
-use Rattle.mn_lib.specs.Bindings.{Bindings, nodes, HopFits, EventFits, EventsFit, after_event, after_events}
-use Rattle.mn_lib.specs.Bindings as lib
-use Rattle.mn_lib.specs.Tells as lib_tells
-use Rattle.mn_lib.specs.Tells.{opens, releases, changes, tells}
+use Rattle.mn_bindings.specs.declared.event.LibEvent.{LibEvent}
+use Rattle.mn_bindings.specs.declared.event.LibEvent.TheVariants as event
+use Rattle.mn_bindings.specs.Bindings.{Bindings, nodes, HopFits, EventFits, EventsFit, after_event, after_events}
+use Rattle.mn_bindings.specs.Bindings as lib
+use Rattle.mn_bindings.specs.Tells as lib_tells
+use Rattle.mn_bindings.specs.Tells.{opens, releases, changes, tells}
 use Rattle.mn_node.specs.Ldp.{offers, offered}
 use Rattle.mn_node.specs.Machine.{Learns, changed, said}
 use Rattle.mn_node.proofs.Lists.{map_below}

@@ -10,7 +10,7 @@ use Rattle.mn_base.specs.declared.numbers.NodeNo.{NodeNo}
 use Rattle.mn_base.specs.declared.numbers.LinkNo.{LinkNo}
 use Rattle.mn_wiring.proofs.Next.{next_is}
 use Rattle.mn_linkdb.specs.Trees.{hop_alone}
-use Rattle.mn_lib.specs.Bindings.{nothing_heard}
+use Rattle.mn_bindings.specs.Bindings.{nothing_heard}
 use Rattle.mn_node.specs.Node.{view_in, hearing_in}
 use Rattle.mn_node.specs.Machine.{fresh_node}
 use Rattle.mn_node.proofs.Lists.{map_below}
@@ -22,11 +22,11 @@ use Rattle.mn_spf_inc.specs.Mended.{Mended}
 use Rattle.mn_labels.specs.declared.meaning.Bind.{Bind}
 use Rattle.mn_labels.specs.declared.meaning.Bind.TheVariants as bind
 use Rattle.mn_labels.specs.Labels.{Labels, LabelTable, none_given, fec_with, or_attachment, meaning_of, Means, IsTold}
-use Rattle.mn_rest.specs.Rests.{Resting, at_first}
-use Rattle.mn_lib.specs.Known.{Known, nothing_known}
+use Rattle.mn_releases.specs.Rests.{Resting, at_first}
+use Rattle.mn_bindings.specs.Known.{Known, nothing_known}
 use Rattle.mn_lfib.specs.declared.answer.Use.{Use}
-use Rattle.mn_lib.specs.Bindings as lib
-use Rattle.mn_lib.specs.Bindings.{Bindings, usable}
+use Rattle.mn_bindings.specs.Bindings as lib
+use Rattle.mn_bindings.specs.Bindings.{Bindings, usable}
 use Rattle.mn_node.specs.Node.{Session, Node}
 use Rattle.mn_ldp_session.specs.declared.session.Session.{Session as Machine}
 use Rattle.mn_lsr.specs.OwnEnds.{Listed}

@@ -16,11 +16,11 @@ use Rattle.mn_prefix.specs.Prefix.{AddressBlock}
 use Rattle.mn_ldp_wire.specs.declared.message.LdpBody.{LdpBody}
 use Rattle.mn_ldp_wire.specs.declared.message.LdpBody.TheVariants as says
 use Rattle.mn_ldp_wire.specs.Grammar.{IsLabel, IsLawful}
-use Rattle.mn_lib.specs.declared.event.LibEvent.{LibEvent}
-use Rattle.mn_lib.specs.declared.event.LibEvent.TheVariants as event
-use Rattle.mn_lib.specs.Bindings.{row_of, is_open, with_label, nodes, EventsFit, after_events}
-use Rattle.mn_lib.specs.Bindings as lib
-use Rattle.mn_lib.specs.Tells.{opens, releases}
+use Rattle.mn_bindings.specs.declared.event.LibEvent.{LibEvent}
+use Rattle.mn_bindings.specs.declared.event.LibEvent.TheVariants as event
+use Rattle.mn_bindings.specs.Bindings.{row_of, is_open, with_label, nodes, EventsFit, after_events}
+use Rattle.mn_bindings.specs.Bindings as lib
+use Rattle.mn_bindings.specs.Tells.{opens, releases}
 use Rattle.mn_node.specs.Ldp.{Message, Initialization, KeepAlive, Address, Mapping, Withdraw, Release, said_on, state_after, answer}
 use Rattle.mn_node.specs.Node.{Session, session_at, count_by}
 use Rattle.mn_node.specs.Machine.{loopback_of, Hears, with_session, labels_after, session_after, answer_in}
@@ -43,9 +43,9 @@ use Rattle.mn_lsr.proofs.Changing.{is_up}
 use Rattle.mn_lsr.proofs.Saying.{at-is}
 use Rattle.mn_lsr.proofs.Sessions.{IsOwnAt, own-at, machine-at, machines-set}
 use Rattle.mn_labels.specs.Labels.{Labels}
-use Rattle.mn_rest.specs.Rests.{Resting, count_in}
-use Rattle.mn_rest.specs.Rests as rests
-use Rattle.mn_lib.specs.Known.{rested_events}
+use Rattle.mn_releases.specs.Rests.{Resting, count_in}
+use Rattle.mn_releases.specs.Rests as rests
+use Rattle.mn_bindings.specs.Known.{rested_events}
 use Rattle.mn_lsr.specs.Turns.{rested_by_message, owed_for_said}
 use Rattle.mn_lsr.proofs.Owing.{released-at, released-open}
 use Rattle.mn_lsr.proofs.Closing.{only, below, same_row, row-at, operational-at, session-is, IsOwedThen, far-still, one}

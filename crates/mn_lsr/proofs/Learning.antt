@@ -8,14 +8,14 @@ use Rattle.mn_wiring.specs.Paths.{next}
 use Rattle.mn_linkdb.specs.Learned.{Learned, links_up, after_learn}
 use Rattle.mn_linkdb.specs.PathTable.{PathTable, next_at}
 use Rattle.mn_linkdb.specs.Trees.{IsTree, hop_alone}
-use Rattle.mn_lib.specs.declared.event.LibEvent.{LibEvent}
-use Rattle.mn_lib.specs.declared.event.LibEvent.TheVariants as event
-use Rattle.mn_lib.specs.Known.{rested_events}
-use Rattle.mn_rest.specs.Rests.{Resting}
+use Rattle.mn_bindings.specs.declared.event.LibEvent.{LibEvent}
+use Rattle.mn_bindings.specs.declared.event.LibEvent.TheVariants as event
+use Rattle.mn_bindings.specs.Known.{rested_events}
+use Rattle.mn_releases.specs.Rests.{Resting}
 use Rattle.mn_labels.specs.Labels.{Labels}
-use Rattle.mn_lib.specs.Bindings.{Bindings, after_events}
-use Rattle.mn_lib.specs.Bindings as lib
-use Rattle.mn_lib.specs.Tells.{releases}
+use Rattle.mn_bindings.specs.Bindings.{Bindings, after_events}
+use Rattle.mn_bindings.specs.Bindings as lib
+use Rattle.mn_bindings.specs.Tells.{releases}
 use Rattle.mn_node.specs.Node.{Node, view_in}
 use Rattle.mn_node.specs.Machine.{Learns, changed}
 use Rattle.mn_lsr.specs.declared.parts.Open.{Open}

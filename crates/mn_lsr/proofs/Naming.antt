@@ -13,9 +13,9 @@ use Rattle.mn_labels.specs.declared.meaning.Bind.TheVariants as bind
 use Rattle.mn_labels.specs.declared.meaning.Given.{Given}
 use Rattle.mn_labels.specs.Labels.{Labels, LabelTable, label_now, fec_of, offered, meaning_of, numbers, is_one_of, IsTold}
 use Rattle.mn_labels.proofs.Offering.{offered_long, offered_keeps, offered_gives, offered_was, offered_sites}
-use Rattle.mn_lib.specs.Bindings.{Bindings, nodes, usable, offers}
-use Rattle.mn_lib.specs.News.{begun, ended}
-use Rattle.mn_lib.specs.Known.{Known, is_free}
+use Rattle.mn_bindings.specs.Bindings.{Bindings, nodes, usable, offers}
+use Rattle.mn_bindings.specs.News.{begun, ended}
+use Rattle.mn_bindings.specs.Known.{Known, is_free}
 use Rattle.mn_wiring.specs.Wiring.{Wiring}
 use Rattle.mn_node.specs.Ldp.{Knowledge}
 use Rattle.mn_node.specs.Ldp as node

@@ -12,7 +12,7 @@ use Rattle.mn_lsr.specs.declared.parts.Parts.{Parts}
 use Rattle.mn_lsr.specs.declared.said.Said.{Said as Spoken}
 use Rattle.mn_lsr.specs.Said.{pdu_of}
 use Rattle.mn_lsr.specs.Standing.{HasNumbers}
-use Rattle.mn_lib.specs.Known.{AreFew}
+use Rattle.mn_bindings.specs.Known.{AreFew}
 use Rattle.mn_lsr.proofs.Owing.{few-owe}
 use Rattle.mn_lsr.specs.Parts.{wiring_in, node_in, Stands, said_in, one_more, bumped, pdus_by, ends_after, NumbersFit, has_numbers}
 use Rattle.mn_lsr.proofs.Saying.{at-is, count-is}

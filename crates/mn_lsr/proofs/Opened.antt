@@ -2,9 +2,9 @@
 use Rattle.std.proofs.Common.{ℕ, zero, suc, ◌≡◌, true, false, List, [], ◌∷◌, Option, Some, None, refl, ap, replicate}
 use Rattle.std.specs.Prelude.{is_some, slice_index_or, slice_set}
 use Rattle.mn_base.specs.declared.numbers.NodeNo.{NodeNo}
-use Rattle.mn_lib.specs.declared.event.LibEvent.{LibEvent}
-use Rattle.mn_lib.specs.declared.event.LibEvent.TheVariants.{Opened, Closed, Map, Withdraw, Released, Next}
-use Rattle.mn_lib.specs.Bindings.{Bindings, nodes, row_of, label_learned, labelled, usable, usable_by, after_event, after_events, EventsFit}
+use Rattle.mn_bindings.specs.declared.event.LibEvent.{LibEvent}
+use Rattle.mn_bindings.specs.declared.event.LibEvent.TheVariants.{Opened, Closed, Map, Withdraw, Released, Next}
+use Rattle.mn_bindings.specs.Bindings.{Bindings, nodes, row_of, label_learned, labelled, usable, usable_by, after_event, after_events, EventsFit}
 use Rattle.mn_lsr.specs.Telling.{opens_one}
 
 none-said : (n fec : ℕ) → (let o : Option ℕ = slice_index_or (replicate n None) fec None in o) ≡ None

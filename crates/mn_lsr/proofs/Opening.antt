@@ -3,8 +3,8 @@ use Rattle.std.proofs.Common.{ℕ, ◌≡◌, ◌<◌, Bool, true, false, List, 
 use Rattle.std.specs.Prelude.{nat_le, nat_lt, is_some, slice_set, if◌then◌else◌}
 use Rattle.mn_states.specs.declared.states.LdpState.TheVariants.{Initialized, OpenSent}
 use Rattle.mn_wiring.specs.Wiring.{is_end, across}
-use Rattle.mn_lib.specs.Bindings.{row_of}
-use Rattle.mn_lib.specs.Bindings as lib
+use Rattle.mn_bindings.specs.Bindings.{row_of}
+use Rattle.mn_bindings.specs.Bindings as lib
 use Rattle.mn_node.specs.Ldp.{Initialization, said_on, state_by}
 use Rattle.mn_node.specs.Node.{Session, session_at, count_by}
 use Rattle.mn_node.specs.Machine.{Opens, loopback_of, with_session}
@@ -15,8 +15,8 @@ use Rattle.mn_lsr.specs.declared.parts.Open.{Open}
 use Rattle.mn_lsr.specs.declared.parts.Parts.{Parts}
 use Rattle.mn_lsr.specs.Standing.{labels_in}
 use Rattle.mn_lsr.specs.Replies.{replied, first_reply}
-use Rattle.mn_rest.specs.Rests.{Resting}
-use Rattle.mn_rest.specs.Rests as rests
+use Rattle.mn_releases.specs.Rests.{Resting}
+use Rattle.mn_releases.specs.Rests as rests
 use Rattle.mn_lsr.specs.Turns.{owed_for_said}
 use Rattle.mn_lsr.specs.Parts.{FitsLabel, Nothing, wiring_in, node_in, Stands}
 use Rattle.mn_lsr.proofs.Changing.{is_up}

@@ -6,11 +6,11 @@ use Rattle.std.specs.List.{flat_map}
 use Rattle.std.proofs.lemmas.Bool.Decides.{eqb_tells}
 use Rattle.std.proofs.lemmas.List.{get_or-set_other, set-get_or}
 use Rattle.mn_wiring.specs.Wiring.{Wiring, across, joining}
-use Rattle.mn_rest.specs.Rests.{Resting, row_of, count_in, with_count, withdrawn, released, stopped}
-use Rattle.mn_lib.specs.declared.event.Tell.{Tell}
-use Rattle.mn_lib.specs.declared.event.TellKind.{TellKind}
-use Rattle.mn_lib.specs.declared.event.TellKind.TheVariants as tells
-use Rattle.mn_lib.specs.Known.{owed_by, owed_for, all_stopped, AreFew}
+use Rattle.mn_releases.specs.Rests.{Resting, row_of, count_in, with_count, withdrawn, released, stopped}
+use Rattle.mn_bindings.specs.declared.event.Tell.{Tell}
+use Rattle.mn_bindings.specs.declared.event.TellKind.{TellKind}
+use Rattle.mn_bindings.specs.declared.event.TellKind.TheVariants as tells
+use Rattle.mn_bindings.specs.Known.{owed_by, owed_for, all_stopped, AreFew}
 use Rattle.mn_node.specs.Ldp.{Said, said_on}
 use Rattle.mn_lsr.specs.declared.parts.Open.{Open}
 use Rattle.mn_lsr.specs.Telling.{message_of, said_by_tell}

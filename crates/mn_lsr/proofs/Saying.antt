@@ -9,9 +9,9 @@ use Rattle.std.proofs.lemmas.List.{append_assoc}
 use Rattle.std.proofs.Math.Seq.{drop-cons}
 use Rattle.std.proofs.Math.ListN.{length-set}
 use Rattle.mn_wiring.specs.Wiring.{Wiring}
-use Rattle.mn_lib.specs.declared.event.Tell.{Tell}
+use Rattle.mn_bindings.specs.declared.event.Tell.{Tell}
 use Rattle.mn_ldp_session.specs.Spelling.{Pdu}
-use Rattle.mn_lib.specs.Bindings.{Bindings}
+use Rattle.mn_bindings.specs.Bindings.{Bindings}
 use Rattle.mn_labels.specs.Labels.{Labels}
 use Rattle.mn_node.specs.Ldp.{Said, is_by, messages_of}
 use Rattle.mn_node.specs.Node.{Session, Node, session_at}

@@ -5,7 +5,7 @@ use Rattle.std.proofs.Math.ListN.{length-set}
 use Rattle.std.proofs.lemmas.Bool.Decides.{eqb_tells}
 use Rattle.std.proofs.lemmas.List.{get_or-set_same, get_or-set_other, set-set}
 use Rattle.mn_wiring.specs.Wiring.{Wiring, is_end, across, joining, JoinsNodes, JoinsOnce}
-use Rattle.mn_lib.specs.Bindings.{Bindings, row_of}
+use Rattle.mn_bindings.specs.Bindings.{Bindings, row_of}
 use Rattle.mn_node.specs.Node.{Session}
 use Rattle.mn_ldp_session.specs.declared.session.Session.{Session as Machine}
 use Rattle.mn_lsr.specs.declared.parts.Open.{Open}

@@ -5,13 +5,13 @@ use Rattle.std.specs.List.{flat_map, range_with_len}
 use Rattle.std.proofs.lemmas.List.{append_assoc}
 use Rattle.mn_labels.specs.Labels.{Labels, own_labels, meaning_of, offered}
 use Rattle.mn_lfib.specs.Uses.{use_of}
-use Rattle.mn_lib.specs.declared.event.LibEvent.{LibEvent}
-use Rattle.mn_lib.specs.Bindings.{Bindings, after_events}
-use Rattle.mn_lib.specs.News.{begun_of, begun, ended_of, ended}
-use Rattle.mn_lib.specs.Known.{Known, is_free, owed_for, all_stopped, known_after}
-use Rattle.mn_lib.proofs.Ranges.{flat_none}
-use Rattle.mn_lib.specs.Bindings as lib
-use Rattle.mn_lib.specs.Tells.{tells, releases}
+use Rattle.mn_bindings.specs.declared.event.LibEvent.{LibEvent}
+use Rattle.mn_bindings.specs.Bindings.{Bindings, after_events}
+use Rattle.mn_bindings.specs.News.{begun_of, begun, ended_of, ended}
+use Rattle.mn_bindings.specs.Known.{Known, is_free, owed_for, all_stopped, known_after}
+use Rattle.mn_bindings.proofs.Ranges.{flat_none}
+use Rattle.mn_bindings.specs.Bindings as lib
+use Rattle.mn_bindings.specs.Tells.{tells, releases}
 use Rattle.mn_node.specs.Ldp.{Message, Said, said_on}
 use Rattle.mn_node.specs.Machine.{Event, changed, said}
 use Rattle.mn_wiring.specs.Wiring.{Wiring}

@@ -10,8 +10,8 @@ use Rattle.mn_wiring.specs.Paths.{IsNext, next}
 use Rattle.mn_base.specs.declared.numbers.NodeNo.{NodeNo}
 use Rattle.mn_wiring.proofs.Next.{next_is}
 use Rattle.mn_linkdb.specs.Trees.{hop_alone}
-use Rattle.mn_lib.specs.Bindings.{Bindings, nodes, row_of, is_open}
-use Rattle.mn_lib.specs.Bindings as lib
+use Rattle.mn_bindings.specs.Bindings.{Bindings, nodes, row_of, is_open}
+use Rattle.mn_bindings.specs.Bindings as lib
 use Rattle.mn_node.specs.Ldp.{hearing, is_operational, is_mapped, usable_over, usable_by, offers}
 use Rattle.mn_node.specs.Node.{Session, Node, session_at, view_in, hearing_in, knowledge_in}
 use Rattle.mn_node.proofs.Mapped.{mapped-is}

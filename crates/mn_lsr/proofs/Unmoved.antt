@@ -12,9 +12,9 @@ use Rattle.mn_wiring.proofs.Dist.{dists_are_least}
 use Rattle.mn_linkdb.proofs.OneTree.{next_computed}
 use Rattle.mn_linkdb.specs.Trees.{IsTree, hop_alone}
 use Rattle.mn_linkdb.specs.PathTable.{PathTable, next_at}
-use Rattle.mn_lib.specs.declared.event.LibEvent.{LibEvent}
-use Rattle.mn_lib.specs.declared.event.LibEvent.TheVariants as event
-use Rattle.mn_lib.specs.Bindings.{Bindings}
+use Rattle.mn_bindings.specs.declared.event.LibEvent.{LibEvent}
+use Rattle.mn_bindings.specs.declared.event.LibEvent.TheVariants as event
+use Rattle.mn_bindings.specs.Bindings.{Bindings}
 use Rattle.mn_node.specs.Node.{Node, view_in}
 use Rattle.mn_lsr.specs.Ties.{AreTied}
 use Rattle.mn_lsr.specs.Parts.{same_hop, stays, hop_event}

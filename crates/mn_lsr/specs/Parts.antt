@@ -7,14 +7,14 @@ use Rattle.mn_wiring.specs.Wiring.{Wiring, is_end, across, joining, JoinsNodes}
 use Rattle.mn_linkdb.specs.Learned.{links_up, IsView}
 use Rattle.mn_linkdb.specs.PathTable.{PathTable, next_at}
 use Rattle.mn_labels.specs.Labels.{Labels, LabelTable, label_now, meaning_of, IsTold}
-use Rattle.mn_rest.specs.Rests.{Resting, row_of, count_in}
+use Rattle.mn_releases.specs.Rests.{Resting, row_of, count_in}
 use Rattle.mn_lfib.specs.Uses.{use_of, IsNextHop}
-use Rattle.mn_lib.specs.declared.event.LibEvent.{LibEvent}
-use Rattle.mn_lib.specs.declared.event.LibEvent.TheVariants as event
-use Rattle.mn_lib.specs.Bindings as lib
-use Rattle.mn_lib.specs.Tells.{releases}
-use Rattle.mn_lib.specs.Bindings.{Bindings}
-use Rattle.mn_lib.specs.Known.{Known, is_free}
+use Rattle.mn_bindings.specs.declared.event.LibEvent.{LibEvent}
+use Rattle.mn_bindings.specs.declared.event.LibEvent.TheVariants as event
+use Rattle.mn_bindings.specs.Bindings as lib
+use Rattle.mn_bindings.specs.Tells.{releases}
+use Rattle.mn_bindings.specs.Bindings.{Bindings}
+use Rattle.mn_bindings.specs.Known.{Known, is_free}
 use Rattle.mn_node.specs.Ldp.{Said}
 use Rattle.mn_node.specs.Node.{Node}
 use Rattle.mn_node.specs.Machine.{loopback_of}

@@ -6,8 +6,8 @@ use Rattle.mn_states.specs.declared.states.LdpState.TheVariants.{OpenSent, Opera
 use Rattle.mn_ldp_session.specs.declared.session.Reply.{Reply}
 use Rattle.mn_ldp_session.specs.declared.session.Reply.TheVariants as says
 use Rattle.mn_ldp_session.specs.Table.{says_initialization, says_keepalive, begins}
-use Rattle.mn_lib.specs.declared.event.LibEvent.{LibEvent}
-use Rattle.mn_lib.specs.declared.event.LibEvent.TheVariants as event
+use Rattle.mn_bindings.specs.declared.event.LibEvent.{LibEvent}
+use Rattle.mn_bindings.specs.declared.event.LibEvent.TheVariants as event
 use Rattle.mn_node.specs.Ldp.{Message, Initialization, KeepAlive, Address, Mapping, Withdraw, Release}
 use Rattle.mn_lsr.specs.declared.parts.Open.{Open}
 

@@ -10,11 +10,11 @@ use Rattle.mn_labels.specs.declared.meaning.Bind.{Bind}
 use Rattle.mn_labels.specs.declared.meaning.Bind.TheVariants.{Fec, Site}
 use Rattle.mn_labels.specs.declared.meaning.Given.{Given}
 use Rattle.mn_labels.specs.Labels.{Labels, meaning_of}
-use Rattle.mn_rest.specs.Rests.{Resting}
+use Rattle.mn_releases.specs.Rests.{Resting}
 use Rattle.mn_lfib.specs.declared.answer.Use.{Use}
 use Rattle.mn_lfib.specs.declared.answer.Use.TheVariants as use_kind
 use Rattle.mn_lfib.specs.Uses.{use_of, fec_use}
-use Rattle.mn_lib.specs.Bindings.{Bindings, row_of}
+use Rattle.mn_bindings.specs.Bindings.{Bindings, row_of}
 use Rattle.mn_node.specs.Ldp.{usable_by}
 use Rattle.mn_node.specs.Node.{Session, Node, session_at, knowledge_in}
 use Rattle.mn_ldp_session.specs.Spelling.{AreSpelled, count_of}

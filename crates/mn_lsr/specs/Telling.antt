@@ -9,11 +9,11 @@ use Rattle.mn_ldp_wire.specs.Grammar.{IsLabel}
 use Rattle.mn_labels.specs.Labels.{Labels}
 use Rattle.mn_lsr.specs.Message.{HasOne}
 use Rattle.mn_node.specs.Ldp.{Message, Mapping, Withdraw, Release, Said, said_on}
-use Rattle.mn_lib.specs.declared.event.LibEvent.{LibEvent}
-use Rattle.mn_lib.specs.declared.event.LibEvent.TheVariants as event
-use Rattle.mn_lib.specs.declared.event.Tell.{Tell}
-use Rattle.mn_lib.specs.declared.event.TellKind.{TellKind}
-use Rattle.mn_lib.specs.declared.event.TellKind.TheVariants as tells
+use Rattle.mn_bindings.specs.declared.event.LibEvent.{LibEvent}
+use Rattle.mn_bindings.specs.declared.event.LibEvent.TheVariants as event
+use Rattle.mn_bindings.specs.declared.event.Tell.{Tell}
+use Rattle.mn_bindings.specs.declared.event.TellKind.{TellKind}
+use Rattle.mn_bindings.specs.declared.event.TellKind.TheVariants as tells
 
 -- the link's other end
 abbrev pub other_end : LinkEnds → ℕ → ℕ

@@ -5,8 +5,8 @@ use Rattle.mn_wiring.specs.Wiring.{Wiring, across, nodes_of}
 use Rattle.mn_states.specs.declared.states.LdpState.{LdpState}
 use Rattle.mn_states.specs.declared.states.LdpState.TheVariants.{OpenRec, Operational}
 use Rattle.mn_labels.specs.Labels.{Labels, offered}
-use Rattle.mn_rest.specs.Rests.{Resting, opened, closed, withdrawn, released, is_over}
-use Rattle.mn_lib.specs.Known.{all_stopped}
+use Rattle.mn_releases.specs.Rests.{Resting, opened, closed, withdrawn, released, is_over}
+use Rattle.mn_bindings.specs.Known.{all_stopped}
 use Rattle.mn_node.specs.Ldp.{Message, KeepAlive, Withdraw, Release, Said, Knowledge, offers}
 use Rattle.mn_node.specs.Node.{Node, session_at, knowledge_in}
 use Rattle.mn_node.specs.Machine.{Event, Learns, Opens, Closes, Hears, changed, said, after_event}

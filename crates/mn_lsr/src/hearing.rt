@@ -16,7 +16,7 @@ use crate::said::Said;
 use mn_base::{LinkNo, NodeNo};
 use mn_ldp_session::{Session, SessionBad};
 use mn_ldp_wire::{LdpBody, LdpId, LdpMessage, WireBad, read_pdu};
-use mn_lib::LibEvent;
+use mn_bindings::LibEvent;
 use std::alloc::{AllocError, Global};
 
 /// What a body says to the node, and the label that it brings. A mention of a FEC that is no node's is passed over.

@@ -9,7 +9,7 @@ use crate::parts::Parts;
 use mn_base::NodeNo;
 use mn_labels::Labels;
 use mn_lfib::Lfib;
-use mn_lib::Lib;
+use mn_bindings::Lib;
 use mn_linkdb::View;
 use mn_spf_inc::{MendTree, SharedLinks};
 use std::alloc::{AllocError, Global};

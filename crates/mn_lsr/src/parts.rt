@@ -2,7 +2,7 @@ ghost use Rattle.std.specs.Prelude.{◌≡◌, ◌≢◌, ◌≤◌, ◌<◌, �
 ghost use Rattle.std.specs.Option.{option_to_list};
 ghost use Rattle.std.specs.List.{flat_map};
 ghost use Rattle.mn_lsr.specs.Prelude.{is_end, across, said_on, session_at, loopback_of, Learns, Opens, Closes, changed, said, after_event, IsTable, own_labels, meaning_of, offered, after_events, tells, begun, known_after, is_free, AreFew, use_of, pdus};
-ghost use Rattle.mn_lib.specs.Bindings as lib;
+ghost use Rattle.mn_bindings.specs.Bindings as lib;
 ghost use Rattle.mn_lsr.specs.Telling.{said_by_tell};
 ghost use Rattle.mn_lsr.specs.Message.{meaning, NamesNode, HasLabel};
 ghost use Rattle.mn_lsr.specs.Replies.{replied, first_reply, closing_events};
@@ -21,7 +21,7 @@ use mn_base::{LinkNo, NodeNo};
 use mn_labels::Labels;
 use mn_ldp_session::{Reply, Session};
 use mn_lfib::Lfib;
-use mn_lib::{Lib, LibEvent};
+use mn_bindings::{Lib, LibEvent};
 use mn_linkdb::{LinkDb, Tree, View};
 use mn_spf_inc::MendTree;
 use mn_states::LdpState;

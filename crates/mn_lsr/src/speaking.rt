@@ -14,7 +14,7 @@ use crate::parts::Open;
 use crate::said::Said;
 use mn_base::{LinkNo, NodeNo};
 use mn_labels::Labels;
-use mn_lib::{Tell, TellKind};
+use mn_bindings::{Tell, TellKind};
 use mn_wiring::LinkEnds;
 use std::alloc::{AllocError, Global};
 

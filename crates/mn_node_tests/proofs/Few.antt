@@ -4,10 +4,10 @@ use Rattle.std.specs.Prelude.{nat_le, nat_lt, slice_index_or}
 use Rattle.std.specs.List.{list_all}
 use Rattle.mn_base.specs.declared.numbers.NodeNo.{NodeNo}
 use Rattle.mn_base.proofs.Bools.{and_left, and_right, at_most_tells, less_tells}
-use Rattle.mn_lib.specs.declared.event.LibEvent.{LibEvent}
-use Rattle.mn_lib.specs.Known.{Known, AreFew}
-use Rattle.mn_lib.specs.Tells.{tells}
-use Rattle.mn_rest.specs.Rests.{Resting, count_in}
+use Rattle.mn_bindings.specs.declared.event.LibEvent.{LibEvent}
+use Rattle.mn_bindings.specs.Known.{Known, AreFew}
+use Rattle.mn_bindings.specs.Tells.{tells}
+use Rattle.mn_releases.specs.Rests.{Resting, count_in}
 
 abbrev pub node : ℕ → NodeNo
 node n = record { 0 = n }

@@ -1,5 +1,5 @@
 use mn_base::NodeNo;
-use mn_lib::{Lib, LibEvent, Tell, TellKind};
+use mn_bindings::{Lib, LibEvent, Tell, TellKind};
 use std::test::Fail;
 
 const PE1: NodeNo = NodeNo(0);

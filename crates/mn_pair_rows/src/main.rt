@@ -10,7 +10,7 @@
 use mn_base::{LinkNo, NodeNo, SiteNo};
 use mn_ledger::{Refused, Verdict};
 use mn_net::Net;
-use mn_option_a::{Pair, PairBad, Played, Which};
+use mn_join::{Pair, PairBad, Played, Which};
 use mn_prefix::Prefix;
 use mn_script::Command;
 use mn_test_nets::row;

@@ -22,24 +22,24 @@ use Rattle.mn_pe.specs.Edge.{Edge, after_vrf, after_attach}
 use Rattle.mn_pe.specs.Exports.{exports_at, exports_over, export_of}
 use Rattle.mn_routing_laws.specs.Doing.{AreSayable, those_of}
 use Rattle.mn_routing_laws.proofs.Home.{is_edge_of}
-use Rattle.mn_reflection_laws.specs.Words.{Offer, Word, Open, KeepAlive, Announce, Withdraw}
-use Rattle.mn_reflection_laws.specs.Picks.{ReflectWorld}
-use Rattle.mn_reflection_laws.specs.World.{world_of, first_word, words_to}
-use Rattle.mn_reflection_laws.specs.Quiet.{told}
-use Rattle.mn_reflection_laws.specs.Through.{ComesThrough}
-use Rattle.mn_reflection_laws.proofs.Steps.{first_said}
-use Rattle.mn_reflection_laws.proofs.Through.{comes_through}
-use Rattle.mn_reflection_laws.specs.Refusal.{refusal}
-use Rattle.mn_reflect_laws.specs.Labels.{labels_of}
-use Rattle.mn_reflect_laws.specs.Now.{ReflectNow}
-use Rattle.mn_reflect_laws.specs.Steps.{may_peer, takes}
-use Rattle.mn_reflect_laws.specs.Goes.{Goes, word_heard, edge_of_node}
-use Rattle.mn_reflect_laws.proofs.Config.{free}
-use Rattle.mn_reflect_laws.proofs.Run.{peers_there, run_goes_on}
-use Rattle.mn_reflect_laws.proofs.Hears.{hears as hears_in_turn}
-use Rattle.mn_reflect_laws.proofs.Exporting.{exports_sayable, exports_sayable_after}
-use Rattle.mn_reflect_laws.proofs.Unrefused.{import_free, export_free, add_is_free, del_is_free, site_vrf, few_statics, some_statics, label_fits}
-use Rattle.mn_reflect_laws.proofs.Onward.{goes_on}
+use Rattle.mn_reflect_ledger_laws.specs.Words.{Offer, Word, Open, KeepAlive, Announce, Withdraw}
+use Rattle.mn_reflect_ledger_laws.specs.Picks.{ReflectWorld}
+use Rattle.mn_reflect_ledger_laws.specs.World.{world_of, first_word, words_to}
+use Rattle.mn_reflect_ledger_laws.specs.Quiet.{told}
+use Rattle.mn_reflect_ledger_laws.specs.Through.{ComesThrough}
+use Rattle.mn_reflect_ledger_laws.proofs.Steps.{first_said}
+use Rattle.mn_reflect_ledger_laws.proofs.Through.{comes_through}
+use Rattle.mn_reflect_ledger_laws.specs.Refusal.{refusal}
+use Rattle.mn_reflect_world_laws.specs.Labels.{labels_of}
+use Rattle.mn_reflect_world_laws.specs.Now.{ReflectNow}
+use Rattle.mn_reflect_world_laws.specs.Steps.{may_peer, takes}
+use Rattle.mn_reflect_world_laws.specs.Goes.{Goes, word_heard, edge_of_node}
+use Rattle.mn_reflect_world_laws.proofs.Config.{free}
+use Rattle.mn_reflect_world_laws.proofs.Run.{peers_there, run_goes_on}
+use Rattle.mn_reflect_world_laws.proofs.Hears.{hears as hears_in_turn}
+use Rattle.mn_reflect_world_laws.proofs.Exporting.{exports_sayable, exports_sayable_after}
+use Rattle.mn_reflect_world_laws.proofs.Unrefused.{import_free, export_free, add_is_free, del_is_free, site_vrf, few_statics, some_statics, label_fits}
+use Rattle.mn_reflect_world_laws.proofs.Onward.{goes_on}
 use Rattle.mn_reflect.specs.Course.{IsRun}
 use Rattle.mn_reflect.specs.Doing.{IsEdgeAt, IsNext}
 use Rattle.mn_reflect.specs.Changing.{MayImport, MayExport, MayAdd, MayDel, MayAttach, MayDetach, exports_changed, static_over, next_label}

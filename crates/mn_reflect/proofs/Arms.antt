@@ -5,8 +5,8 @@ use Rattle.mn_base.specs.declared.numbers.NodeNo.{NodeNo}
 use Rattle.mn_topo.specs.declared.steps.Step.{Step}
 use Rattle.mn_topo.specs.declared.steps.Step.TheVariants as step
 use Rattle.mn_bgp_spelling_laws.specs.Spelling.{Labels}
-use Rattle.mn_reflection_laws.specs.Words.{Word}
-use Rattle.mn_reflect_laws.specs.Now.{ReflectNow}
+use Rattle.mn_reflect_ledger_laws.specs.Words.{Word}
+use Rattle.mn_reflect_world_laws.specs.Now.{ReflectNow}
 use Rattle.mn_reflect.specs.Doing.{IsNext, word_heard}
 use Rattle.mn_reflect.specs.Acting.{MayAct, IsHeardIn, acted}
 

@@ -12,7 +12,7 @@ use Rattle.mn_pe.specs.Pe.{PeNow, found_in}
 use Rattle.mn_ledger.specs.Places.{edge_of, home_of}
 use Rattle.mn_routing_laws.specs.Whole.{RoutesNow}
 use Rattle.mn_net_laws.specs.Refusal.{asked, of_edge, of_vrf, imports_it, exports_it, site_label, site_with}
-use Rattle.mn_reflect_laws.specs.Now.{ReflectNow}
+use Rattle.mn_reflect_world_laws.specs.Now.{ReflectNow}
 use Rattle.mn_reflect.specs.Causes.{shown}
 
 abbrev pub bind : {A B : Type 0} → (A → Option B) → Option A → Option B

@@ -9,12 +9,12 @@ use Rattle.mn_topo.specs.Network.{Network}
 use Rattle.mn_ledger.specs.Places.{loopback, sites_at}
 use Rattle.mn_routing_laws.specs.Routed.{working}
 use Rattle.mn_routing_laws.proofs.Placed.{length_range}
-use Rattle.mn_reflection_laws.specs.Picks.{is_reflector, placed_by, by_address}
-use Rattle.mn_reflection_laws.specs.Quiet.{AreReflectors}
-use Rattle.mn_reflection_laws.specs.World.{start}
-use Rattle.mn_reflect_laws.specs.Labels.{first_labels}
-use Rattle.mn_reflect_laws.specs.Starts.{StartsAs, nothing_decided}
-use Rattle.mn_reflect_laws.specs.Now.{ReflectNow, edge_or_none}
+use Rattle.mn_reflect_ledger_laws.specs.Picks.{is_reflector, placed_by, by_address}
+use Rattle.mn_reflect_ledger_laws.specs.Quiet.{AreReflectors}
+use Rattle.mn_reflect_ledger_laws.specs.World.{start}
+use Rattle.mn_reflect_world_laws.specs.Labels.{first_labels}
+use Rattle.mn_reflect_world_laws.specs.Starts.{StartsAs, nothing_decided}
+use Rattle.mn_reflect_world_laws.specs.Now.{ReflectNow, edge_or_none}
 use Rattle.mn_reflect_telling.specs.Mentions.{numbers_of, AreNodes}
 use Rattle.mn_reflect.specs.Shape.{IsShaped}
 use Rattle.std.specs.Prelude.{option_map}

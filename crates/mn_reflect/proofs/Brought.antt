@@ -10,9 +10,9 @@ use Rattle.mn_bgp_wire.specs.Says.{Says}
 use Rattle.mn_bgp_wire.specs.Written.{withdrawn_route}
 use Rattle.mn_bgp_reflected.specs.Says.{SaysReflected}
 use Rattle.mn_offers.specs.Heard.{Heard}
-use Rattle.mn_reflection_laws.specs.Words.{Key}
-use Rattle.mn_reflect_laws.specs.Now.{ReflectNow}
-use Rattle.mn_reflect_laws.specs.Letters.{vpn_route_of}
+use Rattle.mn_reflect_ledger_laws.specs.Words.{Key}
+use Rattle.mn_reflect_world_laws.specs.Now.{ReflectNow}
+use Rattle.mn_reflect_world_laws.specs.Letters.{vpn_route_of}
 use Rattle.mn_reflect_telling.specs.Names.{named}
 use Rattle.mn_reflect_telling.specs.Passing.{IsPassable}
 use Rattle.mn_reflect_telling.specs.Mentions.{key_of_heard}

@@ -11,9 +11,9 @@ use Rattle.mn_pe.specs.Pe.{PeNow}
 use Rattle.mn_routing_laws.specs.Routed.{working}
 use Rattle.mn_routing_laws.specs.Doing.{AreNews, AreSayable}
 use Rattle.mn_routing_laws.proofs.Placed.{index_of}
-use Rattle.mn_reflect_laws.specs.Now.{ReflectNow}
-use Rattle.mn_reflect_laws.specs.Letters.{edge_news}
-use Rattle.mn_reflect_laws.specs.Goes.{edge_of_node, steady_of, either_news}
+use Rattle.mn_reflect_world_laws.specs.Now.{ReflectNow}
+use Rattle.mn_reflect_world_laws.specs.Letters.{edge_news}
+use Rattle.mn_reflect_world_laws.specs.Goes.{edge_of_node, steady_of, either_news}
 use Rattle.mn_reflect.specs.Shape.{IsShaped}
 use Rattle.mn_reflect.specs.Doing.{IsEdgeAt, changed_edge, with_letters}
 use Rattle.mn_reflect.specs.Changing.{told_peers}

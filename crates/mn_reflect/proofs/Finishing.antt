@@ -10,13 +10,13 @@ use Rattle.mn_ledger.specs.Places.{vrf_of}
 use Rattle.mn_ledger.specs.Refusal.{first_cause, where_holds, prefix_refusal}
 use Rattle.mn_net_laws.specs.Refusal.{site_with, is_site}
 use Rattle.mn_bgp_spelling_laws.specs.Spelling.{Labels}
-use Rattle.mn_reflection_laws.specs.Words.{Word, Open, KeepAlive, Announce, Withdraw}
-use Rattle.mn_reflection_laws.specs.World.{world_of}
-use Rattle.mn_reflection_laws.specs.Refusal.{refusal}
-use Rattle.mn_reflect_laws.specs.Now.{ReflectNow}
-use Rattle.mn_reflect_laws.specs.Steps.{takes}
-use Rattle.mn_reflect_laws.specs.Labels.{labels_of}
-use Rattle.mn_reflect_laws.specs.Goes.{word_heard}
+use Rattle.mn_reflect_ledger_laws.specs.Words.{Word, Open, KeepAlive, Announce, Withdraw}
+use Rattle.mn_reflect_ledger_laws.specs.World.{world_of}
+use Rattle.mn_reflect_ledger_laws.specs.Refusal.{refusal}
+use Rattle.mn_reflect_world_laws.specs.Now.{ReflectNow}
+use Rattle.mn_reflect_world_laws.specs.Steps.{takes}
+use Rattle.mn_reflect_world_laws.specs.Labels.{labels_of}
+use Rattle.mn_reflect_world_laws.specs.Goes.{word_heard}
 use Rattle.mn_reflect.specs.declared.refusal.ReflectBad.{ReflectBad}
 use Rattle.mn_reflect.specs.declared.refusal.ReflectBad.TheVariants as bad
 use Rattle.mn_reflect.specs.Course.{IsRun, MayStep, bad_of}

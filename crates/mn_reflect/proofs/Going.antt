@@ -23,14 +23,14 @@ use Rattle.mn_routing_laws.specs.Routed.{working}
 use Rattle.mn_routing_laws.specs.Doing.{edge_or_blank, those_of}
 use Rattle.mn_routing_laws.proofs.Opening.{set_same}
 use Rattle.mn_routing_laws.proofs.Turning.{get_other}
-use Rattle.mn_reflection_laws.specs.Words.{Key, Offer, Word, Open, KeepAlive, Announce, Withdraw, key_of}
-use Rattle.mn_reflection_laws.specs.Picks.{is_reflector}
-use Rattle.mn_reflect_laws.specs.Now.{ReflectNow}
-use Rattle.mn_reflect_laws.specs.Choice.{Row, row_at, names_in}
-use Rattle.mn_reflect_laws.specs.Kept.{route_in}
-use Rattle.mn_reflect_laws.specs.Letters.{open_letter, reflector_news, edge_news}
-use Rattle.mn_reflect_laws.specs.Goes.{Goes, set_at, on_edge, edge_of_node, decide_all, steady_of, either_news}
-use Rattle.mn_reflect_laws.specs.Goes.{sessions_after, heard_after, attachments_after, statics_after, edges_after, letters_after}
+use Rattle.mn_reflect_ledger_laws.specs.Words.{Key, Offer, Word, Open, KeepAlive, Announce, Withdraw, key_of}
+use Rattle.mn_reflect_ledger_laws.specs.Picks.{is_reflector}
+use Rattle.mn_reflect_world_laws.specs.Now.{ReflectNow}
+use Rattle.mn_reflect_world_laws.specs.Choice.{Row, row_at, names_in}
+use Rattle.mn_reflect_world_laws.specs.Kept.{route_in}
+use Rattle.mn_reflect_world_laws.specs.Letters.{open_letter, reflector_news, edge_news}
+use Rattle.mn_reflect_world_laws.specs.Goes.{Goes, set_at, on_edge, edge_of_node, decide_all, steady_of, either_news}
+use Rattle.mn_reflect_world_laws.specs.Goes.{sessions_after, heard_after, attachments_after, statics_after, edges_after, letters_after}
 use Rattle.mn_reflect_telling.specs.Telling.{posted}
 use Rattle.mn_reflect.specs.Doing.{IsEdgeAt, changed_edge, kept, forgotten, cut_between, with_end, taken, begun, ended, word_heard}
 use Rattle.mn_reflect.specs.Changing.{imports_changed, exports_changed, import_set, export_set, static_over, with_route, without_route, route_added}

@@ -12,8 +12,8 @@ use Rattle.mn_bgp_session.specs.declared.table.BgpReply.{BgpReply}
 use Rattle.mn_bgp_session.specs.declared.refusal.BgpBad.{BgpBad}
 use Rattle.mn_bgp_session.specs.declared.refusal.BgpBad.TheVariants.{BadPeer}
 use Rattle.mn_ledger.specs.Places.{loopback}
-use Rattle.mn_reflection_laws.specs.Words.{Word, Open, KeepAlive, Announce, Withdraw}
-use Rattle.mn_reflect_laws.specs.Goes.{end_in}
+use Rattle.mn_reflect_ledger_laws.specs.Words.{Word, Open, KeepAlive, Announce, Withdraw}
+use Rattle.mn_reflect_world_laws.specs.Goes.{end_in}
 use Rattle.mn_reflect.specs.Doing.{IsFirst, state_of_word, reply_of, next_of}
 use Rattle.mn_reflect.proofs.Rows.{row_is}
 

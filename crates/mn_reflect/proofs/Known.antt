@@ -4,11 +4,11 @@ use Rattle.std.specs.Prelude.{slice_index_or, if◌then◌else◌}
 use Rattle.std.specs.List.{AllByRecursion, flat_map}
 use Rattle.mn_topo.specs.Network.{Network}
 use Rattle.mn_offers.specs.Heard.{Heard}
-use Rattle.mn_reflection_laws.specs.Words.{Key, same_key, key_before, placed, in_order}
+use Rattle.mn_reflect_ledger_laws.specs.Words.{Key, same_key, key_before, placed, in_order}
 use Rattle.mn_mail.specs.Mail.{Mail}
-use Rattle.mn_reflect_laws.specs.Now.{ReflectNow}
-use Rattle.mn_reflect_laws.specs.Choice.{row_at, names_in, all_names}
-use Rattle.mn_reflect_laws.specs.Letters.{reflector_offers}
+use Rattle.mn_reflect_world_laws.specs.Now.{ReflectNow}
+use Rattle.mn_reflect_world_laws.specs.Choice.{row_at, names_in, all_names}
+use Rattle.mn_reflect_world_laws.specs.Letters.{reflector_offers}
 use Rattle.mn_reflect_telling.specs.Telling.{posted}
 use Rattle.mn_reflect_telling.specs.Mentions.{row_in}
 use Rattle.mn_reflect.specs.Doing.{with_letters}

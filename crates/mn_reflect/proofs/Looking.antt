@@ -18,13 +18,13 @@ use Rattle.mn_routing_laws.specs.Routed.{working}
 use Rattle.mn_routing_laws.specs.Sources.{as_held}
 use Rattle.mn_routing_laws.proofs.Home.{is_edge_of}
 use Rattle.mn_routing_laws.proofs.Placed.{index_of}
-use Rattle.mn_reflection_laws.specs.World.{world_of}
-use Rattle.mn_reflection_laws.specs.Quiet.{held, IsJoined}
-use Rattle.mn_reflect_laws.specs.Labels.{labels_of}
+use Rattle.mn_reflect_ledger_laws.specs.World.{world_of}
+use Rattle.mn_reflect_ledger_laws.specs.Quiet.{held, IsJoined}
+use Rattle.mn_reflect_world_laws.specs.Labels.{labels_of}
 use Rattle.mn_ledger.specs.Heads.{held_at}
-use Rattle.mn_reflect_laws.specs.Now.{ReflectNow}
-use Rattle.mn_reflect_laws.specs.Goes.{edge_of_node}
-use Rattle.mn_reflect_laws.proofs.Held.{found_lookup, found_held, rest_lookup, rest_held}
+use Rattle.mn_reflect_world_laws.specs.Now.{ReflectNow}
+use Rattle.mn_reflect_world_laws.specs.Goes.{edge_of_node}
+use Rattle.mn_reflect_world_laws.proofs.Held.{found_lookup, found_held, rest_lookup, rest_held}
 use Rattle.mn_reflect.specs.Course.{IsRun}
 use Rattle.mn_reflect.proofs.Placed.{at_edge}
 

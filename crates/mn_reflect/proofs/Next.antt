@@ -11,10 +11,10 @@ use Rattle.mn_bgp_reflected.specs.Grammar.{IsReflected}
 use Rattle.mn_bgp_spelling_laws.specs.Spelling.{Labels}
 use Rattle.mn_mail.specs.Mail.{Letter, first_from_to}
 use Rattle.mn_offers.specs.Heard.{Heard}
-use Rattle.mn_reflection_laws.specs.Words.{Key, Word, Open, KeepAlive, Announce, Withdraw, key_of}
-use Rattle.mn_reflect_laws.specs.Kept.{route_in}
-use Rattle.mn_reflect_laws.specs.Now.{ReflectNow}
-use Rattle.mn_reflect_laws.specs.Spelling.{word_bytes}
+use Rattle.mn_reflect_ledger_laws.specs.Words.{Key, Word, Open, KeepAlive, Announce, Withdraw, key_of}
+use Rattle.mn_reflect_world_laws.specs.Kept.{route_in}
+use Rattle.mn_reflect_world_laws.specs.Now.{ReflectNow}
+use Rattle.mn_reflect_world_laws.specs.Spelling.{word_bytes}
 use Rattle.mn_reflect_telling.specs.Said.{IsOther, IsSaid}
 use Rattle.mn_reflect.specs.Doing.{IsNext, IsFirst, IsSaying, taken, route_heard, word_heard}
 use Rattle.mn_reflect_telling.proofs.Results.{on_ok}

@@ -10,12 +10,12 @@ use Rattle.mn_routing_laws.specs.Standing.{edge_in}
 use Rattle.mn_routing_laws.specs.Doing.{edge_or_blank}
 use Rattle.mn_routing_laws.proofs.Placed.{get_range, index_of, length_range}
 use Rattle.mn_routing_laws.proofs.Tables.{map_numbers_at}
-use Rattle.mn_reflection_laws.specs.Picks.{ReflectWorld, is_reflector}
-use Rattle.mn_reflection_laws.specs.Quiet.{AreReflectors}
-use Rattle.mn_reflect_laws.specs.Edges.{all_live, as_peerings}
-use Rattle.mn_reflect_laws.specs.Now.{ReflectNow, StandsFor, edge_or_none}
-use Rattle.mn_reflect_laws.specs.Goes.{edge_of_node}
-use Rattle.mn_reflect_laws.proofs.Addresses.{still_reflector}
+use Rattle.mn_reflect_ledger_laws.specs.Picks.{ReflectWorld, is_reflector}
+use Rattle.mn_reflect_ledger_laws.specs.Quiet.{AreReflectors}
+use Rattle.mn_reflect_world_laws.specs.Edges.{all_live, as_peerings}
+use Rattle.mn_reflect_world_laws.specs.Now.{ReflectNow, StandsFor, edge_or_none}
+use Rattle.mn_reflect_world_laws.specs.Goes.{edge_of_node}
+use Rattle.mn_reflect_world_laws.proofs.Addresses.{still_reflector}
 use Rattle.mn_reflect.specs.Doing.{IsEdgeAt}
 use Rattle.mn_reflect.proofs.Going.{IsPlaced}
 

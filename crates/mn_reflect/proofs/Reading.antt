@@ -4,8 +4,8 @@ use Rattle.std.specs.Prelude.{length}
 use Rattle.mn_topo.specs.Network.{Network}
 use Rattle.mn_bgp_spelling_laws.specs.Spelling.{Labels}
 use Rattle.mn_mail.specs.Mail.{Letter}
-use Rattle.mn_reflection_laws.specs.Picks.{Spoken}
-use Rattle.mn_reflect_laws.specs.Spelling.{letters_in}
+use Rattle.mn_reflect_ledger_laws.specs.Picks.{Spoken}
+use Rattle.mn_reflect_world_laws.specs.Spelling.{letters_in}
 
 module _ (topology : Network) (reflectors : List ℕ) (labels : Labels) where
   one_each : (flying : List Spoken) → length (letters_in topology reflectors labels flying) ≡ length flying

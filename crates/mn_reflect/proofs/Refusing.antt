@@ -25,17 +25,17 @@ use Rattle.mn_routing_laws.proofs.GoingOn.{edge_below}
 use Rattle.mn_net_laws.specs.Refusal.{session_at, of_vrf, imports_it, exports_it, site_label, site_with, is_site}
 use Rattle.mn_net_laws.proofs.Statics.{site_is, over_site}
 use Rattle.mn_net_laws.proofs.Vrfs.{not_some, vrf_is, imports_is, exports_is, imports_count, exports_count, attached_is}
-use Rattle.mn_reflection_laws.specs.Words.{Word}
-use Rattle.mn_reflection_laws.specs.Picks.{ReflectWorld, is_reflector}
-use Rattle.mn_reflection_laws.specs.Quiet.{AreReflectors}
-use Rattle.mn_reflection_laws.specs.World.{start, world_of, first_word}
-use Rattle.mn_reflection_laws.specs.Refusal.{is_empty, is_full, takes_out, refusal}
-use Rattle.mn_reflection_laws.proofs.Apart.{statics_from}
-use Rattle.mn_reflect_laws.specs.Labels.{labels_of, attachments_at}
-use Rattle.mn_reflect_laws.specs.Spelling.{letter_in}
-use Rattle.mn_reflect_laws.specs.Now.{ReflectNow, StandsFor}
-use Rattle.mn_reflect_laws.specs.Steps.{may_peer, takes}
-use Rattle.mn_reflect_laws.proofs.Letters.{are_words}
+use Rattle.mn_reflect_ledger_laws.specs.Words.{Word}
+use Rattle.mn_reflect_ledger_laws.specs.Picks.{ReflectWorld, is_reflector}
+use Rattle.mn_reflect_ledger_laws.specs.Quiet.{AreReflectors}
+use Rattle.mn_reflect_ledger_laws.specs.World.{start, world_of, first_word}
+use Rattle.mn_reflect_ledger_laws.specs.Refusal.{is_empty, is_full, takes_out, refusal}
+use Rattle.mn_reflect_ledger_laws.proofs.Apart.{statics_from}
+use Rattle.mn_reflect_world_laws.specs.Labels.{labels_of, attachments_at}
+use Rattle.mn_reflect_world_laws.specs.Spelling.{letter_in}
+use Rattle.mn_reflect_world_laws.specs.Now.{ReflectNow, StandsFor}
+use Rattle.mn_reflect_world_laws.specs.Steps.{may_peer, takes}
+use Rattle.mn_reflect_world_laws.proofs.Letters.{are_words}
 use Rattle.mn_reflect.specs.Course.{IsRun}
 use Rattle.mn_reflect.specs.Causes.{IsOfPlaces, shown, is_so, has_nothing, of_static, has_all_targets, has_given_all, has_too_much, refusal_seen}
 use Rattle.mn_reflect.proofs.Reading.{as_many}

@@ -2,8 +2,8 @@
 use Rattle.std.proofs.Common.{[], ℕ, zero, suc, ◌≡◌, ◌<◌, List, ◌∷◌, map, length, refl, arith, sym, ◌∙◌, ap, subst, Vec, Global}
 use Rattle.std.specs.Prelude.{slice_set, slice_index_or, vec_len}
 use Rattle.std.specs.Vec.{with_item}
-use Rattle.mn_reflect_laws.specs.Goes.{set_at}
-use Rattle.mn_reflect_laws.specs.Now.{ReflectNow}
+use Rattle.mn_reflect_world_laws.specs.Goes.{set_at}
+use Rattle.mn_reflect_world_laws.specs.Now.{ReflectNow}
 use Rattle.mn_reflect_telling.proofs.Posting.{any_default}
 
 map_set : {R B : Type 0} (f : R → B) (rows : List R) (i : ℕ) (x : R) → map f (slice_set rows i x) ≡ slice_set (map f rows) i (f x)

@@ -2,7 +2,7 @@
 use Rattle.std.proofs.Common.{ℕ, ◌<◌, List, ◌∙◌, sym, subst, Option}
 use Rattle.mn_bgp_session.specs.declared.session.BgpSession.{BgpSession}
 use Rattle.mn_offers.specs.Heard.{Heard}
-use Rattle.mn_reflect_laws.specs.Now.{ReflectNow}
+use Rattle.mn_reflect_world_laws.specs.Now.{ReflectNow}
 use Rattle.mn_reflect.specs.Shape.{IsShaped}
 use Rattle.mn_reflect.specs.Doing.{with_end, with_row}
 use Rattle.mn_reflect.proofs.Tables.{rows_stay, row_stays}

@@ -13,9 +13,9 @@ use Rattle.mn_routing_laws.specs.Routed.{working}
 use Rattle.mn_routing_laws.specs.Whole.{RoutesNow, routes_in, edge_or_none}
 use Rattle.mn_routing_laws.proofs.Tables.{map_numbers_at}
 use Rattle.mn_net_laws.specs.Refusal.{session_at}
-use Rattle.mn_reflection_laws.specs.Picks.{ReflectWorld}
-use Rattle.mn_reflect_laws.specs.Edges.{all_live, as_peerings}
-use Rattle.mn_reflect_laws.specs.Now.{ReflectNow, StandsFor, session_in}
+use Rattle.mn_reflect_ledger_laws.specs.Picks.{ReflectWorld}
+use Rattle.mn_reflect_world_laws.specs.Edges.{all_live, as_peerings}
+use Rattle.mn_reflect_world_laws.specs.Now.{ReflectNow, StandsFor, session_in}
 use Rattle.mn_reflect.specs.Causes.{shown}
 
 -- 1. Edges

@@ -5,10 +5,10 @@ use Rattle.mn_base.proofs.Bools.{two_ways}
 use Rattle.mn_prefix.specs.Prefix.{AddressBlock}
 use Rattle.mn_offers.specs.Heard.{Heard, heard_before, place_of, heard_at, with_heard, without_heard}
 use Rattle.mn_offers.proofs.ByName.{heard_order}
-use Rattle.mn_reflection_laws.specs.Words.{Key}
-use Rattle.mn_reflect_laws.specs.Choice.{row_at}
-use Rattle.mn_reflect_laws.specs.Goes.{set_at}
-use Rattle.mn_reflect_laws.proofs.At.{at_with, at_without}
+use Rattle.mn_reflect_ledger_laws.specs.Words.{Key}
+use Rattle.mn_reflect_world_laws.specs.Choice.{row_at}
+use Rattle.mn_reflect_world_laws.specs.Goes.{set_at}
+use Rattle.mn_reflect_world_laws.proofs.At.{at_with, at_without}
 use Rattle.mn_reflect_telling.specs.Mentions.{Shows}
 use Rattle.mn_reflect.specs.Doing.{mentioned_in, IsNamed}
 use Rattle.mn_reflect.proofs.Tables.{cell_same, cell_other}

@@ -13,18 +13,18 @@ use Rattle.mn_bgp_spelling_laws.specs.Spelling.{Labels}
 use Rattle.mn_pe.specs.Edge.{Edge}
 use Rattle.mn_offers.specs.Heard.{Heard}
 use Rattle.mn_routing_laws.proofs.GoingOn.{edge_below}
-use Rattle.mn_reflection_laws.specs.Words.{Word, Open, KeepAlive, Announce, Withdraw}
-use Rattle.mn_reflection_laws.specs.Picks.{ReflectWorld, is_reflector}
-use Rattle.mn_reflection_laws.specs.World.{world_of}
-use Rattle.mn_reflect_laws.specs.Labels.{labels_of}
-use Rattle.mn_reflect_laws.specs.Kept.{route_in}
-use Rattle.mn_reflect_laws.specs.Now.{ReflectNow}
-use Rattle.mn_reflect_laws.specs.Steps.{may_peer}
-use Rattle.mn_reflect_laws.specs.Goes.{end_in}
-use Rattle.mn_reflect_laws.specs.Known.{IsSayableRoute, IsSayableWord, HasClusters, IsHeardInTurn}
-use Rattle.mn_reflect_laws.specs.Known as known
-use Rattle.mn_reflect_laws.proofs.Hears.{kept_sayable}
-use Rattle.mn_reflect_laws.proofs.Exporting.{exports_sayable}
+use Rattle.mn_reflect_ledger_laws.specs.Words.{Word, Open, KeepAlive, Announce, Withdraw}
+use Rattle.mn_reflect_ledger_laws.specs.Picks.{ReflectWorld, is_reflector}
+use Rattle.mn_reflect_ledger_laws.specs.World.{world_of}
+use Rattle.mn_reflect_world_laws.specs.Labels.{labels_of}
+use Rattle.mn_reflect_world_laws.specs.Kept.{route_in}
+use Rattle.mn_reflect_world_laws.specs.Now.{ReflectNow}
+use Rattle.mn_reflect_world_laws.specs.Steps.{may_peer}
+use Rattle.mn_reflect_world_laws.specs.Goes.{end_in}
+use Rattle.mn_reflect_world_laws.specs.Known.{IsSayableRoute, IsSayableWord, HasClusters, IsHeardInTurn}
+use Rattle.mn_reflect_world_laws.specs.Known as known
+use Rattle.mn_reflect_world_laws.proofs.Hears.{kept_sayable}
+use Rattle.mn_reflect_world_laws.proofs.Exporting.{exports_sayable}
 use Rattle.mn_reflect.specs.Course.{IsRun}
 use Rattle.mn_reflect_telling.specs.Passing.{IsPassable}
 use Rattle.mn_reflect.specs.Doing.{MayTurn, MayHear, IsNext, IsGoodWord, state_of_word}

@@ -6,7 +6,7 @@ use Rattle.std.proofs.lemmas.List.{get_or-set_same, get_or-set_other, set-get_or
 use Rattle.mn_pe.specs.Edge.{Edge}
 use Rattle.mn_pe.specs.Pe.{PeNow}
 use Rattle.mn_routing_laws.specs.Routed.{working}
-use Rattle.mn_reflect_laws.specs.Goes.{set_at, on_edge}
+use Rattle.mn_reflect_world_laws.specs.Goes.{set_at, on_edge}
 
 -- 1. What stands where
 

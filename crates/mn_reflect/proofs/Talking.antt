@@ -12,13 +12,13 @@ use Rattle.mn_pe.specs.Pe.{PeNow}
 use Rattle.mn_routing_laws.specs.Routed.{working}
 use Rattle.mn_routing_laws.specs.Doing.{edge_or_blank}
 use Rattle.mn_routing_laws.proofs.Turning.{get_other}
-use Rattle.mn_reflection_laws.specs.Words.{Word, Open, KeepAlive, Announce, Withdraw}
-use Rattle.mn_reflection_laws.specs.Picks.{is_reflector}
+use Rattle.mn_reflect_ledger_laws.specs.Words.{Word, Open, KeepAlive, Announce, Withdraw}
+use Rattle.mn_reflect_ledger_laws.specs.Picks.{is_reflector}
 use Rattle.mn_pe.specs.Held as held
-use Rattle.mn_reflect_laws.specs.Choice.{row_at, names_in, all_names}
-use Rattle.mn_reflect_laws.specs.Letters.{open_letter, keep_letter, reflector_offers, edge_news}
-use Rattle.mn_reflect_laws.specs.Now.{ReflectNow}
-use Rattle.mn_reflect_laws.specs.Goes.{end_in, edge_of_node, decide_all, set_at}
+use Rattle.mn_reflect_world_laws.specs.Choice.{row_at, names_in, all_names}
+use Rattle.mn_reflect_world_laws.specs.Letters.{open_letter, keep_letter, reflector_offers, edge_news}
+use Rattle.mn_reflect_world_laws.specs.Now.{ReflectNow}
+use Rattle.mn_reflect_world_laws.specs.Goes.{end_in, edge_of_node, decide_all, set_at}
 use Rattle.mn_reflect_telling.specs.Passing.{IsPassable}
 use Rattle.mn_reflect.specs.Doing.{with_end, with_letters, cut_between, begun, ended, forgotten, taken, MayTurn, MayHear, MayAnswer, IsNext, IsFirst}
 use Rattle.mn_reflect.specs.Doing.{reply_of, next_of, answered, offered_all, word_heard}

@@ -21,12 +21,12 @@ use Rattle.mn_routing_laws.specs.Routed.{working}
 use Rattle.mn_routing_laws.specs.Doing.{edge_or_blank}
 use Rattle.mn_routing_laws.specs.Sending.{is_steady, peers_from}
 use Rattle.mn_routing_laws.proofs.Opening.{set_same}
-use Rattle.mn_reflection_laws.specs.Words.{Key}
-use Rattle.mn_reflection_laws.specs.Picks.{is_reflector}
-use Rattle.mn_reflect_laws.specs.Now.{ReflectNow}
-use Rattle.mn_reflect_laws.specs.Choice.{Row, row_at, reflected_to, offered_of, names_in}
-use Rattle.mn_reflect_laws.specs.Letters.{change_letters, reflector_news}
-use Rattle.mn_reflect_laws.specs.Goes.{set_at, steady_of, edge_of_node, decide, decide_all, decision_says}
+use Rattle.mn_reflect_ledger_laws.specs.Words.{Key}
+use Rattle.mn_reflect_ledger_laws.specs.Picks.{is_reflector}
+use Rattle.mn_reflect_world_laws.specs.Now.{ReflectNow}
+use Rattle.mn_reflect_world_laws.specs.Choice.{Row, row_at, reflected_to, offered_of, names_in}
+use Rattle.mn_reflect_world_laws.specs.Letters.{change_letters, reflector_news}
+use Rattle.mn_reflect_world_laws.specs.Goes.{set_at, steady_of, edge_of_node, decide, decide_all, decision_says}
 use Rattle.mn_reflect_telling.specs.Mentions.{numbers_of, Shows, AreNodes, row_in, row_with, key_of_heard}
 use Rattle.mn_reflect_telling.specs.Names.{named}
 use Rattle.mn_reflect_telling.specs.Passing.{IsPassable, IfPassable}

@@ -9,8 +9,8 @@ use Rattle.mn_topo.specs.Network.{Network}
 use Rattle.mn_bgp_session.specs.declared.session.BgpSession.{BgpSession}
 use Rattle.mn_offers.specs.Heard.{Heard}
 use Rattle.mn_routing_laws.specs.Sending.{peers_from}
-use Rattle.mn_reflect_laws.specs.Now.{ReflectNow}
-use Rattle.mn_reflect_laws.specs.Goes.{set_at}
+use Rattle.mn_reflect_world_laws.specs.Now.{ReflectNow}
+use Rattle.mn_reflect_world_laws.specs.Goes.{set_at}
 use Rattle.mn_reflect_telling.specs.Mentions.{AreKept, AreNodes, numbers_of}
 use Rattle.mn_reflect_telling.specs.Passing.{IsPassable}
 use Rattle.mn_reflect.specs.Shape.{IsShaped, IsWhole}

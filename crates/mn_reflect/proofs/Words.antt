@@ -26,11 +26,11 @@ use Rattle.mn_bgp_reflected.proofs.Messages.{are_in_body, one_reflected}
 use Rattle.mn_bgp_reflected.proofs.Spelling.{reflected_is_spelled}
 use Rattle.mn_bgp_spelling_laws.specs.Spelling.{Labels, as_targets, route_of}
 use Rattle.mn_bgp_spelling_laws.proofs.Coming.{spelled}
-use Rattle.mn_reflection_laws.specs.Words.{Key, Offer, Word, Open, KeepAlive, Announce, Withdraw, key_of}
-use Rattle.mn_reflection_laws.specs.Picks.{is_reflector}
-use Rattle.mn_reflection_laws.specs.Through.{AreOneOrTwo, ComesThrough}
-use Rattle.mn_reflect_laws.specs.Kept.{route_in}
-use Rattle.mn_reflect_laws.specs.Spelling.{word_bytes, hop_of}
+use Rattle.mn_reflect_ledger_laws.specs.Words.{Key, Offer, Word, Open, KeepAlive, Announce, Withdraw, key_of}
+use Rattle.mn_reflect_ledger_laws.specs.Picks.{is_reflector}
+use Rattle.mn_reflect_ledger_laws.specs.Through.{AreOneOrTwo, ComesThrough}
+use Rattle.mn_reflect_world_laws.specs.Kept.{route_in}
+use Rattle.mn_reflect_world_laws.specs.Spelling.{word_bytes, hop_of}
 use Rattle.mn_reflect_telling.specs.Said.{IsOther, IsSaid}
 use Rattle.mn_reflect.specs.Doing.{IsGoodWord, IsFirst, IsSaying}
 

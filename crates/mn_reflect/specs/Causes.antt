@@ -13,8 +13,8 @@ use Rattle.mn_mail.specs.Mail.{first_from_to}
 use Rattle.mn_pe.specs.Pe.{PeNow}
 use Rattle.mn_routing_laws.specs.Whole.{RoutesNow}
 use Rattle.mn_net_laws.specs.Refusal.{session_at, of_vrf, imports_it, exports_it, site_label, site_with, is_site}
-use Rattle.mn_reflection_laws.specs.Refusal.{takes_out}
-use Rattle.mn_reflect_laws.specs.Now.{ReflectNow}
+use Rattle.mn_reflect_ledger_laws.specs.Refusal.{takes_out}
+use Rattle.mn_reflect_world_laws.specs.Now.{ReflectNow}
 
 -- the nodes, VRFs and sites are the topology's
 abbrev pub IsOfPlaces : Network → Step → Type 0

@@ -12,9 +12,9 @@ use Rattle.mn_pe.specs.Held.{Exported}
 use Rattle.mn_pe.specs.Pe.{found_in}
 use Rattle.mn_pe.specs.Exports.{exports_at, exports_over, export_of}
 use Rattle.mn_routing_laws.specs.Doing.{AreSayable, those_of}
-use Rattle.mn_reflect_laws.specs.Now.{ReflectNow}
-use Rattle.mn_reflect_laws.specs.Letters.{edge_news}
-use Rattle.mn_reflect_laws.specs.Goes.{steady_of, edge_of_node, either_news}
+use Rattle.mn_reflect_world_laws.specs.Now.{ReflectNow}
+use Rattle.mn_reflect_world_laws.specs.Letters.{edge_news}
+use Rattle.mn_reflect_world_laws.specs.Goes.{steady_of, edge_of_node, either_news}
 use Rattle.mn_reflect.specs.Doing.{with_letters, changed_edge, IsEdgeAt}
 
 -- an edge tells its peers of exports that come or go

@@ -5,8 +5,8 @@ use Rattle.mn_topo.specs.Network.{Network}
 use Rattle.mn_topo.specs.declared.steps.Step.{Step}
 use Rattle.mn_ledger.specs.declared.refused.Refused.{Refused}
 use Rattle.mn_ledger.specs.declared.refused.Refused.TheVariants as refused
-use Rattle.mn_reflect_laws.specs.Now.{ReflectNow, IsReflect}
-use Rattle.mn_reflect_laws.specs.Steps.{takes, IsLawfulRun}
+use Rattle.mn_reflect_world_laws.specs.Now.{ReflectNow, IsReflect}
+use Rattle.mn_reflect_world_laws.specs.Steps.{takes, IsLawfulRun}
 use Rattle.mn_reflect.specs.declared.refusal.ReflectBad.{ReflectBad}
 use Rattle.mn_reflect.specs.declared.refusal.ReflectBad.TheVariants as bad
 

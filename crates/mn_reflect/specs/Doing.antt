@@ -20,14 +20,14 @@ use Rattle.mn_mail.specs.Mail.{Letter}
 use Rattle.mn_mail.specs.Mail as mail
 use Rattle.mn_routing_laws.specs.Routed.{working}
 use Rattle.mn_routing_laws.specs.Doing.{AreSayable}
-use Rattle.mn_reflection_laws.specs.Words.{Key, Word, Open, KeepAlive, Announce, Withdraw, key_of}
-use Rattle.mn_reflection_laws.specs.Picks.{is_reflector}
-use Rattle.mn_reflect_laws.specs.Kept.{route_in}
-use Rattle.mn_reflect_laws.specs.Spelling.{letter_in}
-use Rattle.mn_reflect_laws.specs.Now.{ReflectNow}
-use Rattle.mn_reflect_laws.specs.Choice.{row_at, names_in}
-use Rattle.mn_reflect_laws.specs.Letters.{open_letter, keep_letter, vpn_route_of, next_hop, reflector_news}
-use Rattle.mn_reflect_laws.specs.Goes.{set_at, end_in, steady_of, edge_of_node, decide, decide_all, offering_letters}
+use Rattle.mn_reflect_ledger_laws.specs.Words.{Key, Word, Open, KeepAlive, Announce, Withdraw, key_of}
+use Rattle.mn_reflect_ledger_laws.specs.Picks.{is_reflector}
+use Rattle.mn_reflect_world_laws.specs.Kept.{route_in}
+use Rattle.mn_reflect_world_laws.specs.Spelling.{letter_in}
+use Rattle.mn_reflect_world_laws.specs.Now.{ReflectNow}
+use Rattle.mn_reflect_world_laws.specs.Choice.{row_at, names_in}
+use Rattle.mn_reflect_world_laws.specs.Letters.{open_letter, keep_letter, vpn_route_of, next_hop, reflector_news}
+use Rattle.mn_reflect_world_laws.specs.Goes.{set_at, end_in, steady_of, edge_of_node, decide, decide_all, offering_letters}
 use Rattle.mn_reflect_telling.specs.Passing.{IsPassable, IfPassable}
 use Rattle.mn_reflect_telling.specs.Telling.{posted}
 

@@ -46,7 +46,7 @@ pub struct Reflect<'t> {
 impl<'t> Model for Reflect<'t> {
     ghost use Rattle.std.specs.Prelude.{map};
     ghost use Rattle.mn_base.specs.declared.numbers.NodeNo.{NodeNo as NodeNumber};
-    ghost use Rattle.mn_reflect_laws.specs.Now.{ReflectNow};
+    ghost use Rattle.mn_reflect_world_laws.specs.Now.{ReflectNow};
     ghost use Rattle.mn_reflect.specs.Shape.{IsWhole};
 
     ghost Value = { ReflectNow };

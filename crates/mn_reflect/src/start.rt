@@ -1,6 +1,6 @@
 //! The start: no session lives, and nothing was heard.
 ghost use Rattle.std.specs.Prelude.{[], IfOk};
-ghost use Rattle.mn_reflection_laws.specs.Quiet.{AreReflectors};
+ghost use Rattle.mn_reflect_ledger_laws.specs.Quiet.{AreReflectors};
 ghost use Rattle.mn_reflect_telling.specs.Mentions.{numbers_of};
 ghost use Rattle.mn_reflect.specs.Course.{IsRun};
 

@@ -15,11 +15,11 @@ use Rattle.mn_ledger.specs.Bgp.{peers_live}
 use Rattle.mn_ledger.specs.Refusal.{first_cause, where_holds}
 use Rattle.mn_ledger.specs.declared.refused.Refused.{Refused}
 use Rattle.mn_ledger.specs.declared.refused.Refused.TheVariants as cause
-use Rattle.mn_reflection_laws.specs.Words.{Key, Word, Open, change}
-use Rattle.mn_reflection_laws.specs.Picks.{Spoken, ReflectWorld, is_established, is_reflector, offered}
-use Rattle.mn_reflection_laws.specs.World.{start, is_from_to, is_between, first_word, without_first, says, heard_one, counted, unsaid, replies, is_steady, news_of, news, said_in, after, world_from, world_of}
-use Rattle.mn_reflection_laws.specs.Refusal.{refusal}
-use Rattle.mn_reflect_laws.specs.Steps.{may_peer, takes, AreTaken, first_hearing}
+use Rattle.mn_reflect_ledger_laws.specs.Words.{Key, Word, Open, change}
+use Rattle.mn_reflect_ledger_laws.specs.Picks.{Spoken, ReflectWorld, is_established, is_reflector, offered}
+use Rattle.mn_reflect_ledger_laws.specs.World.{start, is_from_to, is_between, first_word, without_first, says, heard_one, counted, unsaid, replies, is_steady, news_of, news, said_in, after, world_from, world_of}
+use Rattle.mn_reflect_ledger_laws.specs.Refusal.{refusal}
+use Rattle.mn_reflect_world_laws.specs.Steps.{may_peer, takes, AreTaken, first_hearing}
 
 module _ (topology : Network) (reflectors : List ℕ) where
   -- the one may peer with the other where that may with it

@@ -14,10 +14,10 @@ use Rattle.mn_edge.specs.Faults.{Counted}
 use Rattle.mn_topo.specs.Network.{Network}
 use Rattle.mn_topo.specs.declared.steps.Step.{Step}
 use Rattle.mn_ledger.specs.declared.refused.Refused.{Refused}
-use Rattle.mn_reflection_laws.specs.World.{world_of}
+use Rattle.mn_reflect_ledger_laws.specs.World.{world_of}
 use Rattle.mn_tables.specs.Telling.{Stand, Tells, Told}
 use Rattle.mn_tables.proofs.Telling.{told_more, told_nothing, tells_within, tells_want}
-use Rattle.mn_reflect_laws.specs.Now.{ReflectNow}
+use Rattle.mn_reflect_world_laws.specs.Now.{ReflectNow}
 use Rattle.mn_reflect.specs.Course.{IsRun}
 use Rattle.mn_reflect_run.specs.declared.command.ReflectCommand.{ReflectCommand}
 use Rattle.mn_reflect_run.specs.declared.command.ReflectCommand.TheVariants as command

@@ -7,7 +7,7 @@ use Rattle.mn_base.proofs.Bools.{or_ways, same_numbers}
 use Rattle.mn_base.specs.declared.numbers.NodeNo.{NodeNo}
 use Rattle.mn_topo.specs.Network.{Network}
 use Rattle.mn_topo.specs.VrfTable.{is_edge}
-use Rattle.mn_reflection_laws.specs.Picks.{is_reflector}
+use Rattle.mn_reflect_ledger_laws.specs.Picks.{is_reflector}
 use Rattle.mn_reflect_telling.specs.Mentions.{numbers_of}
 use Rattle.mn_reflect_run.specs.declared.command.ReflectCommand.{ReflectCommand}
 use Rattle.mn_reflect_run.specs.declared.command.ReflectLine.{ReflectLine}

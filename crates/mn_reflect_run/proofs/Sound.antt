@@ -12,12 +12,12 @@ use Rattle.mn_topo.specs.declared.steps.Step.{Step}
 use Rattle.mn_topo.specs.declared.steps.Step.TheVariants as step
 use Rattle.mn_ledger.specs.declared.refused.Refused.{Refused}
 use Rattle.mn_routing_laws.proofs.Lawful.{below_of}
-use Rattle.mn_reflection_laws.specs.Picks.{ReflectWorld, is_reflector}
-use Rattle.mn_reflection_laws.specs.World.{start, after, world_from, world_of}
-use Rattle.mn_reflection_laws.specs.Quiet.{AreReflectors, NamesNodes, AreReflected}
-use Rattle.mn_reflection_laws.specs.Refusal.{refusal}
-use Rattle.mn_reflection_laws.specs.Holding.{AreDoneFrom}
-use Rattle.mn_reflect_laws.specs.Steps.{may_peer, takes, AreTaken, IsLawfulRun}
+use Rattle.mn_reflect_ledger_laws.specs.Picks.{ReflectWorld, is_reflector}
+use Rattle.mn_reflect_ledger_laws.specs.World.{start, after, world_from, world_of}
+use Rattle.mn_reflect_ledger_laws.specs.Quiet.{AreReflectors, NamesNodes, AreReflected}
+use Rattle.mn_reflect_ledger_laws.specs.Refusal.{refusal}
+use Rattle.mn_reflect_ledger_laws.specs.Holding.{AreDoneFrom}
+use Rattle.mn_reflect_world_laws.specs.Steps.{may_peer, takes, AreTaken, IsLawfulRun}
 use Rattle.mn_reflect_run.specs.declared.command.ReflectCommand.{ReflectCommand}
 use Rattle.mn_reflect_run.specs.declared.command.ReflectCommand.TheVariants as command
 use Rattle.mn_reflect_run.specs.declared.command.ReflectLine.{ReflectLine}

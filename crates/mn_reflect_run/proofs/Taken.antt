@@ -16,7 +16,7 @@ use Rattle.mn_script.specs.Rules.{◌>>=◌}
 use Rattle.mn_script.specs.Words.{word_at, choice, counted}
 use Rattle.mn_script.specs.Operands.{prefix_in, site_in}
 use Rattle.mn_script.specs.Steps.{route_line, target_operands, import_line, export_line, site_line}
-use Rattle.mn_reflect_laws.specs.Steps.{takes}
+use Rattle.mn_reflect_world_laws.specs.Steps.{takes}
 use Rattle.mn_reflect_telling.specs.Mentions.{numbers_of}
 
 pub listed : (node : ℕ) (nodes : List NodeNo) → list_any (λ (other : NodeNo). other.0 == node) nodes ≡ list_any (λ other. other == node) (numbers_of nodes)

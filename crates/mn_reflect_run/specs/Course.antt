@@ -4,9 +4,9 @@ use Rattle.mn_base.specs.Limits.{most_steps}
 use Rattle.mn_topo.specs.Network.{Network}
 use Rattle.mn_topo.specs.declared.steps.Step.{Step}
 use Rattle.mn_ledger.specs.declared.refused.Refused.{Refused}
-use Rattle.mn_reflection_laws.specs.World.{world_of}
-use Rattle.mn_reflection_laws.specs.Refusal.{refusal}
-use Rattle.mn_reflect_laws.specs.Steps.{first_hearing}
+use Rattle.mn_reflect_ledger_laws.specs.World.{world_of}
+use Rattle.mn_reflect_ledger_laws.specs.Refusal.{refusal}
+use Rattle.mn_reflect_world_laws.specs.Steps.{first_hearing}
 use Rattle.mn_reflect_run.specs.declared.command.ReflectCommand.{ReflectCommand}
 use Rattle.mn_reflect_run.specs.declared.command.ReflectCommand.TheVariants as command
 use Rattle.mn_reflect_run.specs.declared.command.ReflectLine.{ReflectLine}

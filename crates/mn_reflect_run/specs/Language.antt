@@ -15,8 +15,8 @@ use Rattle.mn_script.specs.Words.{line_words, word_at, is_word, choice, counted}
 use Rattle.mn_script.specs.Operands.{lesser, greater, number_in, node_in, vrf_in}
 use Rattle.mn_script.specs.Steps.{route_line, import_line, export_line, site_line}
 use Rattle.mn_script.specs.Reading.{number_after}
-use Rattle.mn_reflection_laws.specs.Picks.{is_reflector}
-use Rattle.mn_reflect_laws.specs.Steps.{may_peer, takes}
+use Rattle.mn_reflect_ledger_laws.specs.Picks.{is_reflector}
+use Rattle.mn_reflect_world_laws.specs.Steps.{may_peer, takes}
 use Rattle.mn_reflect_telling.specs.Mentions.{numbers_of}
 use Rattle.mn_reflect_run.specs.declared.command.ReflectCommand.{ReflectCommand}
 use Rattle.mn_reflect_run.specs.declared.command.ReflectCommand.TheVariants as command

@@ -5,9 +5,9 @@ use Rattle.mn_topo.specs.Network.{Network}
 use Rattle.mn_topo.specs.declared.steps.Step.{Step}
 use Rattle.mn_ledger.specs.Places.{edge_of}
 use Rattle.mn_ledger.specs.Held.{HeldRoute}
-use Rattle.mn_reflection_laws.specs.World.{world_of}
-use Rattle.mn_reflection_laws.specs.Holding.{HoldsItsRoutes}
-use Rattle.mn_reflection_laws.specs.Quiet.{IsJoined}
+use Rattle.mn_reflect_ledger_laws.specs.World.{world_of}
+use Rattle.mn_reflect_ledger_laws.specs.Holding.{HoldsItsRoutes}
+use Rattle.mn_reflect_ledger_laws.specs.Quiet.{IsJoined}
 use Rattle.mn_reflect_run.specs.Course.{ReflectRun, Table}
 
 -- no message flies, each edge has a living session with a reflector, and each two reflectors have one

@@ -8,10 +8,10 @@ use Rattle.mn_topo.specs.declared.steps.Step.{Step}
 use Rattle.mn_ledger.specs.declared.refused.Refused.{Refused}
 use Rattle.mn_ledger.specs.declared.refused.Refused.TheVariants as cause
 use Rattle.mn_tables.specs.Telling.{Stand, Tells, Told}
-use Rattle.mn_reflection_laws.specs.World.{world_of}
-use Rattle.mn_reflection_laws.specs.Refusal.{refusal}
-use Rattle.mn_reflect_laws.specs.Now.{ReflectNow}
-use Rattle.mn_reflect_laws.specs.Steps.{takes}
+use Rattle.mn_reflect_ledger_laws.specs.World.{world_of}
+use Rattle.mn_reflect_ledger_laws.specs.Refusal.{refusal}
+use Rattle.mn_reflect_world_laws.specs.Now.{ReflectNow}
+use Rattle.mn_reflect_world_laws.specs.Steps.{takes}
 use Rattle.mn_reflect.specs.Course.{IsRun}
 use Rattle.mn_reflect.specs.declared.refusal.ReflectBad.{ReflectBad}
 use Rattle.mn_reflect.specs.declared.refusal.ReflectBad.TheVariants as bad

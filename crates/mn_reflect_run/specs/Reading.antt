@@ -6,8 +6,8 @@ use Rattle.mn_base.specs.declared.numbers.NodeNo.{NodeNo}
 use Rattle.mn_script.specs.declared.refusal.ScriptRule.{ScriptRule}
 use Rattle.mn_script.specs.declared.refusal.ScriptBad.{ScriptBad}
 use Rattle.mn_script.specs.declared.refusal.ScriptBad.TheVariants.{Refused, NoMemory}
-use Rattle.mn_reflection_laws.specs.Picks.{is_reflector}
-use Rattle.mn_reflection_laws.specs.Quiet.{AreReflectors}
+use Rattle.mn_reflect_ledger_laws.specs.Picks.{is_reflector}
+use Rattle.mn_reflect_ledger_laws.specs.Quiet.{AreReflectors}
 use Rattle.mn_reflect_telling.specs.Mentions.{numbers_of}
 use Rattle.mn_reflect_run.specs.declared.command.ReflectLine.{ReflectLine}
 use Rattle.mn_reflect_run.specs.Language.{Script, command_fits}

@@ -12,9 +12,9 @@ use Rattle.mn_output_laws.specs.Files.{node_name}
 use Rattle.mn_ledger.specs.Heads.{prefixes_of, best_for}
 use Rattle.mn_output_laws.specs.Tables.{vrf_name, site_name}
 use Rattle.mn_bgp_spelling_laws.specs.Spelling.{Labels}
-use Rattle.mn_reflection_laws.specs.World.{world_of}
-use Rattle.mn_reflection_laws.specs.Quiet.{held}
-use Rattle.mn_reflect_laws.specs.Labels.{labels_of}
+use Rattle.mn_reflect_ledger_laws.specs.World.{world_of}
+use Rattle.mn_reflect_ledger_laws.specs.Quiet.{held}
+use Rattle.mn_reflect_world_laws.specs.Labels.{labels_of}
 use Rattle.mn_reflect_telling.specs.Mentions.{numbers_of}
 use Rattle.mn_reflect_run.specs.Language.{Script}
 use Rattle.mn_reflect_run.specs.Course.{Note, Refusal, Table, ReflectRun, run_of}

@@ -5,7 +5,7 @@ ghost use Rattle.mn_reflect_run.specs.Reading.{IsLawfulScript};
 ghost use Rattle.mn_reflect_run.specs.Report.{course_of};
 ghost use Rattle.mn_reflect_run.specs.Laws.{AreOfTheMesh};
 
-use mn_reflection_laws::where_none_flies_a_vrf_holds_its_routes;
+use mn_reflect_ledger_laws::where_none_flies_a_vrf_holds_its_routes;
 
 /// Each table that is printed where no message flies, each edge has a living session with a reflector and each two reflectors have one,
 /// is that of a full mesh of sessions between all edges.

@@ -8,7 +8,7 @@ use Rattle.mn_base.proofs.Bools.{less_is, not_less}
 use Rattle.mn_base.specs.declared.numbers.NodeNo.{NodeNo}
 use Rattle.mn_topo.specs.Network.{Network}
 use Rattle.mn_ledger.specs.Places.{loopback}
-use Rattle.mn_reflection_laws.specs.Picks.{placed_by, by_address}
+use Rattle.mn_reflect_ledger_laws.specs.Picks.{placed_by, by_address}
 use Rattle.mn_reflect_telling.specs.Mentions.{numbers_of, AreNodes}
 use Rattle.mn_reflect_telling.proofs.Posting.{drop_all}
 

@@ -10,9 +10,9 @@ use Rattle.mn_base.proofs.Places.{fold_ascends}
 use Rattle.mn_by_key_laws.specs.ByKey.{Goes}
 use Rattle.mn_offers.specs.Heard.{Heard, place_of}
 use Rattle.mn_offers.proofs.ByName.{heard_order, by_vrf_then_prefix, by_name}
-use Rattle.mn_reflection_laws.specs.Words.{Key, same_key, key_before, in_order}
-use Rattle.mn_reflection_laws.proofs.Mentions.{same_keys}
-use Rattle.mn_reflect_laws.proofs.InOrder.{key_order, in_order_is}
+use Rattle.mn_reflect_ledger_laws.specs.Words.{Key, same_key, key_before, in_order}
+use Rattle.mn_reflect_ledger_laws.proofs.Mentions.{same_keys}
+use Rattle.mn_reflect_world_laws.proofs.InOrder.{key_order, in_order_is}
 use Rattle.mn_reflect_telling.specs.declared.name.Name.{Name}
 use Rattle.mn_reflect_telling.specs.Names.{key_in, name_before, place_in, with_names}
 

@@ -8,11 +8,11 @@ use Rattle.mn_topo.specs.Network.{Network}
 use Rattle.mn_bgp_wire.specs.Written.{says_announced, says_withdrawn}
 use Rattle.mn_ledger.specs.Places.{vrf_at, edge_of, loopback}
 use Rattle.mn_offers.specs.Heard.{Heard, heard_before, place_of, heard_at}
-use Rattle.mn_reflection_laws.specs.Words.{Key}
-use Rattle.mn_reflection_laws.specs.Picks.{or_else}
-use Rattle.mn_reflect_laws.specs.Choice.{Row, kept_of, first_kept, reflected_to}
-use Rattle.mn_reflect_laws.specs.Letters.{next_hop, vpn_route_of}
-use Rattle.mn_reflect_laws.specs.Goes.{decision_says}
+use Rattle.mn_reflect_ledger_laws.specs.Words.{Key}
+use Rattle.mn_reflect_ledger_laws.specs.Picks.{or_else}
+use Rattle.mn_reflect_world_laws.specs.Choice.{Row, kept_of, first_kept, reflected_to}
+use Rattle.mn_reflect_world_laws.specs.Letters.{next_hop, vpn_route_of}
+use Rattle.mn_reflect_world_laws.specs.Goes.{decision_says}
 
 -- a route that is found is of the VRF
 found_vrf : (v : ℕ) (p : AddressBlock) (routes : List Heard) (route : Heard) → heard_at v p routes ≡ Some route → route.vrf ≡ v

@@ -6,9 +6,9 @@ use Rattle.std.proofs.Math.Seq.{drop-cons}
 use Rattle.mn_base.specs.declared.numbers.NodeNo.{NodeNo}
 use Rattle.mn_base.proofs.Bools.{test_same}
 use Rattle.mn_offers.specs.Heard.{Heard}
-use Rattle.mn_reflection_laws.specs.Words.{Key}
-use Rattle.mn_reflection_laws.specs.Picks.{or_else}
-use Rattle.mn_reflect_laws.specs.Choice.{Row, kept_of, first_kept, reflected_to}
+use Rattle.mn_reflect_ledger_laws.specs.Words.{Key}
+use Rattle.mn_reflect_ledger_laws.specs.Picks.{or_else}
+use Rattle.mn_reflect_world_laws.specs.Choice.{Row, kept_of, first_kept, reflected_to}
 use Rattle.mn_reflect_telling.specs.Mentions.{numbers_of}
 use Rattle.mn_reflect_telling.proofs.Posting.{drop_all}
 

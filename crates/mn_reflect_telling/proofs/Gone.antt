@@ -7,9 +7,9 @@ use Rattle.mn_base.proofs.Bools.{test_same, other_test}
 use Rattle.mn_offers.specs.Heard.{Heard, heard_at}
 use Rattle.mn_topo.specs.Network.{Network}
 use Rattle.mn_mail.specs.Mail.{Letter, Mail}
-use Rattle.mn_reflection_laws.specs.Words.{Key}
-use Rattle.mn_reflect_laws.specs.Choice.{Row, offered_of, names_in}
-use Rattle.mn_reflect_laws.specs.Letters.{change_letters, reflector_news}
+use Rattle.mn_reflect_ledger_laws.specs.Words.{Key}
+use Rattle.mn_reflect_world_laws.specs.Choice.{Row, offered_of, names_in}
+use Rattle.mn_reflect_world_laws.specs.Letters.{change_letters, reflector_news}
 use Rattle.mn_reflect_telling.specs.Mentions.{Shows, row_in, row_with, key_of_heard}
 use Rattle.mn_reflect_telling.specs.Telling.{posted}
 use Rattle.mn_reflect_telling.proofs.Posting.{posted_more, posted_none}

@@ -6,7 +6,7 @@ use Rattle.mn_base.specs.declared.numbers.Rt.{Rt}
 use Rattle.mn_base.proofs.Bools.{test_same, other_test, and_false}
 use Rattle.mn_ledger.specs.Exports.{same_targets}
 use Rattle.mn_offers.specs.Heard.{Heard}
-use Rattle.mn_reflect_laws.specs.Letters.{numbers, says_same}
+use Rattle.mn_reflect_world_laws.specs.Letters.{numbers, says_same}
 
 pub unlike : (m n : ℕ) → m ≢ n → not (m == n) ≡ true
 unlike m n apart = ap not (other_test m n apart)

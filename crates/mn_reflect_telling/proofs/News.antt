@@ -3,9 +3,9 @@ use Rattle.std.proofs.Common.{ℕ, List, Option, None}
 use Rattle.mn_base.specs.declared.numbers.NodeNo.{NodeNo}
 use Rattle.mn_offers.specs.Heard.{Heard}
 use Rattle.mn_mail.specs.Mail.{Letter}
-use Rattle.mn_reflection_laws.specs.Words.{Key}
-use Rattle.mn_reflect_laws.specs.Choice.{Row, offered_of}
-use Rattle.mn_reflect_laws.specs.Letters.{change_letters}
+use Rattle.mn_reflect_ledger_laws.specs.Words.{Key}
+use Rattle.mn_reflect_world_laws.specs.Choice.{Row, offered_of}
+use Rattle.mn_reflect_world_laws.specs.Letters.{change_letters}
 use Rattle.mn_reflect_telling.specs.Mentions.{numbers_of}
 use Rattle.mn_reflect_telling.specs.declared.teller.Teller.{Teller}
 

@@ -7,10 +7,10 @@ use Rattle.mn_ledger.specs.Places.{loopback, edge_of}
 use Rattle.mn_ledger.specs.Exports.{same_targets}
 use Rattle.mn_mail.specs.Mail.{Letter, Mail}
 use Rattle.mn_offers.specs.Heard.{Heard}
-use Rattle.mn_reflection_laws.specs.Words.{Key}
-use Rattle.mn_reflection_laws.specs.Picks.{is_reflector}
-use Rattle.mn_reflect_laws.specs.Choice.{Row, kept_of, picked_by, passed_on, offered_of}
-use Rattle.mn_reflect_laws.specs.Letters.{numbers, says_same, change_letters, reflected_letter}
+use Rattle.mn_reflect_ledger_laws.specs.Words.{Key}
+use Rattle.mn_reflect_ledger_laws.specs.Picks.{is_reflector}
+use Rattle.mn_reflect_world_laws.specs.Choice.{Row, kept_of, picked_by, passed_on, offered_of}
+use Rattle.mn_reflect_world_laws.specs.Letters.{numbers, says_same, change_letters, reflected_letter}
 use Rattle.mn_reflect_telling.specs.Mentions.{held_out}
 use Rattle.mn_reflect_telling.specs.Telling.{posted, letter_if, letter_of, change_bytes, passed_bytes}
 use Rattle.mn_reflect_telling.proofs.Posting.{posted_none}

@@ -25,8 +25,8 @@ use Rattle.mn_pe.specs.Start.{edge_at_start}
 use Rattle.mn_routing_laws.specs.Standing.{vrf_in, site_label_now, heard_in}
 use Rattle.mn_routing_laws.proofs.Starts.{same_all, given_below}
 use Rattle.mn_routing_laws.proofs.Starts as starts
-use Rattle.mn_reflect_laws.specs.Labels.{first_labels}
-use Rattle.mn_reflect_laws.specs.Edges.{all_live, as_peerings}
+use Rattle.mn_reflect_world_laws.specs.Labels.{first_labels}
+use Rattle.mn_reflect_world_laws.specs.Edges.{all_live, as_peerings}
 use Rattle.mn_reflect_telling.proofs.Posting.{drop_all}
 use Rattle.mn_reflect_telling.specs.Starting.{nothing_decided, first_edge}
 

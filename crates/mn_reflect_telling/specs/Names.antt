@@ -4,7 +4,7 @@ use Rattle.mn_base.specs.declared.numbers.VrfNo.{VrfNo}
 use Rattle.mn_base.specs.Ordered.{with_one}
 use Rattle.mn_by_key_laws.specs.ByKey.{AreByKey}
 use Rattle.mn_prefix.specs.Prefix.{AddressBlock}
-use Rattle.mn_reflection_laws.specs.Words.{Key, key_before}
+use Rattle.mn_reflect_ledger_laws.specs.Words.{Key, key_before}
 use Rattle.mn_reflect_telling.specs.declared.name.Name.{Name}
 
 abbrev pub named : VrfNo → AddressBlock → Key

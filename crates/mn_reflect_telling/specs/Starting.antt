@@ -5,8 +5,8 @@ use Rattle.mn_topo.specs.VrfTable.{is_edge}
 use Rattle.mn_ledger.specs.Ledger.{first_config}
 use Rattle.mn_pe.specs.Edge.{Edge}
 use Rattle.mn_routing_laws.specs.Standing.{edge_in}
-use Rattle.mn_reflect_laws.specs.Labels.{first_labels}
-use Rattle.mn_reflect_laws.specs.Edges.{Decisions, all_live, as_peerings}
+use Rattle.mn_reflect_world_laws.specs.Labels.{first_labels}
+use Rattle.mn_reflect_world_laws.specs.Edges.{Decisions, all_live, as_peerings}
 
 -- nothing is decided yet
 abbrev pub nothing_decided : Decisions

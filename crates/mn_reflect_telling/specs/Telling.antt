@@ -6,8 +6,8 @@ use Rattle.mn_bgp_reflected.specs.Written.{reflected}
 use Rattle.mn_ledger.specs.Places.{loopback, vrf_at}
 use Rattle.mn_offers.specs.Heard.{Heard}
 use Rattle.mn_mail.specs.Mail.{Letter, Mail}
-use Rattle.mn_reflection_laws.specs.Words.{Key}
-use Rattle.mn_reflect_laws.specs.Letters.{vpn_route_of, next_hop, says_same}
+use Rattle.mn_reflect_ledger_laws.specs.Words.{Key}
+use Rattle.mn_reflect_world_laws.specs.Letters.{vpn_route_of, next_hop, says_same}
 
 -- letters are sent, one after another
 abbrev pub posted : List Letter → Mail → Mail

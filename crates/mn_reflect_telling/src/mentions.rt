@@ -18,7 +18,7 @@ ghost use Rattle.std.specs.Prelude.{◌≡◌, ◌<◌, length, option_map};
 ghost use Rattle.std.specs.List.{AllByRecursion};
 ghost use Rattle.mn_base.specs.declared.numbers.NodeNo.{NodeNo as NodeNumber};
 ghost use Rattle.mn_ledger.specs.Prelude.{Network, edge_of};
-ghost use Rattle.mn_reflect_laws.specs.Choice.{Row, kept_of, reflected_to, picked_by};
+ghost use Rattle.mn_reflect_world_laws.specs.Choice.{Row, kept_of, reflected_to, picked_by};
 ghost use Rattle.mn_reflect_telling.specs.Mentions.{numbers_of, ShowsIn, AreOf, AreKept, row_in};
 ghost use Rattle.mn_reflect_telling.specs.Names.{named};
 ghost use Rattle.mn_reflect_telling.specs.Passing.{IfPassable};

@@ -15,7 +15,7 @@ pub(crate) struct Names {
 impl Model for Names {
     ghost use Rattle.std.specs.Prelude.{List, map};
     ghost use Rattle.std.specs.BTreeMap.{values};
-    ghost use Rattle.mn_reflection_laws.specs.Words.{Key};
+    ghost use Rattle.mn_reflect_ledger_laws.specs.Words.{Key};
     ghost use Rattle.mn_reflect_telling.specs.Names.{key_in, AreByName};
 
     ghost Value = { List Key };

@@ -2,7 +2,7 @@
 ghost use Rattle.std.specs.Prelude.{◌≡◌, ◌<◌, ◌≤◌, ◌++◌, ◌∷◌, [], None, length, map, take, drop, replicate, option_map, IfOk};
 ghost use Rattle.mn_ledger.specs.Prelude.{nodes_of, wiring_of, sites_at, first_config};
 ghost use Rattle.mn_routing_laws.specs.Routed.{working};
-ghost use Rattle.mn_reflection_laws.specs.Picks.{placed_by, by_address};
+ghost use Rattle.mn_reflect_ledger_laws.specs.Picks.{placed_by, by_address};
 ghost use Rattle.mn_reflect_telling.specs.Mentions.{AreNodes, numbers_of};
 ghost use Rattle.mn_reflect_telling.specs.Starting.{first_edge, first_edge_or_none};
 

@@ -25,7 +25,7 @@ use Rattle.mn_ledger.proofs.Mentions.{operational-is}
 use Rattle.mn_ledger.proofs.GoingBy.{pair_here, pair_off}
 use Rattle.mn_ledger.proofs.OneKind.{one_passes}
 use Rattle.mn_settled_laws.specs.Offers.{is_operational_on}
-use Rattle.mn_rest.specs.Rests.{Resting, row_of}
+use Rattle.mn_releases.specs.Rests.{Resting, row_of}
 use Rattle.mn_reuse_laws.specs.Answers.{is_release}
 use Rattle.mn_reuse_laws.specs.Resting.{brings_release, ends_session}
 use Rattle.mn_reuse_laws.proofs.Answering.{Released, anew_here, anew_off}

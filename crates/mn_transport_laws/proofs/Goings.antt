@@ -26,7 +26,7 @@ use Rattle.mn_settled_laws.specs.Offers.{is_operational_on}
 use Rattle.mn_settled_laws.proofs.Offering.{ends_below}
 use Rattle.mn_slice_laws.specs.Slice.{node_at, event_of, turned, hears_next, next_heard}
 use Rattle.mn_slice_laws.proofs.Changing.{session_at-is}
-use Rattle.mn_rest.specs.Rests.{Resting, row_of}
+use Rattle.mn_releases.specs.Rests.{Resting, row_of}
 use Rattle.mn_reuse_laws.specs.Answers.{is_release}
 use Rattle.mn_reuse_laws.specs.Resting.{brings_release, ends_session}
 use Rattle.mn_reuse_laws.specs.Relabelled.{Labelling, session_with, sessions_with, node_with, event_with, label_with}

@@ -18,7 +18,7 @@ use Rattle.mn_ledger.specs.Ledger.{after, world_of}
 use Rattle.mn_ledger.specs.Lawful.{IsLawfulJournal}
 use Rattle.mn_ledger.specs.Transport.{is_transport}
 use Rattle.mn_slice_laws.specs.Slice.{node_at, event_of}
-use Rattle.mn_rest.specs.Rests.{Resting}
+use Rattle.mn_releases.specs.Rests.{Resting}
 use Rattle.mn_reuse_laws.specs.Resting.{rested_of}
 use Rattle.mn_reuse_laws.specs.Labels as ledger
 use Rattle.mn_reuse_laws.specs.Labels.{labels_of}

@@ -28,7 +28,7 @@ use Rattle.mn_ledger.proofs.More.{world_from-push}
 use Rattle.mn_ledger.proofs.Mentions.{operational-is}
 use Rattle.mn_settled_laws.specs.Offers.{is_operational_on, offers_in}
 use Rattle.mn_slice_laws.specs.Slice.{node_at}
-use Rattle.mn_rest.specs.Rests.{Resting, row_of}
+use Rattle.mn_releases.specs.Rests.{Resting, row_of}
 use Rattle.mn_reuse_laws.specs.Resting.{brings_release, ends_session, rested_of, rested_after}
 use Rattle.mn_reuse_laws.specs.Labels.{attached_in, begins_offer, is_free, labels_of}
 use Rattle.mn_reuse_laws.specs.Answers.{count_by, is_release, is_withdraw}

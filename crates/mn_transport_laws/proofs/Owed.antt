@@ -14,7 +14,7 @@ use Rattle.mn_node.specs.Ldp.{Message, Initialization, KeepAlive, Address, Relea
 use Rattle.mn_ledger.specs.World.{World, Sessions}
 use Rattle.mn_ledger.specs.Transport.{with_said}
 use Rattle.mn_ledger.proofs.Turning.{across-end}
-use Rattle.mn_rest.specs.Rests.{Resting, row_of, released}
+use Rattle.mn_releases.specs.Rests.{Resting, row_of, released}
 use Rattle.mn_reuse_laws.specs.Answers.{count_by, is_withdraw, is_release}
 use Rattle.mn_reuse_laws.proofs.Counting.{count_append, count_parts}
 use Rattle.mn_reuse_laws.proofs.Answering.{Released}

@@ -14,7 +14,7 @@ use Rattle.mn_node.specs.Ldp.{Message, Initialization, KeepAlive, Address, Mappi
 use Rattle.mn_ledger.specs.World.{Sessions}
 use Rattle.mn_ledger.specs.Transport.{with_said, is_active}
 use Rattle.mn_ledger.specs.Turns.{IsTalk}
-use Rattle.mn_rest.specs.Rests.{Resting, row_of, count_in, with_count, released}
+use Rattle.mn_releases.specs.Rests.{Resting, row_of, count_in, with_count, released}
 use Rattle.mn_reuse_laws.specs.Answers.{is_release}
 use Rattle.mn_reuse_laws.proofs.Answering.{Released}
 use Rattle.mn_lsr.specs.Turns.{owed_for_said, rested_by_message, rested_by_end}

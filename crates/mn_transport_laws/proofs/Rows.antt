@@ -7,8 +7,8 @@ use Rattle.std.proofs.lemmas.List.{get_or-set_same, get_or-set_other, get_or_pas
 use Rattle.mn_base.proofs.Bools.{same_test}
 use Rattle.mn_base.proofs.Members.{In}
 use Rattle.mn_wiring.specs.Wiring.{Wiring, is_end, across}
-use Rattle.mn_rest.specs.Rests.{Resting, row_of, count_in, with_count, withdrawn, stopped}
-use Rattle.mn_lib.specs.Known.{all_stopped}
+use Rattle.mn_releases.specs.Rests.{Resting, row_of, count_in, with_count, withdrawn, stopped}
+use Rattle.mn_bindings.specs.Known.{all_stopped}
 use Rattle.mn_node.specs.Ldp.{Message, Initialization, KeepAlive, Address, Mapping, Withdraw, Release, Said, is_by, messages_of}
 use Rattle.mn_lsr.specs.Turns.{owed_for_message, owed_for_said}
 use Rattle.mn_reuse_laws.specs.Answers.{count_by, is_withdraw}

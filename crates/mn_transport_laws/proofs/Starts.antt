@@ -19,7 +19,7 @@ use Rattle.mn_labels.specs.declared.meaning.Bind.{Bind}
 use Rattle.mn_labels.specs.Labels.{Labels, none_given, greatest, attached, meaning_of}
 use Rattle.mn_lfib.specs.declared.answer.Use.TheVariants as used_for
 use Rattle.mn_lfib.specs.Uses.{use_of}
-use Rattle.mn_rest.specs.Rests.{at_first, row_of}
+use Rattle.mn_releases.specs.Rests.{at_first, row_of}
 use Rattle.mn_node.specs.Machine.{fresh_node}
 use Rattle.mn_topo.specs.Network.{Network, wiring_of, nodes_with}
 use Rattle.mn_topo.specs.declared.nodes.Node.{Node}

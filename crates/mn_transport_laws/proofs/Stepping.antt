@@ -13,8 +13,8 @@ use Rattle.mn_topo.specs.declared.steps.Step.TheVariants as step
 use Rattle.mn_topo.specs.declared.steps.JournalEntry.{JournalEntry}
 use Rattle.mn_labels.specs.Labels.{Labels, offered}
 use Rattle.mn_labels.proofs.Offering.{offered_alike}
-use Rattle.mn_rest.specs.Rests.{Resting, is_over}
-use Rattle.mn_lib.specs.Known.{all_stopped}
+use Rattle.mn_releases.specs.Rests.{Resting, is_over}
+use Rattle.mn_bindings.specs.Known.{all_stopped}
 use Rattle.mn_node.specs.Ldp.{Said, is_by, messages_of, offers}
 use Rattle.mn_node.specs.Node.{Session, Node, hearing_in, knowledge_in}
 use Rattle.mn_node.specs.Machine.{Event, with_count, counted_from, having_said, changed, said, said_any, after_event, after_any}

@@ -18,8 +18,8 @@ use Rattle.mn_ledger.specs.Ledger.{after}
 use Rattle.mn_ledger.specs.Turns.{IsTalk, EndsAreInTurn}
 use Rattle.mn_ledger.proofs.Mentions.{operational-is}
 use Rattle.mn_settled_laws.specs.Offers.{is_operational_on, offers_in}
-use Rattle.mn_rest.specs.Rests.{Resting, row_of, count_in, owes_none, is_over}
-use Rattle.mn_lib.specs.Known.{all_stopped}
+use Rattle.mn_releases.specs.Rests.{Resting, row_of, count_in, owes_none, is_over}
+use Rattle.mn_bindings.specs.Known.{all_stopped}
 use Rattle.mn_reuse_laws.specs.Answers.{count_by, is_withdraw, withdraws, releases}
 use Rattle.mn_reuse_laws.specs.Resting.{is_released, ends_offer, rested_after}
 use Rattle.mn_reuse_laws.specs.Labels.{longest_life, is_free}

@@ -2,7 +2,7 @@
 -- 3.5.11.
 use Rattle.std.specs.Prelude.{◌≡◌, ◌≢◌, ◌<◌, ◌+◌, ℕ, Bool, true, false, List, length, slice_index_or, Option, None, Some}
 use Rattle.mn_wiring.specs.Wiring.{is_end, across, links_at}
-use Rattle.mn_rest.specs.Rests.{Resting, row_of}
+use Rattle.mn_releases.specs.Rests.{Resting, row_of}
 use Rattle.mn_topo.specs.Network.{Network, wiring_of}
 use Rattle.mn_ledger.specs.World.{World}
 use Rattle.mn_settled_laws.specs.Offers.{is_operational_on}

@@ -5,7 +5,7 @@ use Rattle.mn_wiring.specs.Wiring.{links_at}
 use Rattle.mn_labels.specs.Labels.{greatest}
 use Rattle.mn_lfib.specs.declared.answer.Use.TheVariants as used_for
 use Rattle.mn_lfib.specs.Uses.{use_of}
-use Rattle.mn_rest.specs.Rests.{at_first}
+use Rattle.mn_releases.specs.Rests.{at_first}
 use Rattle.mn_node.specs.Machine.{fresh_node}
 use Rattle.mn_topo.specs.Network.{Network, wiring_of}
 use Rattle.mn_ledger.specs.Places.{home_of}

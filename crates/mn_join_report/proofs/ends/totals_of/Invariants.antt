@@ -1,6 +1,6 @@
 use Rattle.std.proofs.Common.{◌≡◌, map, take}
-use Rattle.mn_leg_laws.specs.Pairing.{Pairing, Both}
-use Rattle.mn_option_a.specs.Pairs.{PairStands}
+use Rattle.mn_join_laws.specs.Pairing.{Pairing, Both}
+use Rattle.mn_join.specs.Pairs.{PairStands}
 use Rattle.mn_join_report.specs.Report.{end_of, totals_of}
 use Rattle.mn_join_report.proofs.ends.totals_of.Given as goal
 

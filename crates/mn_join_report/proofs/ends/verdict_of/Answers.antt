@@ -2,7 +2,7 @@ use Rattle.std.proofs.Common.{ap, sym, subst, ◌∙◌}
 use Rattle.mn_net_laws.specs.Now.{StandsFor}
 use Rattle.mn_ledger.specs.Ledger.{packets_of}
 use Rattle.mn_ledger.specs.Verdicts.{verdict_on}
-use Rattle.mn_leg_laws.specs.Pairing.{side}
+use Rattle.mn_join_laws.specs.Pairing.{side}
 use Rattle.mn_join_report.proofs.Reading.{works, stands_for, packets_are}
 use Rattle.mn_join_report.proofs.ends.verdict_of.Goals as goal
 

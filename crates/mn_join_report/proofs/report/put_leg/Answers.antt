@@ -1,7 +1,7 @@
 use Rattle.std.proofs.Common.{ap, slice_index_or, ◌∙◌}
 use Rattle.mn_base.specs.declared.numbers.SiteNo.{SiteNo}
 use Rattle.mn_topo.specs.Network.{Network}
-use Rattle.mn_leg_laws.specs.Pairing.{network}
+use Rattle.mn_join_laws.specs.Pairing.{network}
 use Rattle.mn_lines.specs.Names.{name_at}
 use Rattle.mn_tables.proofs.Telling.{tells_as}
 use Rattle.mn_join_report.proofs.Rows.{leg_row}

@@ -1,7 +1,7 @@
 use Rattle.std.proofs.Common.{take}
 use Rattle.std.specs.List.{flat_map}
-use Rattle.mn_leg_laws.specs.Pairing.{Pairing, Both}
-use Rattle.mn_option_a.specs.Pairs.{PairStands}
+use Rattle.mn_join_laws.specs.Pairing.{Pairing, Both}
+use Rattle.mn_join.specs.Pairs.{PairStands}
 use Rattle.mn_tables.specs.Telling.{standing, Told}
 use Rattle.mn_join_report.specs.Reading.{AreOf}
 use Rattle.mn_join_report.specs.Report.{leg_text}

@@ -1,5 +1,5 @@
 use Rattle.std.proofs.Common.{◌≡◌, ◌<◌, ◌≤◌, ◌+◌, length, slice_index_or, ap, ◌∙◌, arith}
-use Rattle.mn_leg_laws.specs.Pairing.{travel}
+use Rattle.mn_join_laws.specs.Pairing.{travel}
 use Rattle.mn_tables.proofs.Telling.{told_nothing, told_next_number, tells_cut_number, tells_all_numbers, tells_as}
 use Rattle.mn_join_report.specs.Report.{no_line, packet_line, packet_row}
 use Rattle.mn_join_report.proofs.report.put_packets.Goals as goal

@@ -1,7 +1,7 @@
 use Rattle.std.proofs.Common.{◌≡◌, length, map, take}
 use Rattle.std.specs.List.{flat_map, range_with_len}
-use Rattle.mn_leg_laws.specs.Pairing.{Pairing}
-use Rattle.mn_option_a.specs.Pairs.{PairStands}
+use Rattle.mn_join_laws.specs.Pairing.{Pairing}
+use Rattle.mn_join.specs.Pairs.{PairStands}
 use Rattle.mn_report.specs.Shown.{sending_of}
 use Rattle.mn_tables.specs.Telling.{standing, Told}
 use Rattle.mn_join_report.specs.Course.{JoinRun}

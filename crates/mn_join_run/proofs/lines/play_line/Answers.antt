@@ -1,6 +1,6 @@
 use Rattle.std.proofs.Common.{◌≡◌, ◌++◌, ℕ, List, Some, None, Ok, Err, sym, subst}
 use Rattle.std.specs.List.{flat_map}
-use Rattle.mn_leg_laws.specs.Course.{PairCourse, played}
+use Rattle.mn_join_laws.specs.Course.{PairCourse, played}
 use Rattle.mn_join_report.specs.PairBad.TheVariants.{TooManySteps}
 use Rattle.mn_join_report.specs.Plays.{Plays}
 use Rattle.mn_join_report.specs.Course.{after_course}

@@ -4,7 +4,7 @@ use Rattle.mn_topo.specs.Network.{Network}
 use Rattle.mn_capture.specs.Packets.{packets_in}
 use Rattle.mn_answer.specs.Endings.{Answers, CausedBy}
 use Rattle.mn_answer.proofs.Ending.{memory_answers}
-use Rattle.mn_leg_laws.specs.declared.leg.Which.TheVariants.{First, Second}
+use Rattle.mn_join_laws.specs.declared.leg.Which.TheVariants.{First, Second}
 use Rattle.mn_join_report.specs.Pairs.{pairing_of}
 use Rattle.mn_join_script.specs.Language.{line_fits}
 use Rattle.mn_join_report.specs.Course.{run_of}

@@ -2,8 +2,8 @@ use Rattle.std.proofs.Common.{ℕ, ◌≡◌, ◌∙◌, ◌++◌, ◌∷◌, []
 use Rattle.std.specs.List.{flat_map}
 use Rattle.mn_wiring.specs.Wiring.{Wiring, joining}
 use Rattle.mn_node.specs.Ldp.{Message, said_on}
-use Rattle.mn_lib.specs.declared.event.Tell.{Tell}
-use Rattle.mn_lib.specs.declared.event.TellKind.TheVariants.{Map}
+use Rattle.mn_bindings.specs.declared.event.Tell.{Tell}
+use Rattle.mn_bindings.specs.declared.event.TellKind.TheVariants.{Map}
 use Rattle.mn_lsr.specs.declared.parts.Open.{Open}
 use Rattle.std.proofs.Common.{Option}
 use Rattle.mn_lsr.specs.Message.{meaning}

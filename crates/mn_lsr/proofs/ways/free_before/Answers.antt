@@ -3,7 +3,7 @@ use Rattle.std.specs.Prelude.{◌&&◌, is_some, if◌then◌else◌}
 use Rattle.std.specs.List.{flat_map, range_with_len}
 use Rattle.mn_base.proofs.Bools.{and_false}
 use Rattle.mn_labels.specs.Labels.{Labels, label_now, numbers}
-use Rattle.mn_lib.specs.Known.{Known, is_free}
+use Rattle.mn_bindings.specs.Known.{Known, is_free}
 use Rattle.mn_lsr.specs.Parts.{free_of}
 use Rattle.mn_lsr.proofs.ways.free_before.Goals as goal
 use Rattle.mn_lsr.proofs.ways.free_before.Goals.{else-may_be_free-via-then-may_be_free+else-may_begin, else-may_be_free-via-else-may_be_free}

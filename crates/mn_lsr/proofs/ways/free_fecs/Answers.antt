@@ -3,8 +3,8 @@ use Rattle.std.specs.Prelude.{◌&&◌, is_some, if◌then◌else◌}
 use Rattle.std.proofs.lemmas.List.{map-append}
 use Rattle.mn_base.specs.declared.numbers.NodeNo.{NodeNo}
 use Rattle.mn_labels.specs.Labels.{Labels, label_now, numbers}
-use Rattle.mn_lib.specs.Known.{Known, is_free}
-use Rattle.mn_lib.proofs.Ranges.{flat_range-more}
+use Rattle.mn_bindings.specs.Known.{Known, is_free}
+use Rattle.mn_bindings.proofs.Ranges.{flat_range-more}
 use Rattle.mn_lsr.specs.Parts.{free_of}
 use Rattle.mn_lsr.proofs.ways.free_fecs.Goals as goal
 use Rattle.mn_lsr.proofs.ways.free_fecs.Goals.{then-has_free_label+in_ok-push, else-has_free_label}

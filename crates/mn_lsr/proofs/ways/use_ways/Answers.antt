@@ -1,5 +1,5 @@
 use Rattle.std.proofs.Common.{ℕ, ◌≢◌, ◌+◌, ◌<◌, arith, ◌∙◌}
-use Rattle.mn_lib.specs.Bindings.{usable}
+use Rattle.mn_bindings.specs.Bindings.{usable}
 use Rattle.mn_lsr.proofs.Labels.{free_set, way_set}
 use Rattle.mn_lsr.proofs.ways.use_ways.Goals as goal
 

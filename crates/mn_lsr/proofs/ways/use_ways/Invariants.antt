@@ -1,6 +1,6 @@
 use Rattle.std.proofs.Common.{◌≡◌, ◌≢◌, ◌<◌, ℕ, Some}
 use Rattle.mn_labels.specs.Labels.{label_now}
-use Rattle.mn_lib.specs.Bindings.{usable}
+use Rattle.mn_bindings.specs.Bindings.{usable}
 use Rattle.mn_lfib.specs.Uses.{use_of, fec_use, IsNotSite}
 use Rattle.mn_lsr.proofs.ways.use_ways.Given as goal
 

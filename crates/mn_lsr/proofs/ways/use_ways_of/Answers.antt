@@ -3,11 +3,11 @@ use Rattle.std.specs.Prelude.{option_map, length}
 use Rattle.std.proofs.lemmas.List.{drop_all}
 use Rattle.mn_base.specs.declared.numbers.NodeNo.{NodeNo}
 use Rattle.mn_labels.specs.Labels.{Labels, label_now}
-use Rattle.mn_lib.specs.declared.event.LibEvent.{LibEvent}
-use Rattle.mn_lib.specs.declared.event.LibEvent.TheVariants as event
-use Rattle.mn_lib.specs.Bindings.{Bindings, nodes, usable}
-use Rattle.mn_lib.specs.News.{Apart, fecs_in}
-use Rattle.mn_lib.proofs.Staying.{below_more, fecs_more, fecs_none}
+use Rattle.mn_bindings.specs.declared.event.LibEvent.{LibEvent}
+use Rattle.mn_bindings.specs.declared.event.LibEvent.TheVariants as event
+use Rattle.mn_bindings.specs.Bindings.{Bindings, nodes, usable}
+use Rattle.mn_bindings.specs.News.{Apart, fecs_in}
+use Rattle.mn_bindings.proofs.Staying.{below_more, fecs_more, fecs_none}
 use Rattle.mn_lfib.specs.Uses.{use_of, fec_use, IsNotSite}
 use Rattle.mn_lsr.proofs.Labels.{free_set, way_set}
 use Rattle.mn_lsr.proofs.ways.use_ways_of.Goals as goal

@@ -1,7 +1,7 @@
 use Rattle.std.proofs.Common.{ℕ, ◌≡◌, ◌≢◌, drop, Some}
 use Rattle.mn_labels.specs.Labels.{label_now}
-use Rattle.mn_lib.specs.Bindings.{nodes, usable}
-use Rattle.mn_lib.specs.News.{AreBelow, Apart, fecs_in}
+use Rattle.mn_bindings.specs.Bindings.{nodes, usable}
+use Rattle.mn_bindings.specs.News.{AreBelow, Apart, fecs_in}
 use Rattle.mn_lfib.specs.Uses.{use_of, fec_use, IsNotSite}
 use Rattle.mn_lsr.proofs.ways.use_ways_of.Given as goal
 

@@ -1,7 +1,7 @@
 use Rattle.std.proofs.Common.{◌≡◌, ◌∙◌, [], ◌∷◌, refl, ap, Some, None}
 use Rattle.std.specs.Prelude.{is_some, slice_index_or}
-use Rattle.mn_lib.specs.declared.event.LibEvent.TheVariants.{Opened, Map, Withdraw, Released, Next}
-use Rattle.mn_lib.specs.Known.{Known, nothing_known, known_after}
+use Rattle.mn_bindings.specs.declared.event.LibEvent.TheVariants.{Opened, Map, Withdraw, Released, Next}
+use Rattle.mn_bindings.specs.Known.{Known, nothing_known, known_after}
 use Rattle.mn_node_tests.proofs.Few.{node, few_for, has_node}
 use Rattle.mn_node_tests.proofs.bindings.a_label_is_free_once_released_and_a_life_later.Goals as goal
 

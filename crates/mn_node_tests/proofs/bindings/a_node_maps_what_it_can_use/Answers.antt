@@ -1,6 +1,6 @@
 use Rattle.std.proofs.Common.{◌∙◌, [], ◌∷◌, refl, ap, Some}
-use Rattle.mn_lib.specs.declared.event.LibEvent.TheVariants.{Opened, Map, Next}
-use Rattle.mn_lib.specs.Known.{Known, nothing_known, known_after}
+use Rattle.mn_bindings.specs.declared.event.LibEvent.TheVariants.{Opened, Map, Next}
+use Rattle.mn_bindings.specs.Known.{Known, nothing_known, known_after}
 use Rattle.mn_node_tests.proofs.Few.{node, few_for}
 use Rattle.mn_node_tests.proofs.bindings.a_node_maps_what_it_can_use.Goals as goal
 

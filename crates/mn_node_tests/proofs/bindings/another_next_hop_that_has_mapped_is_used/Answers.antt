@@ -1,6 +1,6 @@
 use Rattle.std.proofs.Common.{◌∙◌, [], ◌∷◌, refl, ap, Some, None}
-use Rattle.mn_lib.specs.declared.event.LibEvent.TheVariants.{Opened, Map, Next}
-use Rattle.mn_lib.specs.Known.{Known, nothing_known, known_after}
+use Rattle.mn_bindings.specs.declared.event.LibEvent.TheVariants.{Opened, Map, Next}
+use Rattle.mn_bindings.specs.Known.{Known, nothing_known, known_after}
 use Rattle.mn_node_tests.proofs.Few.{node, few_for}
 use Rattle.mn_node_tests.proofs.bindings.another_next_hop_that_has_mapped_is_used.Goals as goal
 

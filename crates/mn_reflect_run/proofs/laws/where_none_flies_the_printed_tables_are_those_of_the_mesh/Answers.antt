@@ -1,7 +1,7 @@
 use Rattle.std.proofs.Common.{◌≡◌, true}
 use Rattle.mn_base.proofs.Members.{in_contained, contained_in}
 use Rattle.mn_ledger.specs.Places.{edges, edge_of}
-use Rattle.mn_reflection_laws.proofs.Holding.{edge_is_in}
+use Rattle.mn_reflect_ledger_laws.proofs.Holding.{edge_is_in}
 use Rattle.mn_reflect_telling.specs.Mentions.{numbers_of}
 use Rattle.mn_reflect_run.specs.declared.command.ReflectLine.{ReflectLine}
 use Rattle.mn_reflect_run.specs.Language.{command_fits}

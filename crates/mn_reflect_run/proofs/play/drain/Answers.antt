@@ -1,5 +1,5 @@
 use Rattle.std.proofs.Common.{◌≡◌, ◌-◌, ◌+◌, Some, sym, ◌∙◌, subst}
-use Rattle.mn_reflection_laws.specs.World.{world_of}
+use Rattle.mn_reflect_ledger_laws.specs.World.{world_of}
 use Rattle.mn_reflect_run.specs.Course.{next_hearing}
 use Rattle.mn_reflect_run.proofs.Courses.{ComesTo, begins, ends_quiet, ends_full, hears, turn_more}
 use Rattle.mn_reflect_run.proofs.Hearings.{may_all, hearing_takes, hearing_flies}

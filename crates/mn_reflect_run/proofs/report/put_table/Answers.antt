@@ -7,10 +7,10 @@ use Rattle.mn_topo.specs.declared.steps.Step.{Step}
 use Rattle.mn_ledger.specs.Places.{edge_of}
 use Rattle.mn_ledger.specs.Held.{HeldRoute}
 use Rattle.mn_bgp_spelling_laws.specs.Spelling.{Labels}
-use Rattle.mn_reflection_laws.specs.World.{world_of}
-use Rattle.mn_reflection_laws.specs.Quiet.{held}
+use Rattle.mn_reflect_ledger_laws.specs.World.{world_of}
+use Rattle.mn_reflect_ledger_laws.specs.Quiet.{held}
 use Rattle.mn_ledger.specs.Heads.{prefixes_of}
-use Rattle.mn_reflect_laws.specs.Labels.{labels_of}
+use Rattle.mn_reflect_world_laws.specs.Labels.{labels_of}
 use Rattle.mn_tables.proofs.Telling.{told_nothing, told_next, tells_cut, tells_all, tells_as, tells_want_after}
 use Rattle.mn_reflect_run.proofs.Routed.{line_at, held_there, nothing_held, line_is}
 use Rattle.mn_reflect_run.proofs.Holding.{none_held}

@@ -4,10 +4,10 @@ use Rattle.std.specs.List.{flat_map}
 use Rattle.mn_topo.specs.declared.steps.Step.{Step}
 use Rattle.mn_ledger.specs.Places.{edge_of}
 use Rattle.mn_routing_laws.specs.Sources.{as_held}
-use Rattle.mn_reflection_laws.specs.World.{world_of}
-use Rattle.mn_reflection_laws.specs.Quiet.{held}
+use Rattle.mn_reflect_ledger_laws.specs.World.{world_of}
+use Rattle.mn_reflect_ledger_laws.specs.Quiet.{held}
 use Rattle.mn_ledger.specs.Heads.{prefixes_of, held_at}
-use Rattle.mn_reflect_laws.specs.Labels.{labels_of}
+use Rattle.mn_reflect_world_laws.specs.Labels.{labels_of}
 use Rattle.mn_reflect.specs.Course.{IsRun}
 use Rattle.mn_tables.specs.Telling.{standing, Told}
 use Rattle.mn_reflect_run.proofs.Routed.{line_at}

@@ -1,7 +1,7 @@
 use Rattle.std.proofs.Common.{◌∙◌, ap, length}
 use Rattle.std.specs.Fmt.{decimal}
 use Rattle.mn_tables.proofs.Telling.{tells_as}
-use Rattle.mn_reflection_laws.specs.World.{world_of}
+use Rattle.mn_reflect_ledger_laws.specs.World.{world_of}
 use Rattle.mn_reflect_run.proofs.Rows.{total_row}
 use Rattle.mn_reflect_run.proofs.report.put_total.Goals as goal
 

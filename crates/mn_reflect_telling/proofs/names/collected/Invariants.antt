@@ -1,6 +1,6 @@
 use Rattle.std.proofs.Common.{◌≡◌, [], drop}
 use Rattle.std.specs.List.{flat_map}
-use Rattle.mn_reflect_laws.specs.Choice.{names_in}
+use Rattle.mn_reflect_world_laws.specs.Choice.{names_in}
 use Rattle.mn_reflect_telling.specs.Names.{with_names}
 use Rattle.mn_reflect_telling.proofs.names.collected.Given as goal
 

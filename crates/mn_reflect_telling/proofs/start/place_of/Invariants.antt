@@ -1,5 +1,5 @@
 use Rattle.std.proofs.Common.{◌≡◌}
-use Rattle.mn_reflection_laws.specs.Picks.{placed_by}
+use Rattle.mn_reflect_ledger_laws.specs.Picks.{placed_by}
 use Rattle.mn_reflect_telling.specs.Mentions.{numbers_of}
 use Rattle.mn_reflect_telling.proofs.Addresses.{placed_from}
 use Rattle.mn_reflect_telling.proofs.start.place_of.Given as goal

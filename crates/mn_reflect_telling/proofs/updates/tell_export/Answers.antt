@@ -1,7 +1,7 @@
 use Rattle.std.proofs.Common.{◌≡◌, [], ◌∷◌, length, arith, sym, ap, ◌∙◌}
 use Rattle.std.specs.Prelude.{slice_index_or}
 use Rattle.mn_base.specs.declared.numbers.NodeNo.{NodeNo}
-use Rattle.mn_reflect_laws.specs.Letters.{export_letter}
+use Rattle.mn_reflect_world_laws.specs.Letters.{export_letter}
 use Rattle.mn_reflect_telling.specs.Telling.{posted, letter_of}
 use Rattle.mn_reflect_telling.proofs.Posting.{sent_at, sent_all}
 use Rattle.mn_reflect_telling.proofs.updates.tell_export.Goals as goal

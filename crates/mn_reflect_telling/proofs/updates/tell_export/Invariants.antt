@@ -1,6 +1,6 @@
 use Rattle.std.proofs.Common.{◌≡◌, drop, length, map}
 use Rattle.mn_base.specs.declared.numbers.NodeNo.{NodeNo}
-use Rattle.mn_reflect_laws.specs.Letters.{export_letter}
+use Rattle.mn_reflect_world_laws.specs.Letters.{export_letter}
 use Rattle.mn_reflect_telling.specs.Telling.{posted}
 use Rattle.mn_reflect_telling.proofs.updates.tell_export.Given as goal
 

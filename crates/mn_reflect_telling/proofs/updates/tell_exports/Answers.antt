@@ -1,7 +1,7 @@
 use Rattle.std.proofs.Common.{◌≡◌, length, map, arith, sym, ◌∙◌}
 use Rattle.mn_base.specs.declared.numbers.NodeNo.{NodeNo}
 use Rattle.mn_pe.specs.Held.{Exported}
-use Rattle.mn_reflect_laws.specs.Letters.{export_letter}
+use Rattle.mn_reflect_world_laws.specs.Letters.{export_letter}
 use Rattle.mn_reflect_telling.proofs.Posting.{told_next, told_all}
 use Rattle.mn_reflect_telling.proofs.updates.tell_exports.Goals as goal
 

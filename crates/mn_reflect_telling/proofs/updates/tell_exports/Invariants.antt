@@ -1,5 +1,5 @@
 use Rattle.std.proofs.Common.{◌≡◌, drop, length}
-use Rattle.mn_reflect_laws.specs.Letters.{edge_news}
+use Rattle.mn_reflect_world_laws.specs.Letters.{edge_news}
 use Rattle.mn_reflect_telling.specs.Telling.{posted}
 use Rattle.mn_reflect_telling.proofs.updates.tell_exports.Given as goal
 

@@ -6,7 +6,7 @@ use Rattle.mn_node.specs.Machine.{fresh_node}
 use Rattle.mn_topo.specs.Network.{wiring_of}
 use Rattle.mn_topo.specs.declared.nodes.Node.{Node}
 use Rattle.mn_labels.specs.Labels.{none_given}
-use Rattle.mn_rest.specs.Rests.{at_first}
+use Rattle.mn_releases.specs.Rests.{at_first}
 use Rattle.mn_reuse_laws.specs.Labels.{longest_life}
 use Rattle.mn_linkdb.specs.Learned.{Learned}
 use Rattle.mn_linkdb.specs.Network.{IsNetwork}

@@ -1,5 +1,5 @@
 use Rattle.std.proofs.Common.{◌∙◌, ap}
-use Rattle.mn_leg_laws.specs.declared.leg.Which.TheVariants.{First, Second}
+use Rattle.mn_join_laws.specs.declared.leg.Which.TheVariants.{First, Second}
 use Rattle.mn_join_report.specs.Report.{sites_of}
 use Rattle.mn_join_report.proofs.Reading.{entries_are}
 use Rattle.mn_join_report.proofs.sites.Sites.of.Goals as goal

@@ -2,7 +2,7 @@ use Rattle.std.proofs.Common.{◌≡◌, List, [], sym, ap, subst, length}
 use Rattle.std.specs.Prelude.{IfOk, false}
 use Rattle.mn_node.specs.Machine.{fresh_node}
 use Rattle.mn_labels.specs.Labels.{none_given}
-use Rattle.mn_rest.specs.Rests.{at_first}
+use Rattle.mn_releases.specs.Rests.{at_first}
 use Rattle.mn_wiring.specs.declared.links.LinkEnds.{LinkEnds}
 use Rattle.mn_linkdb.specs.Learned.{Learned}
 use Rattle.mn_lsr.specs.Standing.{Standing, IsWired}

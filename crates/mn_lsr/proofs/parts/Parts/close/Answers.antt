@@ -1,6 +1,6 @@
 use Rattle.std.proofs.Common.{map, length, ◌+◌, ◌^◌, sym, ap, subst, append-nil, arith, None}
 use Rattle.mn_lsr.specs.declared.parts.Parts.{Parts}
-use Rattle.mn_lib.specs.Known.{AreFew}
+use Rattle.mn_bindings.specs.Known.{AreFew}
 use Rattle.std.specs.Option.{option_to_list}
 use Rattle.mn_node.specs.Machine.{Closes}
 use Rattle.mn_lsr.specs.declared.said.Said.{Said}

@@ -1,15 +1,15 @@
 use Rattle.std.proofs.Common.{Result, Ok, Err, OnOk, ◌≢◌, ℕ, ◌≡◌, ◌+◌, ◌<◌, ◌^◌, List, [], ◌∷◌, length, map, arith, rules, refl, sym, ◌∙◌, ap, subst}
-use Rattle.mn_lib.specs.declared.event.LibEvent.{LibEvent}
+use Rattle.mn_bindings.specs.declared.event.LibEvent.{LibEvent}
 use Rattle.std.specs.List.{All, flat_map, range_with_len}
 use Rattle.std.proofs.lemmas.Result.{IfOk-weaker}
 use Rattle.mn_base.specs.declared.numbers.NodeNo.{NodeNo}
 use Rattle.mn_labels.specs.Labels.{Labels, numbers, is_one_of, offered}
-use Rattle.mn_lib.specs.Bindings.{nodes, after_events}
-use Rattle.mn_lib.specs.News.{AreBelow, fecs_in, begun}
-use Rattle.mn_lib.specs.Tells.{tells}
-use Rattle.mn_lib.specs.Known.{Known}
-use Rattle.mn_lib.proofs.Events.{nodes-after_events}
-use Rattle.mn_lib.proofs.Staying.{below}
+use Rattle.mn_bindings.specs.Bindings.{nodes, after_events}
+use Rattle.mn_bindings.specs.News.{AreBelow, fecs_in, begun}
+use Rattle.mn_bindings.specs.Tells.{tells}
+use Rattle.mn_bindings.specs.Known.{Known}
+use Rattle.mn_bindings.proofs.Events.{nodes-after_events}
+use Rattle.mn_bindings.proofs.Staying.{below}
 use Rattle.mn_lsr.specs.declared.parts.Parts.{Parts}
 use Rattle.mn_lsr.specs.Telling.{MayTell}
 use Rattle.mn_lsr.specs.Parts.{free_of}

@@ -1,8 +1,8 @@
 use Rattle.std.proofs.Common.{◌++◌, [], ◌∷◌, map, length, sym, ◌∙◌, ap, append-nil, List}
 use Rattle.std.specs.List.{flat_map}
-use Rattle.mn_lib.specs.declared.event.Tell.{Tell}
-use Rattle.mn_lib.specs.Bindings.{after_events, usable}
-use Rattle.mn_lib.specs.Known.{is_free}
+use Rattle.mn_bindings.specs.declared.event.Tell.{Tell}
+use Rattle.mn_bindings.specs.Bindings.{after_events, usable}
+use Rattle.mn_bindings.specs.Known.{is_free}
 use Rattle.mn_labels.specs.Labels.{own_labels, offered, meaning_of}
 use Rattle.mn_lfib.specs.Uses.{use_of}
 use Rattle.mn_lsr.specs.Said.{pdu_of}

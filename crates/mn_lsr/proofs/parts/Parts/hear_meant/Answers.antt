@@ -1,12 +1,12 @@
 use Rattle.std.proofs.Common.{List, map, length, ◌++◌, ◌+◌, ◌^◌, ◌∙◌, subst, ap, sym, refl, Option, Some, slice_index_or}
 use Rattle.mn_lsr.proofs.Numbers.{set-fits, as-much, said-fits, few-owed, few-still, said-more}
 use Rattle.mn_labels.specs.Labels.{Labels, own_labels}
-use Rattle.mn_lib.specs.Known.{AreFew}
+use Rattle.mn_bindings.specs.Known.{AreFew}
 use Rattle.mn_lsr.specs.declared.parts.Parts.{Parts}
 use Rattle.std.specs.Option.{option_to_list}
 use Rattle.std.specs.List.{flat_map}
 use Rattle.mn_node.specs.Ldp.{said_on}
-use Rattle.mn_lib.specs.Tells.{tells, releases}
+use Rattle.mn_bindings.specs.Tells.{tells, releases}
 use Rattle.mn_lsr.specs.Telling.{said_by_tell, MayTell}
 use Rattle.std.specs.Prelude.{None}
 use Rattle.mn_node.specs.Machine.{Event, Hears, changed, said as said_as}

@@ -3,8 +3,8 @@ use Rattle.std.specs.List.{flat_map}
 use Rattle.std.proofs.Math.ListN.{length-set}
 use Rattle.mn_linkdb.specs.Learned.{Learned, links_up, after_learn}
 use Rattle.mn_linkdb.specs.PathTable.{PathTable}
-use Rattle.mn_lib.specs.declared.event.LibEvent.{LibEvent}
-use Rattle.mn_lib.specs.Tells.{tells}
+use Rattle.mn_bindings.specs.declared.event.LibEvent.{LibEvent}
+use Rattle.mn_bindings.specs.Tells.{tells}
 use Rattle.mn_node.specs.Machine.{Learns}
 use Rattle.mn_lsr.specs.declared.parts.Parts.{Parts}
 use Rattle.mn_lsr.specs.declared.said.Said.{Said}

@@ -1,17 +1,17 @@
 use Rattle.std.proofs.Common.{ℕ, ◌++◌, map, length, sym, ◌∙◌, ap, subst, append-nil, List}
 use Rattle.std.specs.List.{flat_map}
 use Rattle.std.specs.Option.{option_to_list}
-use Rattle.mn_lib.specs.declared.event.LibEvent.{LibEvent}
+use Rattle.mn_bindings.specs.declared.event.LibEvent.{LibEvent}
 use Rattle.std.proofs.Common.{Option}
-use Rattle.mn_lib.specs.declared.event.Tell.{Tell}
-use Rattle.mn_lib.specs.Tells.{tells}
+use Rattle.mn_bindings.specs.declared.event.Tell.{Tell}
+use Rattle.mn_bindings.specs.Tells.{tells}
 use Rattle.mn_lsr.specs.Said.{pdu_of}
 use Rattle.mn_lsr.specs.Telling.{said_by_tell}
 use Rattle.mn_lsr.specs.Parts.{wiring_in, pdus_by, ends_after}
 use Rattle.mn_labels.specs.Labels.{own_labels, offered, meaning_of}
-use Rattle.mn_lib.specs.Bindings.{after_events, usable}
-use Rattle.mn_lib.specs.News.{begun}
-use Rattle.mn_lib.specs.Known.{is_free, known_after}
+use Rattle.mn_bindings.specs.Bindings.{after_events, usable}
+use Rattle.mn_bindings.specs.News.{begun}
+use Rattle.mn_bindings.specs.Known.{is_free, known_after}
 use Rattle.mn_lfib.specs.Uses.{use_of}
 use Rattle.mn_lsr.specs.Standing.{IsUseOf}
 use Rattle.mn_lsr.specs.Parts.{HaveLabels}

@@ -3,8 +3,8 @@ use Rattle.std.specs.Prelude.{slice_index_or, slice_set}
 use Rattle.mn_pe.specs.Edge.{after_attach}
 use Rattle.mn_pe.specs.Exports.{exports_over}
 use Rattle.mn_routing_laws.specs.Doing.{AreSayable}
-use Rattle.mn_reflect_laws.specs.Now.{ReflectNow}
-use Rattle.mn_reflect_laws.specs.Goes.{edge_of_node}
+use Rattle.mn_reflect_world_laws.specs.Now.{ReflectNow}
+use Rattle.mn_reflect_world_laws.specs.Goes.{edge_of_node}
 use Rattle.mn_reflect.specs.Doing.{IsEdgeAt, changed_edge}
 use Rattle.mn_reflect_telling.proofs.Results.{on_ok}
 use Rattle.mn_reflect.proofs.Edging.{count_is, counted_on, home_so, told_so}

@@ -1,9 +1,9 @@
 use Rattle.std.proofs.Common.{[], ◌≡◌, ◌<◌, List, ◌∷◌, length, ap, sym, subst, ◌∙◌, rules}
 use Rattle.std.specs.List.{AllByRecursion}
 use Rattle.mn_offers.specs.Heard.{Heard}
-use Rattle.mn_reflect_laws.specs.Now.{ReflectNow}
-use Rattle.mn_reflect_laws.specs.Choice.{row_at, names_in}
-use Rattle.mn_reflect_laws.specs.Goes.{decide_all}
+use Rattle.mn_reflect_world_laws.specs.Now.{ReflectNow}
+use Rattle.mn_reflect_world_laws.specs.Choice.{row_at, names_in}
+use Rattle.mn_reflect_world_laws.specs.Goes.{decide_all}
 use Rattle.mn_reflect_telling.specs.Mentions.{key_of_heard}
 use Rattle.mn_reflect_telling.specs.Passing.{IsPassable}
 use Rattle.mn_reflect.specs.Doing.{changed_edge, decided_on}

@@ -1,7 +1,7 @@
 use Rattle.std.proofs.Common.{◌≡◌}
 use Rattle.std.specs.List.{AllByRecursion}
-use Rattle.mn_reflect_laws.specs.Choice.{row_at, names_in}
-use Rattle.mn_reflect_laws.specs.Goes.{decide_all}
+use Rattle.mn_reflect_world_laws.specs.Choice.{row_at, names_in}
+use Rattle.mn_reflect_world_laws.specs.Goes.{decide_all}
 use Rattle.mn_reflect.specs.Doing.{MayTurn, changed_edge}
 use Rattle.mn_reflect_telling.specs.Passing.{IsPassable}
 use Rattle.mn_reflect.proofs.reflect.Reflect.decide_gone.Given as goal

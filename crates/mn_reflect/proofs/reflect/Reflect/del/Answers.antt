@@ -5,8 +5,8 @@ use Rattle.mn_pe.specs.Pe.{found_in}
 use Rattle.mn_pe.specs.Exports.{export_of}
 use Rattle.mn_routing_laws.specs.Doing.{those_of}
 use Rattle.mn_reflect.specs.Changing.{without_route}
-use Rattle.mn_reflect_laws.specs.Now.{ReflectNow}
-use Rattle.mn_reflect_laws.specs.Goes.{edge_of_node}
+use Rattle.mn_reflect_world_laws.specs.Now.{ReflectNow}
+use Rattle.mn_reflect_world_laws.specs.Goes.{edge_of_node}
 use Rattle.mn_reflect.specs.Doing.{IsEdgeAt, changed_edge}
 use Rattle.mn_reflect_telling.proofs.Results.{on_ok}
 use Rattle.mn_reflect.proofs.Edging.{home_so, told_so}

@@ -1,7 +1,7 @@
 use Rattle.std.proofs.Common.{◌∙◌, ap, subst, sym, false}
 use Rattle.mn_pe.specs.Edge.{after_detach}
 use Rattle.mn_pe.specs.Exports.{exports_over}
-use Rattle.mn_reflect_laws.specs.Goes.{edge_of_node}
+use Rattle.mn_reflect_world_laws.specs.Goes.{edge_of_node}
 use Rattle.mn_reflect.specs.Doing.{IsEdgeAt, changed_edge}
 use Rattle.mn_reflect_telling.proofs.Results.{on_ok}
 use Rattle.mn_reflect.proofs.Edging.{home_so, told_so}

@@ -2,9 +2,9 @@ use Rattle.std.proofs.Common.{[], ◌<◌, length, ap, subst, sym, ◌∙◌}
 use Rattle.std.specs.Prelude.{slice_index_or}
 use Rattle.std.specs.List.{AllByRecursion}
 use Rattle.mn_reflect_telling.proofs.Results.{on_ok}
-use Rattle.mn_reflection_laws.specs.Picks.{is_reflector}
-use Rattle.mn_reflect_laws.specs.Now.{ReflectNow}
-use Rattle.mn_reflect_laws.specs.Choice.{row_at}
+use Rattle.mn_reflect_ledger_laws.specs.Picks.{is_reflector}
+use Rattle.mn_reflect_world_laws.specs.Now.{ReflectNow}
+use Rattle.mn_reflect_world_laws.specs.Choice.{row_at}
 use Rattle.mn_reflect_telling.specs.Passing.{IsPassable}
 use Rattle.mn_reflect.specs.Doing.{MayTurn}
 use Rattle.mn_reflect_telling.proofs.Kept.{row_passes}

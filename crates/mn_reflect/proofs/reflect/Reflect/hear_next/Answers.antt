@@ -1,7 +1,7 @@
 use Rattle.std.proofs.Common.{◌<◌, subst, sym, length}
 use Rattle.mn_topo.specs.Network.{Network}
 use Rattle.mn_topo.specs.Lawful.{IsLawful}
-use Rattle.mn_reflect_laws.specs.Now.{ReflectNow}
+use Rattle.mn_reflect_world_laws.specs.Now.{ReflectNow}
 use Rattle.mn_reflect_telling.specs.Said.{IsHeard}
 use Rattle.mn_reflect.specs.Doing.{MayTurn, IsFirst}
 use Rattle.mn_reflect_telling.proofs.Results.{on_ok}

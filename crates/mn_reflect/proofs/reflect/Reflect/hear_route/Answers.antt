@@ -1,6 +1,6 @@
 use Rattle.std.proofs.Common.{◌<◌, length, ap, subst, sym, ◌∙◌}
-use Rattle.mn_reflection_laws.specs.Picks.{is_reflector}
-use Rattle.mn_reflect_laws.specs.Now.{ReflectNow}
+use Rattle.mn_reflect_ledger_laws.specs.Picks.{is_reflector}
+use Rattle.mn_reflect_world_laws.specs.Now.{ReflectNow}
 use Rattle.mn_reflect_telling.specs.Names.{named}
 use Rattle.mn_reflect_telling.specs.Passing.{IfPassable}
 use Rattle.mn_reflect_telling.proofs.Results.{on_ok}

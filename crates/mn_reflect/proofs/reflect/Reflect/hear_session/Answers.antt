@@ -1,7 +1,7 @@
 use Rattle.std.proofs.Common.{◌∙◌, ap, refl, sym, Some, None}
 use Rattle.std.proofs.lemmas.Option.{same_Some}
 use Rattle.mn_bgp_session.specs.Table.{after_message}
-use Rattle.mn_reflect_laws.specs.Goes.{end_in}
+use Rattle.mn_reflect_world_laws.specs.Goes.{end_in}
 use Rattle.mn_reflect.specs.Doing.{with_end, state_of_word, next_of}
 use Rattle.mn_reflect.proofs.Hearing.{it_becomes, one_word}
 use Rattle.mn_reflect.proofs.Views.{with_sessions, end_cell, ends_whole}

@@ -1,7 +1,7 @@
 use Rattle.std.proofs.Common.{[], ◌≡◌, None, length, replicate, refl, ◌∙◌, ap}
 use Rattle.std.proofs.lemmas.List.{length-map}
 use Rattle.mn_mail.specs.Mail.{Mail}
-use Rattle.mn_reflect_laws.proofs.Starting.{starts}
+use Rattle.mn_reflect_world_laws.proofs.Starting.{starts}
 use Rattle.mn_reflect_telling.specs.Mentions.{numbers_of}
 use Rattle.mn_reflect.proofs.Beginning.{are_nodes, starts_shaped}
 use Rattle.mn_reflect.proofs.reflect.Reflect.new.Goals as goal

@@ -1,7 +1,7 @@
 use Rattle.std.proofs.Common.{◌∙◌, ap, length}
-use Rattle.mn_reflection_laws.specs.World.{world_of}
-use Rattle.mn_reflect_laws.specs.Labels.{labels_of}
-use Rattle.mn_reflect_laws.specs.Now.{ReflectNow}
+use Rattle.mn_reflect_ledger_laws.specs.World.{world_of}
+use Rattle.mn_reflect_world_laws.specs.Labels.{labels_of}
+use Rattle.mn_reflect_world_laws.specs.Now.{ReflectNow}
 use Rattle.mn_reflect.proofs.Reading.{as_many}
 use Rattle.mn_reflect.proofs.reflect.Reflect.pending.Goals as goal
 

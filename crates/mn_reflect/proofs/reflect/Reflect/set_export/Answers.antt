@@ -3,7 +3,7 @@ use Rattle.mn_vrf.specs.Vrf.{VrfState, set_refused}
 use Rattle.mn_pe.specs.Pe.{found_in}
 use Rattle.mn_pe.specs.Exports.{exports_at}
 use Rattle.mn_routing_laws.specs.Doing.{AreSayable, AreNews}
-use Rattle.mn_reflect_laws.specs.Goes.{edge_of_node}
+use Rattle.mn_reflect_world_laws.specs.Goes.{edge_of_node}
 use Rattle.mn_reflect.specs.Changing.{exports_changed}
 use Rattle.mn_reflect.specs.Doing.{IsEdgeAt, changed_edge}
 use Rattle.mn_reflect_telling.proofs.Results.{on_ok}

@@ -1,8 +1,8 @@
 use Rattle.std.proofs.Common.{◌≡◌, ◌∙◌, false, ap, refl, sym, Err}
 use Rattle.mn_base.proofs.Bools.{no}
-use Rattle.mn_reflection_laws.specs.World.{world_of}
-use Rattle.mn_reflection_laws.specs.Refusal.{refusal}
-use Rattle.mn_reflect_laws.specs.Now.{ReflectNow}
+use Rattle.mn_reflect_ledger_laws.specs.World.{world_of}
+use Rattle.mn_reflect_ledger_laws.specs.Refusal.{refusal}
+use Rattle.mn_reflect_world_laws.specs.Now.{ReflectNow}
 use Rattle.mn_reflect.specs.declared.refusal.ReflectBad.{ReflectBad}
 use Rattle.mn_reflect.specs.declared.refusal.ReflectBad.TheVariants as bad
 use Rattle.mn_reflect.specs.Causes.{refusal_seen}

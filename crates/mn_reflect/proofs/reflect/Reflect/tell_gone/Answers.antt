@@ -1,7 +1,7 @@
 use Rattle.std.proofs.Common.{[], ◌∙◌, ap, refl, subst, sym}
 use Rattle.std.specs.Prelude.{slice_index_or}
 use Rattle.std.specs.List.{AllByRecursion}
-use Rattle.mn_reflect_laws.specs.Now.{ReflectNow}
+use Rattle.mn_reflect_world_laws.specs.Now.{ReflectNow}
 use Rattle.mn_reflect_telling.specs.Mentions.{AreNodes, numbers_of}
 use Rattle.mn_reflect_telling.specs.Passing.{IsPassable}
 use Rattle.mn_reflect_telling.proofs.Results.{on_ok}

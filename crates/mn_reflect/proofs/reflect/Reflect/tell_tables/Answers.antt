@@ -1,6 +1,6 @@
 use Rattle.std.proofs.Common.{◌∙◌, ap, map, refl, length}
-use Rattle.mn_reflect_laws.specs.Now.{ReflectNow}
-use Rattle.mn_reflect_laws.specs.Choice.{all_names}
+use Rattle.mn_reflect_world_laws.specs.Now.{ReflectNow}
+use Rattle.mn_reflect_world_laws.specs.Choice.{all_names}
 use Rattle.mn_reflect_telling.specs.Mentions.{numbers_of, AreKept}
 use Rattle.mn_reflect_telling.specs.Names.{key_in}
 use Rattle.mn_reflect_telling.proofs.Results.{on_ok}

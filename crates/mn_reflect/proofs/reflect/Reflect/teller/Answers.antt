@@ -1,5 +1,5 @@
 use Rattle.std.proofs.Common.{◌∙◌, ap}
-use Rattle.mn_reflect_laws.specs.Now.{ReflectNow}
+use Rattle.mn_reflect_world_laws.specs.Now.{ReflectNow}
 use Rattle.mn_reflect_telling.specs.Mentions.{numbers_of}
 use Rattle.mn_reflect.proofs.reflect.Reflect.teller.Goals as goal
 

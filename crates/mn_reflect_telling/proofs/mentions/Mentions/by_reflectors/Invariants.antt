@@ -1,5 +1,5 @@
 use Rattle.std.proofs.Common.{◌≡◌, drop}
-use Rattle.mn_reflect_laws.specs.Choice.{Row, reflected_to}
+use Rattle.mn_reflect_world_laws.specs.Choice.{Row, reflected_to}
 use Rattle.mn_reflect_telling.specs.Mentions.{numbers_of, ShowsIn}
 use Rattle.mn_reflect_telling.specs.Names.{named}
 use Rattle.mn_reflect_telling.proofs.mentions.Mentions.by_reflectors.Given as goal

@@ -2,7 +2,7 @@ use Rattle.std.proofs.Common.{◌∙◌, ap, map, refl}
 use Rattle.std.specs.Map.{values_of}
 use Rattle.mn_base.specs.Ordered.{with_one}
 use Rattle.mn_by_key_laws.proofs.ByKey.{with_put, kept_put}
-use Rattle.mn_reflection_laws.specs.Words.{key_before}
+use Rattle.mn_reflect_ledger_laws.specs.Words.{key_before}
 use Rattle.mn_reflect_telling.specs.Names.{key_in}
 use Rattle.mn_reflect_telling.proofs.ByName.{names_go, keys_with}
 use Rattle.mn_reflect_telling.proofs.names.Names.add.Goals as goal

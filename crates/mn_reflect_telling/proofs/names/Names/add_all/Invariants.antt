@@ -1,5 +1,5 @@
 use Rattle.std.proofs.Common.{◌≡◌}
-use Rattle.mn_reflect_laws.specs.Choice.{names_in}
+use Rattle.mn_reflect_world_laws.specs.Choice.{names_in}
 use Rattle.mn_reflect_telling.specs.Names.{with_names}
 use Rattle.mn_reflect_telling.proofs.names.Names.add_all.Given as goal
 

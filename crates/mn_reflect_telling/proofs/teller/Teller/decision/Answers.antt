@@ -2,9 +2,9 @@ use Rattle.std.proofs.Common.{◌≡◌, ap, sym, subst, ◌∙◌}
 use Rattle.mn_bgp_wire.specs.Says.{Says}
 use Rattle.mn_bgp_wire.specs.Grammar.{IsBgp}
 use Rattle.mn_bgp_wire.specs.declared.message.BgpMessage.TheVariants as messages
-use Rattle.mn_reflection_laws.specs.Words.{Key}
-use Rattle.mn_reflect_laws.specs.Choice.{reflected_to}
-use Rattle.mn_reflect_laws.specs.Goes.{decision_says}
+use Rattle.mn_reflect_ledger_laws.specs.Words.{Key}
+use Rattle.mn_reflect_world_laws.specs.Choice.{reflected_to}
+use Rattle.mn_reflect_world_laws.specs.Goes.{decision_says}
 use Rattle.mn_reflect_telling.specs.Mentions.{numbers_of, row_in}
 use Rattle.mn_reflect_telling.specs.Names.{named}
 use Rattle.mn_reflect_telling.proofs.Decisions.{says_route, says_no_route}

@@ -1,5 +1,5 @@
 use Rattle.std.proofs.Common.{ap, sym, ◌∙◌}
-use Rattle.mn_reflect_laws.specs.Choice.{kept_of}
+use Rattle.mn_reflect_world_laws.specs.Choice.{kept_of}
 use Rattle.mn_reflect_telling.specs.Mentions.{numbers_of}
 use Rattle.mn_reflect_telling.specs.Names.{named}
 use Rattle.mn_reflect_telling.proofs.Offering.{to_reflector, to_home, to_edge}

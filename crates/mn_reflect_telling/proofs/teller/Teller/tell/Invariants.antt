@@ -1,8 +1,8 @@
 use Rattle.std.proofs.Common.{◌≡◌, drop, length}
 use Rattle.std.specs.List.{flat_map}
 use Rattle.mn_base.specs.declared.numbers.NodeNo.{NodeNo}
-use Rattle.mn_reflect_laws.specs.Choice.{Row, offered_of}
-use Rattle.mn_reflect_laws.specs.Letters.{change_letters}
+use Rattle.mn_reflect_world_laws.specs.Choice.{Row, offered_of}
+use Rattle.mn_reflect_world_laws.specs.Letters.{change_letters}
 use Rattle.mn_reflect_telling.specs.Mentions.{numbers_of, ShowsIn}
 use Rattle.mn_reflect_telling.specs.Names.{named}
 use Rattle.mn_reflect_telling.specs.Telling.{posted}

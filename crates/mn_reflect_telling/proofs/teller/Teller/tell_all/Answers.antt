@@ -1,5 +1,5 @@
 use Rattle.std.proofs.Common.{◌≡◌, length, arith, sym, ap, ◌∙◌}
-use Rattle.mn_reflection_laws.specs.Words.{Key}
+use Rattle.mn_reflect_ledger_laws.specs.Words.{Key}
 use Rattle.mn_reflect_telling.specs.declared.name.Name.{Name}
 use Rattle.mn_reflect_telling.specs.Mentions.{row_in}
 use Rattle.mn_reflect_telling.specs.Names.{named, key_in}

@@ -1,7 +1,7 @@
 use Rattle.std.proofs.Common.{◌≡◌, None, drop, length}
 use Rattle.std.specs.List.{flat_map}
-use Rattle.mn_reflect_laws.specs.Choice.{offered_of}
-use Rattle.mn_reflect_laws.specs.Letters.{change_letters}
+use Rattle.mn_reflect_world_laws.specs.Choice.{offered_of}
+use Rattle.mn_reflect_world_laws.specs.Letters.{change_letters}
 use Rattle.mn_reflect_telling.specs.declared.name.Name.{Name}
 use Rattle.mn_reflect_telling.specs.Mentions.{numbers_of, row_in}
 use Rattle.mn_reflect_telling.specs.Names.{key_in}

@@ -1,7 +1,7 @@
 use Rattle.std.proofs.Common.{◌≡◌, ◌<◌, [], ◌∷◌, length, ap, sym, subst, ◌∙◌, rules}
 use Rattle.std.specs.List.{AllByRecursion}
 use Rattle.mn_offers.specs.Heard.{Heard}
-use Rattle.mn_reflection_laws.specs.Words.{Key}
+use Rattle.mn_reflect_ledger_laws.specs.Words.{Key}
 use Rattle.mn_reflect_telling.specs.Mentions.{numbers_of, row_in, row_with, key_of_heard}
 use Rattle.mn_reflect_telling.specs.Names.{named}
 use Rattle.mn_reflect_telling.specs.Passing.{IsPassable}

@@ -1,7 +1,7 @@
 use Rattle.std.proofs.Common.{◌≡◌, length}
 use Rattle.std.specs.List.{AllByRecursion}
-use Rattle.mn_reflect_laws.specs.Choice.{names_in}
-use Rattle.mn_reflect_laws.specs.Letters.{reflector_news}
+use Rattle.mn_reflect_world_laws.specs.Choice.{names_in}
+use Rattle.mn_reflect_world_laws.specs.Letters.{reflector_news}
 use Rattle.mn_reflect_telling.specs.Mentions.{numbers_of, row_in, row_with}
 use Rattle.mn_reflect_telling.specs.Passing.{IsPassable}
 use Rattle.mn_reflect_telling.specs.Telling.{posted}

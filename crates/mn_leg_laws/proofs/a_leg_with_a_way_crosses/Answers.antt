@@ -1,5 +1,0 @@
-use Rattle.mn_leg_laws.proofs.Passing.{it_crosses}
-use Rattle.mn_leg_laws.proofs.a_leg_with_a_way_crosses.Goals as goal
-
-pub returns : goal.returns
-returns c = it_crosses

@@ -1,5 +1,0 @@
-use Rattle.mn_leg_laws.proofs.Arriving.{all_have_legs}
-use Rattle.mn_leg_laws.proofs.each_packet_has_its_legs.Goals as goal
-
-pub returns : goal.returns
-returns c = all_have_legs

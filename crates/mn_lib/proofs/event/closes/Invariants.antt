@@ -1,6 +1,0 @@
-use Rattle.std.proofs.Common.{◌≡◌, drop}
-use Rattle.mn_lib.specs.Tells.{closes}
-use Rattle.mn_lib.proofs.event.closes.Given as goal
-
-abbrev pub invariant-loop-event : goal.invariant-loop-event
-invariant-loop-event l = closes (drop l.event-index l.events) l.from.0 ≡ closes l.events l.from.0

@@ -1,5 +1,0 @@
-use Rattle.mn_lib.proofs.History.{last}
-use Rattle.mn_lib.proofs.laws.what_is_kept_was_said_last.Goals as goal
-
-pub returns : goal.returns
-returns c = last

@@ -1,7 +1,0 @@
-use Rattle.std.proofs.Common.{refl}
-use Rattle.mn_course_laws.specs.Course.{all}
-use Rattle.mn_option_a.proofs.line.all_items.Goals as goal
-
-pub returns : goal.returns
-unfolding all
-returns c = refl

@@ -1,5 +1,0 @@
-use Rattle.mn_reflect_laws.proofs.Letters.{are_words}
-use Rattle.mn_reflect_laws.proofs.laws.letters_are_what_is_said.Goals as goal
-
-pub returns : goal.returns
-returns c = are_words

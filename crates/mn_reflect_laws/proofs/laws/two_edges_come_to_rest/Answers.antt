@@ -1,5 +1,0 @@
-use Rattle.mn_reflect_laws.proofs.AtRest.{come_to_rest}
-use Rattle.mn_reflect_laws.proofs.laws.two_edges_come_to_rest.Goals as goal
-
-pub returns : goal.returns
-returns c = come_to_rest

@@ -1,5 +1,0 @@
-use Rattle.mn_reflect_laws.proofs.Onward.{goes_on}
-use Rattle.mn_reflect_laws.proofs.laws.what_a_step_makes_stands_for_the_steps.Goals as goal
-
-pub returns : goal.returns
-returns c = goes_on

@@ -1,5 +1,0 @@
-use Rattle.mn_reflection_laws.proofs.Through.{comes_through}
-use Rattle.mn_reflection_laws.proofs.a_route_comes_through_one_reflector_or_two.Goals as goal
-
-pub returns : goal.returns
-returns c = λ topology reflectors steps are node peer offer said. comes_through topology reflectors are steps node peer offer said

@@ -1,5 +1,0 @@
-use Rattle.mn_reflection_laws.proofs.Runs.{every_run}
-use Rattle.mn_reflection_laws.proofs.each_end_says_what_it_offers.Goals as goal
-
-pub returns : goal.returns
-returns c = λ topology reflectors steps h. (every_run topology reflectors steps h).says
