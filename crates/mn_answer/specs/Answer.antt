@@ -2,8 +2,8 @@
 use Rattle.std.specs.Prelude.{ℕ, ◌^◌, nat_lt, if◌then◌else◌, List, [], length, Option, Some, None, Result, Ok, Err}
 use Rattle.std.specs.Str.Lines.{lines}
 use Rattle.mn_base.specs.Limits.{most_script_lines}
-use Rattle.mn_joints.specs.declared.refusal.JointsRule.{JointsRule}
-use Rattle.mn_joints.specs.Joints.{SitePair, joints_of}
+use Rattle.mn_join_script.specs.declared.refusal.JointsRule.{JointsRule}
+use Rattle.mn_join_script.specs.Joints.{SitePair, joints_of}
 use Rattle.mn_pcap.specs.Reading.{count_of}
 use Rattle.mn_pcap.specs.Reading as pcap
 use Rattle.mn_pcap.specs.declared.refusal.PcapBad.{PcapBad}

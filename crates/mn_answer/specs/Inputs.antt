@@ -3,7 +3,7 @@ use Rattle.std.specs.Prelude.{◌≡◌, ◌≢◌, ◌≤◌, ℕ, Bool, true, 
 use Rattle.std.specs.declared.alloc.Global.{Global}
 use Rattle.mn_base.specs.Limits.{most_script_lines}
 use Rattle.mn_capture.specs.Packets.{CaptureView, packets_in}
-use Rattle.mn_joints.specs.Joints.{SitePair, joints_of, AreSites, AreApart}
+use Rattle.mn_join_script.specs.Joints.{SitePair, joints_of, AreSites, AreApart}
 use Rattle.mn_pcap.specs.Reading as pcap
 use Rattle.mn_script.specs.Reading.{Says, lines_of}
 use Rattle.mn_topo.specs.Network.{Network}

@@ -10,8 +10,8 @@ use Rattle.mn_topo_toml.specs.declared.refusal.Place.{Place}
 use Rattle.mn_topo_toml.specs.declared.refusal.Place.TheVariants.{Top, Node, Link, Vrf, Site}
 use Rattle.mn_script.specs.declared.refusal.ScriptRule.{ScriptRule}
 use Rattle.mn_script.specs.declared.refusal.ScriptRule.TheVariants as script
-use Rattle.mn_joints.specs.declared.refusal.JointsRule.{JointsRule}
-use Rattle.mn_joints.specs.declared.refusal.JointsRule.TheVariants as joints
+use Rattle.mn_join_script.specs.declared.refusal.JointsRule.{JointsRule}
+use Rattle.mn_join_script.specs.declared.refusal.JointsRule.TheVariants as joints
 use Rattle.mn_lines.specs.Lines.{text}
 use Rattle.mn_answer.specs.declared.outcome.Limit.{Limit}
 use Rattle.mn_answer.specs.declared.outcome.Limit.TheVariants.{TopologyBytes, ScriptBytes, ScriptLines, CaptureBytes, CaptureRecords, Steps, JointsBytes}

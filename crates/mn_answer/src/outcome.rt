@@ -1,7 +1,7 @@
 //! How a call of the program may end.
 ghost use Rattle.std.specs.Prelude.{◌≡◌};
 
-use mn_joints::JointsRule;
+use mn_join_script::JointsRule;
 use mn_pcap::PcapRule;
 use mn_script::ScriptRule;
 use mn_topo_toml::{Place, TopoRule};

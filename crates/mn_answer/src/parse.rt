@@ -4,7 +4,7 @@ ghost use Rattle.mn_answer.specs.Inputs.{IsSound, TopologyIs, LinesAre, LinesFit
 
 use crate::outcome::{Limit, Outcome};
 use mn_base::{MOST_SCRIPT_LINES, SiteNo};
-use mn_joints::{JointsBad, read_joints};
+use mn_join_script::{JointsBad, read_joints};
 use mn_script::{Language, ScriptBad, count_lines, read_lines};
 use mn_topo::Topology;
 use mn_topo_toml::{TopoBad, read_topology};

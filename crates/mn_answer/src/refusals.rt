@@ -10,7 +10,7 @@ ghost use Rattle.mn_answer.specs.Endings.{OutcomeIs, TextIs, SinkCausedBy};
 
 use crate::outcome::{Limit, Outcome};
 use mn_edge::{DeviceBad, Sink};
-use mn_joints::JointsRule;
+use mn_join_script::JointsRule;
 use mn_pcap::PcapRule;
 use mn_script::ScriptRule;
 use mn_topo_toml::{Place, TopoRule};

@@ -10,8 +10,8 @@ ghost use Rattle.mn_join.specs.Moves.{TakesIn, HandsOver, Standing, GoesOn};
 use crate::played::PairBad;
 use crate::side::Side;
 use mn_base::SiteNo;
-use mn_ledger::Refused;
 use mn_join_laws::{Leg, Which};
+use mn_ledger::Refused;
 use std::alloc::{AllocError, Global};
 use std::marker::Model;
 

@@ -12,8 +12,8 @@ use crate::pair::Pair;
 use crate::played::{PairBad, Played};
 use mn_base::SiteNo;
 use mn_course_laws::Arrivals;
-use mn_ledger::Refused;
 use mn_join_laws::{Leg, Which};
+use mn_ledger::Refused;
 use mn_script::Command;
 use mn_topo::{Damage, Step};
 

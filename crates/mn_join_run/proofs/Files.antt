@@ -14,7 +14,7 @@ use Rattle.mn_pcap.specs.Format.{header}
 use Rattle.mn_perform.proofs.Adding.{holds_as, begins_as}
 use Rattle.mn_perform.proofs.Closing.{all_is_laid}
 use Rattle.mn_join_laws.specs.Course.{Exit}
-use Rattle.mn_join_report.specs.Report.{exit_record, exits_file}
+use Rattle.mn_join_run.specs.Report.{exit_record, exits_file}
 use Rattle.mn_join_run.specs.Outside.{FileNow, Holding, Beginning}
 
 -- one name differs from all others

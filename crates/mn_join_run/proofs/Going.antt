@@ -10,10 +10,10 @@ use Rattle.mn_script.specs.declared.command.Command.{Command}
 use Rattle.mn_perform.specs.declared.ended.Ended.TheVariants as ended
 use Rattle.mn_perform.specs.declared.ended.Fault.{Fault}
 use Rattle.mn_join_laws.specs.Pairing.{Pairing}
-use Rattle.mn_join_report.specs.Pairs.{PairNow}
+use Rattle.mn_join.specs.Pairs.{PairNow}
 use Rattle.mn_join_script.specs.declared.line.JoinLine.{JoinLine}
-use Rattle.mn_join_report.specs.Course.{JoinRun, packet_for, with_packet, with_line, unless_stopped, run_from, run_of}
-use Rattle.mn_join_report.specs.Report.{refused_texts, exits_file}
+use Rattle.mn_join_run.specs.Course.{JoinRun, packet_for, with_packet, with_line, unless_stopped, run_from, run_of}
+use Rattle.mn_join_run.specs.Report.{refused_texts, exits_file}
 use Rattle.mn_join_run.specs.Outside.{Outside, Start, IsCut}
 use Rattle.mn_join_run.specs.Playing.{IsPacket, LineWent, IsAt, AllWent}
 use Rattle.mn_join_run.specs.declared.desk.Desk.{Desk}

@@ -9,8 +9,8 @@ use Rattle.mn_course_laws.specs.declared.coming.Ending.TheVariants as ending
 use Rattle.mn_join_laws.specs.Pairing.{Pairing}
 use Rattle.mn_join_laws.specs.Course.{Exit, PairCourse, played}
 use Rattle.mn_join_script.specs.declared.line.JoinLine.{JoinLine}
-use Rattle.mn_join_report.specs.Course.{RefusedLine, JoinRun, after_course, with_packet, packet_for, with_line, unless_stopped, run_from}
-use Rattle.mn_join_report.specs.Report.{refused_text, refused_texts, exit_record, exits_file}
+use Rattle.mn_join_run.specs.Course.{RefusedLine, JoinRun, after_course, with_packet, packet_for, with_line, unless_stopped, run_from}
+use Rattle.mn_join_run.specs.Report.{refused_text, refused_texts, exit_record, exits_file}
 
 -- the refused lines and the exits of one are the first of the other's
 pub record Grows (old new : JoinRun) : Type 0 where

@@ -8,7 +8,7 @@ use Rattle.mn_join_laws.specs.Course.{PairCourse, played}
 use Rattle.mn_join_laws.specs.Legs.{Line, after_lines, ArrivesByItsLegs, IsLawfulIn}
 use Rattle.mn_join_laws.proofs.Arriving.{arrive_by_legs}
 use Rattle.mn_join_script.specs.declared.line.JoinLine.{JoinLine}
-use Rattle.mn_join_report.specs.Course.{JoinRun, after_course, with_packet, packet_for, with_line, unless_stopped, run_from, run_of}
+use Rattle.mn_join_run.specs.Course.{JoinRun, after_course, with_packet, packet_for, with_line, unless_stopped, run_from, run_of}
 
 -- some lines lead from what both networks were to what they are
 record IsAfter (pairing : Pairing) (from both : Both) : Type 0 where

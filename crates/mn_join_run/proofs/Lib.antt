@@ -3,7 +3,7 @@ mod Standing
 mod Files
 mod Noting
 mod Going
-mod Ends
+mod Endings
 mod Telling
 mod Legs
 mod Sent
@@ -11,3 +11,6 @@ mod Promise
 mod Told
 mod Played
 mod Runs
+mod Rows
+mod Reading
+mod Loops

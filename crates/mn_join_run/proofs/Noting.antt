@@ -9,8 +9,8 @@ use Rattle.mn_lines.specs.Putting.{Puts, PutsPart}
 use Rattle.mn_join_laws.specs.Pairing.{Pairing}
 use Rattle.mn_join_laws.specs.Course.{Exit, PairCourse}
 use Rattle.mn_join_script.specs.declared.line.JoinLine.{JoinLine}
-use Rattle.mn_join_report.specs.Course.{JoinRun, goes_on, with_refusal, after_course}
-use Rattle.mn_join_report.specs.Report.{refused_texts, exit_record, exits_file}
+use Rattle.mn_join_run.specs.Course.{JoinRun, goes_on, with_refusal, after_course}
+use Rattle.mn_join_run.specs.Report.{refused_texts, exit_record, exits_file}
 use Rattle.mn_join_run.specs.Outside.{Outside, outside, Start, Stands, IsCut, Holding, Beginning}
 use Rattle.mn_join_run.proofs.Growing.{Grows, texts_more, file_more, texts_begin, file_begins}
 use Rattle.mn_join_run.proofs.Standing.{cut_more, cut_here, file_on, text_on, file_cut, text_cut}

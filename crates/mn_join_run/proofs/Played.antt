@@ -10,14 +10,14 @@ use Rattle.mn_join_laws.specs.declared.leg.Which.{Which}
 use Rattle.mn_join_laws.specs.declared.leg.Which.TheVariants.{First, Second}
 use Rattle.mn_join_laws.specs.Pairing.{Pairing, network, Both}
 use Rattle.mn_join_laws.specs.Course.{PairCourse}
-use Rattle.mn_join_report.specs.Played.{Played}
-use Rattle.mn_join_report.specs.Played.TheVariants as played
-use Rattle.mn_join_report.specs.PairBad.TheVariants.{TooManySteps}
-use Rattle.mn_join_report.specs.Pairs.{PairNow, net_of, PairStands}
-use Rattle.mn_join_report.specs.Plays.{Plays}
+use Rattle.mn_join.specs.declared.played.Played.{Played}
+use Rattle.mn_join.specs.declared.played.Played.TheVariants as played
+use Rattle.mn_join.specs.declared.played.PairBad.TheVariants.{TooManySteps}
+use Rattle.mn_join.specs.Pairs.{PairNow, net_of, PairStands}
+use Rattle.mn_join.specs.Plays.{Plays}
 use Rattle.mn_join_script.specs.declared.line.JoinLine.{JoinLine}
-use Rattle.mn_join_report.specs.Course.{JoinRun, goes_on, with_refusal, after_course, with_packet}
-use Rattle.mn_join_report.specs.Report.{refused_texts, exits_file}
+use Rattle.mn_join_run.specs.Course.{JoinRun, goes_on, with_refusal, after_course, with_packet}
+use Rattle.mn_join_run.specs.Report.{refused_texts, exits_file}
 use Rattle.mn_join_run.specs.Outside.{Outside, Start, Stands, IsCut}
 use Rattle.mn_join_run.specs.Playing.{ending_of, IsNoted, Keeps, Went}
 use Rattle.mn_join_run.specs.declared.desk.Desk.{Desk}

@@ -23,9 +23,9 @@ use Rattle.mn_join_laws.specs.Pairing.{Pairing, network, Both, side, packets_in,
 use Rattle.mn_join_laws.specs.Crossing.{all_nodes}
 use Rattle.mn_join_laws.specs.Legs.{SentLeg, leg_of, WasSent, GoOn, passage_of, last_of, ArrivesByItsLegs}
 use Rattle.mn_join_laws.proofs.Passing.{all_passed, all_lowered}
-use Rattle.mn_join_report.specs.declared.ends.End.TheVariants as end
-use Rattle.mn_join_report.specs.Course.{JoinRun, run_of}
-use Rattle.mn_join_report.specs.Report.{no_line, last_leg, end_by, end_of}
+use Rattle.mn_join_run.specs.declared.ends.End.TheVariants as end
+use Rattle.mn_join_run.specs.Course.{JoinRun, run_of}
+use Rattle.mn_join_run.specs.Report.{no_line, last_leg, end_by, end_of}
 use Rattle.mn_join_script.specs.declared.line.JoinLine.{JoinLine}
 use Rattle.mn_join_run.specs.Promise.{IsLawfulSide, AccountsForLegs, HasCrossed, before_last, IsAnsweredFor}
 use Rattle.mn_join_run.proofs.Legs.{all_arrive}

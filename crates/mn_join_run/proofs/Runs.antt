@@ -19,10 +19,10 @@ use Rattle.mn_perform.specs.Inside.{is_inside}
 use Rattle.mn_perform.specs.declared.ended.Ended.{Ended}
 use Rattle.mn_perform.specs.declared.ended.Fault.{Fault}
 use Rattle.mn_join_laws.specs.Pairing.{Pairing, at_first}
-use Rattle.mn_join_report.specs.Pairs.{PairNow, PairStands}
+use Rattle.mn_join.specs.Pairs.{PairNow, PairStands}
 use Rattle.mn_join_script.specs.declared.line.JoinLine.{JoinLine}
-use Rattle.mn_join_report.specs.Course.{JoinRun, at_start, run_of}
-use Rattle.mn_join_report.specs.Report.{refused_texts, report, exits_file}
+use Rattle.mn_join_run.specs.Course.{JoinRun, at_start, run_of}
+use Rattle.mn_join_run.specs.Report.{refused_texts, report, exits_file}
 use Rattle.mn_join_run.specs.Answer.{exits_name}
 use Rattle.mn_join_run.specs.Outside as around
 use Rattle.mn_join_run.specs.Outside.{Outside, Start, Stands, IsCut, Holding}
@@ -31,7 +31,7 @@ use Rattle.mn_join_run.specs.Ending.{last_text, the_files, RunEnds, start_in}
 use Rattle.mn_join_run.specs.declared.desk.Desk.{Desk}
 use Rattle.mn_join_run.proofs.Growing.{Grows, script_grows, texts_begin, file_begins}
 use Rattle.mn_join_run.proofs.Standing.{cut_more, cut_here}
-use Rattle.mn_join_run.proofs.Ends.{IsNoRead, never_begun, never_untold, not_done, cut_ends}
+use Rattle.mn_join_run.proofs.Endings.{IsNoRead, never_begun, never_untold, not_done, cut_ends}
 
 -- 1. Faults
 

@@ -33,8 +33,8 @@ use Rattle.mn_join_laws.specs.Course.{PairCourse, refusal_on, taken_in, enters, 
 use Rattle.mn_join_laws.specs.Course as pair
 use Rattle.mn_join_laws.proofs.Growing.{get_end}
 use Rattle.mn_join_script.specs.declared.line.JoinLine.{JoinLine}
-use Rattle.mn_join_report.specs.Course.{JoinRun, packet_for, after_course, with_packet, with_line, unless_stopped, run_from, at_start, run_of}
-use Rattle.mn_join_report.specs.Report.{no_line}
+use Rattle.mn_join_run.specs.Course.{JoinRun, packet_for, after_course, with_packet, with_line, unless_stopped, run_from, at_start, run_of}
+use Rattle.mn_join_run.specs.Report.{no_line}
 
 -- 1. What stays
 

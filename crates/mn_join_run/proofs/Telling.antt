@@ -11,8 +11,8 @@ use Rattle.mn_perform.specs.declared.ended.Fault.{Fault}
 use Rattle.mn_perform.specs.declared.ended.Fault.TheVariants as fault
 use Rattle.mn_perform.specs.Faults.{Counts, Blamed}
 use Rattle.mn_join_laws.specs.Pairing.{Pairing}
-use Rattle.mn_join_report.specs.Course.{JoinRun}
-use Rattle.mn_join_report.specs.Report.{refused_texts, report}
+use Rattle.mn_join_run.specs.Course.{JoinRun}
+use Rattle.mn_join_run.specs.Report.{refused_texts, report}
 use Rattle.mn_join_run.specs.Answer.{run_done}
 use Rattle.mn_join_run.specs.Ending.{EndsAs, FilesBy, TextBy, BegunAtRead, UntoldAtRead, RunEnds, outcome_by, start_in, the_files}
 

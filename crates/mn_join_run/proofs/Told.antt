@@ -9,7 +9,7 @@ use Rattle.mn_topo.specs.Network.{Network}
 use Rattle.mn_topo_toml.specs.Topology.{topology_of}
 use Rattle.mn_pcap.specs.Reading as pcap
 use Rattle.mn_script.specs.Reading.{lines_of}
-use Rattle.mn_joints.specs.Joints.{SitePair, joints_of}
+use Rattle.mn_join_script.specs.Joints.{SitePair, joints_of}
 use Rattle.mn_answer.specs.declared.outcome.Limit.TheVariants.{Steps}
 use Rattle.mn_answer.specs.declared.outcome.Outcome.{Outcome}
 use Rattle.mn_answer.specs.declared.outcome.Outcome.TheVariants.{Done, Usage, ReadFault, WriteFault, NoMemory, BadTopology, BadScript, BadCapture, BadSecond, BadJoints, TooLarge}
@@ -19,10 +19,10 @@ use Rattle.mn_answer.proofs.Ending.{sink_answers}
 use Rattle.mn_join_laws.specs.declared.leg.Which.{Which}
 use Rattle.mn_join_laws.specs.declared.leg.Which.TheVariants.{First, Second}
 use Rattle.mn_join_laws.specs.Pairing.{network}
-use Rattle.mn_join_report.specs.Pairs.{pairing_of}
+use Rattle.mn_join.specs.Pairs.{pairing_of}
 use Rattle.mn_join_script.specs.declared.line.JoinLine.{JoinLine}
 use Rattle.mn_join_script.specs.Language.{join_says}
-use Rattle.mn_join_report.specs.Course.{run_of}
+use Rattle.mn_join_run.specs.Course.{run_of}
 use Rattle.mn_join_run.specs.Answer.{join_done}
 use Rattle.mn_join_run.specs.Ending.{AreLawfulIfDone}
 use Rattle.mn_join_run.specs.Headline.{TellsJoin, IsJoinTold}

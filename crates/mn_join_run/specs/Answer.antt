@@ -3,17 +3,17 @@ use Rattle.std.specs.Prelude.{ℕ, cond, List, [], ◌∷◌, ◌++◌, Option, 
 use Rattle.mn_base.specs.Limits.{most_steps}
 use Rattle.mn_edge.specs.Files.{Files, file}
 use Rattle.mn_topo.specs.Network.{Network}
-use Rattle.mn_joints.specs.Joints.{SitePair}
+use Rattle.mn_join_script.specs.Joints.{SitePair}
 use Rattle.mn_answer.specs.declared.outcome.Limit.TheVariants.{Steps}
 use Rattle.mn_answer.specs.declared.outcome.Outcome.{Outcome}
 use Rattle.mn_answer.specs.declared.outcome.Outcome.TheVariants.{Done, TooLarge}
 use Rattle.mn_answer.specs.Answer.{Answer, with_topology, with_second, with_joints, with_lines_of, with_capture}
 use Rattle.mn_join_laws.specs.Pairing.{Pairing}
-use Rattle.mn_join_report.specs.Pairs.{pairing_of}
+use Rattle.mn_join.specs.Pairs.{pairing_of}
 use Rattle.mn_join_script.specs.declared.line.JoinLine.{JoinLine}
 use Rattle.mn_join_script.specs.Language.{join_says}
-use Rattle.mn_join_report.specs.Course.{JoinRun, run_of}
-use Rattle.mn_join_report.specs.Report.{refused_texts, report, exits_file}
+use Rattle.mn_join_run.specs.Course.{JoinRun, run_of}
+use Rattle.mn_join_run.specs.Report.{refused_texts, report, exits_file}
 
 -- the file of what comes out at sites that aren't joined
 abbrev pub exits_name : List ℕ → List ℕ

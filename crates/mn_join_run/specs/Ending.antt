@@ -17,10 +17,10 @@ use Rattle.mn_perform.specs.declared.ended.Fault.{Fault}
 use Rattle.mn_perform.specs.declared.ended.Fault.TheVariants as fault
 use Rattle.mn_join_laws.specs.declared.leg.Which.{Which}
 use Rattle.mn_join_laws.specs.Pairing.{Pairing, at_first}
-use Rattle.mn_join_report.specs.Pairs.{PairNow, PairStands}
-use Rattle.mn_join_report.specs.Course.{JoinRun}
-use Rattle.mn_join_report.specs.Reading.{IsJoined}
-use Rattle.mn_join_report.specs.Report.{refused_texts, ended_text, report, exits_file}
+use Rattle.mn_join.specs.Pairs.{PairNow, PairStands}
+use Rattle.mn_join_run.specs.Course.{JoinRun}
+use Rattle.mn_join_run.specs.Reading.{IsJoined}
+use Rattle.mn_join_run.specs.Report.{refused_texts, ended_text, report, exits_file}
 use Rattle.mn_join_run.specs.Answer.{exits_name}
 use Rattle.mn_join_run.specs.Outside.{Start}
 use Rattle.mn_join_run.specs.Promise.{IsLawfulSide}

@@ -6,16 +6,16 @@ use Rattle.mn_topo.specs.Network.{Network}
 use Rattle.mn_topo_toml.specs.Topology.{topology_of}
 use Rattle.mn_pcap.specs.Reading as pcap
 use Rattle.mn_script.specs.Reading.{lines_of}
-use Rattle.mn_joints.specs.Joints.{SitePair, joints_of}
+use Rattle.mn_join_script.specs.Joints.{SitePair, joints_of}
 use Rattle.mn_answer.specs.declared.outcome.Outcome.{Outcome}
 use Rattle.mn_answer.specs.declared.outcome.Outcome.TheVariants.{Done}
 use Rattle.mn_join_laws.specs.declared.leg.Which.{Which}
 use Rattle.mn_join_laws.specs.Pairing.{travel}
-use Rattle.mn_join_report.specs.Pairs.{pairing_of}
+use Rattle.mn_join.specs.Pairs.{pairing_of}
 use Rattle.mn_join_script.specs.declared.line.JoinLine.{JoinLine}
 use Rattle.mn_join_script.specs.Language.{join_says}
-use Rattle.mn_join_report.specs.Course.{JoinRun, run_of}
-use Rattle.mn_join_report.specs.Report.{no_line, report}
+use Rattle.mn_join_run.specs.Course.{JoinRun, run_of}
+use Rattle.mn_join_run.specs.Report.{no_line, report}
 use Rattle.mn_join_run.specs.Answer.{exits_files}
 use Rattle.mn_join_run.specs.Promise.{AccountsForLegs, IsAnsweredFor}
 

@@ -13,3 +13,6 @@ pub use Rattle.mn_perform.specs.Total
 pub use Rattle.mn_perform.specs.Whole
 pub use Rattle.mn_perform.specs.declared.ended.Ended
 pub use Rattle.mn_perform.specs.declared.ended.Fault
+pub mod Course
+pub mod Report
+pub mod Reading

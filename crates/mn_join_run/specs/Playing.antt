@@ -12,12 +12,12 @@ use Rattle.mn_perform.specs.declared.ended.Fault.{Fault}
 use Rattle.mn_course_laws.specs.declared.coming.Ending.{Ending}
 use Rattle.mn_course_laws.specs.declared.coming.Ending.TheVariants as ending
 use Rattle.mn_join_laws.specs.Pairing.{Pairing}
-use Rattle.mn_join_report.specs.Played.{Played}
-use Rattle.mn_join_report.specs.Played.TheVariants as played
-use Rattle.mn_join_report.specs.Pairs.{PairNow, PairStands}
+use Rattle.mn_join.specs.declared.played.Played.{Played}
+use Rattle.mn_join.specs.declared.played.Played.TheVariants as played
+use Rattle.mn_join.specs.Pairs.{PairNow, PairStands}
 use Rattle.mn_join_script.specs.declared.line.JoinLine.{JoinLine}
-use Rattle.mn_join_report.specs.Course.{JoinRun, packet_for, with_packet, run_from, run_of}
-use Rattle.mn_join_report.specs.Report.{refused_texts, exits_file}
+use Rattle.mn_join_run.specs.Course.{JoinRun, packet_for, with_packet, run_from, run_of}
+use Rattle.mn_join_run.specs.Report.{refused_texts, exits_file}
 use Rattle.mn_join_run.specs.Outside.{Outside, Start, Stands, IsCut}
 use Rattle.mn_join_run.specs.declared.desk.Desk.{Desk}
 

@@ -15,8 +15,8 @@ use Rattle.mn_join_laws.specs.declared.leg.Which.{Which}
 use Rattle.mn_join_laws.specs.Pairing.{Pairing, network, Both, side, Travel}
 use Rattle.mn_join_laws.specs.Crossing.{CrossesAll, all_nodes}
 use Rattle.mn_join_laws.specs.Legs.{SentLeg, HasLegs, passage_of, last_of}
-use Rattle.mn_join_report.specs.declared.ends.End.TheVariants.{Judged}
-use Rattle.mn_join_report.specs.Report.{end_of}
+use Rattle.mn_join_run.specs.declared.ends.End.TheVariants.{Judged}
+use Rattle.mn_join_run.specs.Report.{end_of}
 
 -- 1. Each network
 

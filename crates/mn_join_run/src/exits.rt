@@ -2,13 +2,14 @@
 ghost use Rattle.std.specs.Prelude.{◌≡◌, ◌++◌, ◌∷◌, [], ℕ, List, IfOk, OnOk, OnErr, Some, None};
 ghost use Rattle.std.specs.List.{flat_map};
 ghost use Rattle.std.specs.Option.{ForSome};
-ghost use Rattle.mn_join_run.specs.Prelude.{Counted, CountedUnless, Files, Framed, Lacking, named, laid, texts, PartWritten, Exit, header, exit_record, exits_file};
+ghost use Rattle.mn_join_run.specs.Prelude.{Counted, CountedUnless, Files, Framed, Lacking, named, laid, texts, PartWritten, Exit, header};
+ghost use Rattle.mn_join_run.specs.Report.{exit_record, exits_file};
 ghost use Rattle.mn_pcap.specs.Format.{record_of};
 ghost use Rattle.mn_join_run.specs.Answer.{exits_name};
 ghost use Rattle.mn_join_run.specs.Outside.{Holding, Beginning};
 
 use mn_edge::{DeviceBad, Gather, Shelf, begin_all};
-use mn_join_report::Pair;
+use mn_join::Pair;
 use mn_pcap::put_header;
 use mn_perform::record_header;
 use std::alloc::{AllocError, Global};

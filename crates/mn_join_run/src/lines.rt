@@ -1,6 +1,8 @@
 //! The lines of a script, one after another.
 ghost use Rattle.std.specs.Prelude.{◌≡◌, true, All, None, Some, map};
-ghost use Rattle.mn_join_run.specs.Prelude.{Framed, Lacking, told_packets, Blamed, sending_of, Pairing, network, PairCourse, net_of, line_fits, JoinRun, at_start, after_course, with_packet, refused_texts, exits_file};
+ghost use Rattle.mn_join_run.specs.Prelude.{Framed, Lacking, told_packets, Blamed, sending_of, Pairing, network, PairCourse, net_of, line_fits};
+ghost use Rattle.mn_join_run.specs.Course.{JoinRun, at_start, after_course, with_packet};
+ghost use Rattle.mn_join_run.specs.Report.{refused_texts, exits_file};
 ghost use Rattle.mn_join_run.specs.Outside.{Start, Stands, outside};
 ghost use Rattle.mn_join_run.specs.Playing.{Keeps, Went, LineWent, AllWent, IsNoted, ending_of};
 
@@ -9,7 +11,7 @@ use crate::exits::ExitsFile;
 use crate::fetch::fetch;
 use mn_capture::Capture;
 use mn_edge::{DeviceBad, Shelf, Sink};
-use mn_join_report::{Pair, PairBad, Played};
+use mn_join::{Pair, PairBad, Played};
 use mn_join_script::JoinLine;
 use mn_perform::{Ended, Fault, Shown, put_refused};
 

@@ -1,7 +1,8 @@
 //! A whole run: the lines of a script on two joined networks, with the file of what comes out and the report.
 ghost use Rattle.std.specs.Prelude.{◌≡◌, ◌≢◌, None, Some, true, false, All, Ok, OnOk};
 ghost use Rattle.std.specs.Option.{ForSome};
-ghost use Rattle.mn_join_run.specs.Prelude.{Counted, Absent, file, Framed, Lacking, Answers, CausedBy, packets_in, Pairing, at_first, pairing_of, AreSites, AreApart, PairStands, Blamed, is_inside, standing, Tells, line_fits, JoinRun, run_of};
+ghost use Rattle.mn_join_run.specs.Prelude.{Counted, Absent, file, Framed, Lacking, Answers, CausedBy, packets_in, Pairing, at_first, pairing_of, AreSites, AreApart, PairStands, Blamed, is_inside, standing, Tells, line_fits};
+ghost use Rattle.mn_join_run.specs.Course.{JoinRun, run_of};
 ghost use Rattle.mn_join_run.specs.Answer.{join_done};
 ghost use Rattle.mn_join_run.specs.Outside.{Start, outside};
 ghost use Rattle.mn_join_run.specs.Playing.{Went};
@@ -10,11 +11,12 @@ ghost use Rattle.mn_join_run.specs.Ending.{AreAtFirst, IsEnded, HasEnded, last_t
 use crate::desk::Desk;
 use crate::exits::ExitsFile;
 use crate::lines::do_lines;
+use crate::report::put_ended;
 use mn_answer::{Limit, Outcome, too_large};
 use mn_base::{MOST_STEPS, SiteNo};
 use mn_capture::Capture;
 use mn_edge::{DeviceBad, Shelf, Sink};
-use mn_join_report::{Pair, put_ended};
+use mn_join::Pair;
 use mn_join_script::JoinLine;
 use mn_perform::{Ended, Fault};
 use mn_topo::Topology;

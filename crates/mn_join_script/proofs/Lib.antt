@@ -1,3 +1,4 @@
 mod Front
 mod Gathering
 mod Playing
+mod Joining

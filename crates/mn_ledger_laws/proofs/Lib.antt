@@ -24,3 +24,8 @@ pub mod Saying
 pub mod Saids
 mod Witness
 pub mod Adding
+pub mod Steps
+pub mod Few
+pub mod Sending
+pub mod Aging
+mod AgeWitness

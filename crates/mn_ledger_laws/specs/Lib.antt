@@ -6,3 +6,5 @@ pub mod Believed
 pub mod Mentions
 pub mod Ids
 pub mod OneMore
+pub mod Few
+pub mod Ages

@@ -17,14 +17,41 @@
 //! - `specs/Flight`: numbers, ticks and channels of what is in flight, the steps that deliver it, and how much of it counts
 //! - `specs/Believed`, `specs/Mentions`: which routes an edge believes, and who says a Mapping of which FEC, in words
 //! - `specs/Ids`: the ids of LDP messages, and the frames sent in a direction; `specs/OneMore`: what one entry more adds
+//! - `specs/Few`: how many items a journal makes, so few that their numbers, of 64 bits, never run out
+//! - `specs/Ages`: how long frames may be on their links
 //!
-//! Each law is the contract of a function that does nothing; `proofs/Witness` shows that what the laws ask is met.
+//! A step makes less than 35,000,000,000 items, and a journal has at most 4,000,000 steps:
+//!
+//! ```text
+//!   notices      256                            one for each node
+//!   LDP          2 + 258 * 256 * 256 * 1024     each node says one message of each FEC on each of its links
+//!   BGP          1 + 65536 * 512 * 513          each route of an edge comes and goes, and is told to each peer
+//!   a frame      1
+//! ```
+//!
+//! A link has a life, and no frame flies on it for longer: between two steps time goes on only as far as the next arrival is due,
+//! and a link's delay is at most its life. A Tick lets time go on without a delivery, and ends each frame that has then outlived
+//! its link, by the rule Overdue.
+//!
+//! ```text
+//!   sent            due: sent + delay            sent + life
+//!    |-------------------|-----------------------------|------------------>  ticks
+//!    |  flies; a step may deliver it at any tick here  |  flies no longer
+//! ```
+//!
+//! So once a node has sent nothing towards an edge for longer than a link's life, no frame for that edge is on the link: by this
+//! alone a label that was withdrawn can mean something else (RFC 3031, section 3.14).
+//!
+//! Each law is the contract of a function that does nothing; `proofs/Witness` shows that what the laws ask is met, and `proofs/AgeWitness`
+//! that the bound of a frame's age is reached.
 #![tactic(auto)]
 
 ghost use Rattle.std.specs.Prelude.{ℕ, List, ◌≡◌, ◌<◌, true, length};
-ghost use Rattle.mn_ledger.specs.Prelude.{Wiring, is_end, IsLawful, Network, wiring_of, JournalEntry, Knowledge, Config, Export, Peerings, world_of, packets_of, IsLawfulJournal, injections};
+ghost use Rattle.mn_ledger.specs.Prelude.{Wiring, is_end, IsLawful, Network, wiring_of, JournalEntry, Knowledge, Config, Export, Peerings, world_of, packets_of, IsLawfulJournal, injections, tick_from};
 ghost use Rattle.mn_ledger_laws.specs.Accounts.{Accounts};
+ghost use Rattle.mn_ledger_laws.specs.Ages.{NoneIsOverdue};
 ghost use Rattle.mn_ledger_laws.specs.Believed.{BelievesLastMentions};
+ghost use Rattle.mn_ledger_laws.specs.Few.{MakesFew};
 ghost use Rattle.mn_ledger_laws.specs.Flight.{FliesAsCounted};
 ghost use Rattle.mn_ledger_laws.specs.Ids.{SaysWithIds};
 ghost use Rattle.mn_ledger_laws.specs.Mentions.{SaysItsNews};
@@ -86,4 +113,23 @@ pub fn ids_are_places_in_a_life()
 pub fn one_entry_more_adds_to_its_lists()
     ensures { (topology : Network) (entries : List JournalEntry) (inputs : List (List ℕ)) (entry : JournalEntry) (bytes : List ℕ) →
         length inputs ≡ injections entries → AddsToItsLists topology entries inputs entry bytes }
+{}
+
+/// A lawful journal makes at most 35,000,000,000 items for each entry, and fewer than 2 ^ 62 in all.
+pub fn a_journal_makes_few_items()
+    ensures { (topology : Network) (entries : List JournalEntry) (inputs : List (List ℕ)) →
+        IsLawful topology → IsLawfulJournal topology entries inputs → MakesFew topology entries inputs }
+{}
+
+/// After a lawful journal no frame on a link is older than the link's life.
+pub fn no_frame_is_overdue()
+    ensures { (topology : Network) (entries : List JournalEntry) (inputs : List (List ℕ)) →
+        IsLawful topology → IsLawfulJournal topology entries inputs → NoneIsOverdue topology entries inputs }
+{}
+
+/// The packets' clock, by which frames grow old, is the one that the journal's last entry leaves: its tick, and after a Tick the
+/// one to which time went on. It holds of every journal, lawful or not.
+pub fn the_clock_is_that_of_the_journal()
+    ensures { (topology : Network) (entries : List JournalEntry) (inputs : List (List ℕ)) →
+        (packets_of topology entries inputs).clock ≡ tick_from 0 entries }
 {}

@@ -14,9 +14,9 @@ use crate::parts::{Open, Parts};
 use crate::refusal::LsrBad;
 use crate::said::Said;
 use mn_base::{LinkNo, NodeNo};
+use mn_bindings::LibEvent;
 use mn_ldp_session::{Session, SessionBad};
 use mn_ldp_wire::{LdpBody, LdpId, LdpMessage, WireBad, read_pdu};
-use mn_bindings::LibEvent;
 use std::alloc::{AllocError, Global};
 
 /// What a body says to the node, and the label that it brings. A mention of a FEC that is no node's is passed over.

@@ -13,8 +13,8 @@ use crate::own_ends::Sessions;
 use crate::parts::Open;
 use crate::said::Said;
 use mn_base::{LinkNo, NodeNo};
-use mn_labels::Labels;
 use mn_bindings::{Tell, TellKind};
+use mn_labels::Labels;
 use mn_wiring::LinkEnds;
 use std::alloc::{AllocError, Global};
 

@@ -6,9 +6,9 @@ ghost use Rattle.mn_lsr.specs.Parts.{free_of};
 ghost use Rattle.mn_lsr.specs.Telling.{opens_one};
 
 use mn_base::NodeNo;
+use mn_bindings::{Lib, LibEvent, are_of_fecs};
 use mn_labels::Labels;
 use mn_lfib::Lfib;
-use mn_bindings::{Lib, LibEvent, are_of_fecs};
 use std::alloc::{AllocError, Global};
 
 /// Implicit null: a node's label for its own FEC (RFC 3032, section 2.1).

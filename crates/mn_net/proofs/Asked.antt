@@ -19,7 +19,7 @@ use Rattle.mn_course_laws.specs.declared.coming.Coming.{Coming}
 use Rattle.mn_course_laws.specs.Coming.{is_kind, kind_of, lost, delivery}
 use Rattle.mn_course_laws.specs.Next.{IsNext}
 use Rattle.mn_net_parts_laws.specs.Stands as model
-use Rattle.mn_net_refusals.specs.Parts.{PartsStand, packed_of}
+use Rattle.mn_net.specs.Parts.{PartsStand, packed_of}
 use Rattle.mn_net_laws.specs.Now.{NetNow, StandsFor, IsNet}
 
 pub parts_stand : (net : NetNow) (ps : List (List ℕ)) → net.moving.channels ≡ 2 * length net.topology.links → StandsFor net ps →

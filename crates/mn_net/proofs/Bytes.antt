@@ -37,8 +37,8 @@ use Rattle.mn_transport_laws.specs.Sending.{spelled}
 use Rattle.mn_transport_laws.specs.Stands.{own_of}
 use Rattle.mn_transport_laws.proofs.Spelled.{sends-here}
 use Rattle.mn_net_parts_laws.proofs.News.{all_there}
-use Rattle.mn_net_refusals.specs.Coming.{dir_of}
-use Rattle.mn_net_refusals.proofs.OnChannels.{names_all, message_named, route_named}
+use Rattle.mn_net_laws.specs.Coming.{dir_of}
+use Rattle.mn_net_laws.proofs.OnChannels.{names_all, message_named, route_named}
 use Rattle.mn_net_laws.specs.Now.{NetNow, StandsFor}
 use Rattle.mn_net.specs.declared.flight.Channel.TheVariants as its
 use Rattle.mn_net.specs.declared.flight.Channel.{Channel as Place}

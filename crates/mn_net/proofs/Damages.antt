@@ -12,8 +12,8 @@ use Rattle.mn_ledger.specs.OneMore.{with_packet}
 use Rattle.mn_timetable_laws.specs.Steps.{pushed}
 use Rattle.mn_damage.specs.Damages.{hearing, ending, mark_of, entry_for, damage_fits}
 use Rattle.mn_damage.specs.Same.{unmarked}
-use Rattle.mn_mark_laws.specs.Marks.{marked, marked_last}
-use Rattle.mn_mark_laws.proofs.Still.{marks_last, still}
+use Rattle.mn_net.specs.Marks.{marked, marked_last}
+use Rattle.mn_net.proofs.Still.{marks_last, still}
 use Rattle.mn_topo.specs.Network.{Network}
 use Rattle.mn_topo.specs.Steps.{fits}
 use Rattle.mn_ledger.specs.Time.{ticks_in}

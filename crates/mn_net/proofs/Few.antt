@@ -8,7 +8,7 @@ use Rattle.mn_ledger.specs.Ledger.{world_of}
 use Rattle.mn_ledger.proofs.Saying.{bounded}
 use Rattle.mn_wiring.specs.Wiring.{links_of}
 use Rattle.mn_topo.specs.Network.{wiring_of}
-use Rattle.mn_item_laws.proofs.Few.{makes_few}
+use Rattle.mn_ledger_laws.proofs.Few.{makes_few}
 use Rattle.mn_net_laws.specs.Now.{NetNow, IsNet, HasRoom}
 use Rattle.mn_net_laws.proofs.Moves.{Goes}
 

@@ -12,8 +12,8 @@ use Rattle.mn_ledger.specs.Items.{Channel, Load, Item, same_channel, items_on, l
 use Rattle.mn_ledger_laws.specs.Flight.{AreAscending}
 use Rattle.mn_timetable_laws.specs.Keys.{Key, Numbering, key_of, keys_in, keys_on, with_key, Names}
 use Rattle.mn_net_parts_laws.proofs.Counted.{counted_in}
-use Rattle.mn_net_refusals.proofs.OnChannels.{counted_names}
-use Rattle.mn_net_refusals.specs.Refusal.{count_on}
+use Rattle.mn_net_laws.proofs.OnChannels.{counted_names}
+use Rattle.mn_net_laws.specs.Refusal.{count_on}
 
 first_is : {A : Type 0} (x y : A) (xs ys : List A) → x ∷ xs ≡ y ∷ ys → x ≡ y
 first_is x y xs ys e = cc

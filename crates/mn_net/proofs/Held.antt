@@ -42,8 +42,8 @@ use Rattle.mn_routing_laws.proofs.Holding.{Stands, holds}
 use Rattle.mn_routing_laws.proofs.Home.{among_edges}
 use Rattle.mn_routing_laws.proofs.Lawful.{rests, stands}
 use Rattle.mn_routing_laws.proofs.Tables.{map_numbers_at}
-use Rattle.mn_net_refusals.specs.Refusal.{asked}
-use Rattle.mn_net_refusals.proofs.Vrfs.{vrf_is}
+use Rattle.mn_net_laws.specs.Refusal.{asked}
+use Rattle.mn_net_laws.proofs.Vrfs.{vrf_is}
 use Rattle.mn_net_laws.specs.Now.{NetNow, IsNet, WorksAsNet}
 use Rattle.mn_net_laws.proofs.Told.{net_is}
 use Rattle.mn_ledger.specs.Heads.{prefixes_of, best_at, held_at}

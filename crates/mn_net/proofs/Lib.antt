@@ -13,3 +13,9 @@ pub mod Few
 pub mod Damages
 pub mod Open
 pub mod Views
+pub mod Still
+pub mod AskedOfParts
+pub mod Standing
+pub mod Chain
+pub mod Nexts
+pub mod Counts

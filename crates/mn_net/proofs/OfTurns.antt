@@ -6,7 +6,7 @@ use Rattle.mn_topo.specs.declared.steps.Damaged.TheVariants.{Undamaged}
 use Rattle.mn_ledger.specs.Bgp.{is_routing}
 use Rattle.mn_ledger.specs.Parts.{is_moving}
 use Rattle.mn_ledger.specs.Transport.{is_transport}
-use Rattle.mn_net_refusals.specs.Tallies.{Tally, HasStatic, after_static}
+use Rattle.mn_net_laws.specs.Tallies.{Tally, HasStatic, after_static}
 use Rattle.mn_transport_laws.specs.Steps.{touches}
 use Rattle.mn_net.specs.Turns.{link_step, route_step}
 use Rattle.mn_net.specs.declared.turns.LinkTurn.{LinkTurn}

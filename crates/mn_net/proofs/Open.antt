@@ -34,8 +34,8 @@ use Rattle.mn_routing_laws.proofs.Chosen.{open_where_resolved}
 use Rattle.mn_routing_laws.proofs.Holding.{Stands, holds}
 use Rattle.mn_routing_laws.proofs.Lawful.{rests, stands}
 use Rattle.mn_routing_laws.proofs.Lookup.{SameRoutes}
-use Rattle.mn_net_refusals.specs.Refusal.{asked}
-use Rattle.mn_net_refusals.proofs.Vrfs.{vrf_is}
+use Rattle.mn_net_laws.specs.Refusal.{asked}
+use Rattle.mn_net_laws.proofs.Vrfs.{vrf_is}
 use Rattle.mn_net_laws.specs.Now.{NetNow, IsNet}
 use Rattle.mn_ledger.specs.Heads.{best_for}
 use Rattle.mn_net.proofs.Held.{edge_told, its_edge, given_as}

@@ -21,8 +21,8 @@ use Rattle.mn_course_laws.specs.Coming.{is_kind, kind_of, place_of}
 use Rattle.mn_transit.specs.declared.flown.Flown.{Flown}
 use Rattle.mn_transport_laws.specs.declared.notice.Notice.{Notice as NoticeOf}
 use Rattle.mn_timetable_laws.specs.Keys.{Numbering, keys_in, keys_on, with_key, of_notices, of_messages, of_routes, of_frames}
-use Rattle.mn_net_refusals.specs.Coming.{dir_of, pending_seen}
-use Rattle.mn_net_refusals.specs.Parts.{OnChannels, packed_of}
+use Rattle.mn_net_laws.specs.Coming.{dir_of, pending_seen}
+use Rattle.mn_net.specs.Parts.{OnChannels, packed_of}
 use Rattle.mn_net_laws.specs.Now.{NetNow, StandsFor}
 use Rattle.mn_net.specs.declared.flight.Channel.{Channel as Place}
 use Rattle.mn_net.specs.Told.{Told, channel_of, bytes_on, item_told, told_at}

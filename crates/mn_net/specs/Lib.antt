@@ -8,3 +8,5 @@ pub mod Damaged
 pub use Rattle.mn_net_laws.specs.Done
 pub use Rattle.mn_net_laws.specs.Now
 pub mod Inside
+pub mod Marks
+pub mod Parts

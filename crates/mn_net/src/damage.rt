@@ -4,7 +4,7 @@ ghost use Rattle.mn_ledger.specs.Prelude.{refusal};
 ghost use Rattle.mn_ledger.specs.declared.refused.Refused.TheVariants as why;
 ghost use Rattle.mn_damage.specs.Damages.{damage_fits, hearing};
 ghost use Rattle.mn_damage.specs.Refusals.{damage_refusal};
-ghost use Rattle.mn_mark_laws.specs.Marks.{marked_last};
+ghost use Rattle.mn_net.specs.Marks.{marked_last};
 ghost use Rattle.mn_net.specs.Prelude.{StandsFor, LabelsMean, Answers, Leaves};
 ghost use Rattle.mn_net.specs.Damaged.{IsDamaged};
 

@@ -11,9 +11,9 @@ ghost use Rattle.mn_net.specs.Prelude.{given};
 
 use crate::net::Net;
 use mn_base::{NodeNo, VrfNo};
-use mn_net_refusals::MOST_NODES;
 use mn_prefix::Prefix;
 use mn_states::BgpState;
+use mn_transport::MOST_NODES;
 use mn_vrf::Source;
 
 impl Net {

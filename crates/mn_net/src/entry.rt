@@ -9,9 +9,10 @@ ghost use Rattle.mn_net_laws.specs.Bound.{is_cut_off};
 ghost use Rattle.mn_net.specs.Prelude.{given};
 
 use mn_base::{NodeNo, SiteNo};
-use mn_net_refusals::{Routes, Transport};
 use mn_pe::Entered;
+use mn_routing::Routes;
 use mn_topo::Topology;
+use mn_transport::Transport;
 use std::alloc::AllocError;
 
 /// A packet that enters, and what its node knows of the way out for it: the next hop, and the label to be sent there, none for implicit

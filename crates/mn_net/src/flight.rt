@@ -2,18 +2,18 @@
 ghost use Rattle.std.specs.Prelude.{◌≡◌, ◌<◌, ◌≤◌, ◌*◌, ◌/◌, ◌%◌, ◌^◌, ℕ, List, [], false, true, None, option_map};
 ghost use Rattle.mn_ledger.specs.Prelude.{flight_of};
 ghost use Rattle.mn_stack.specs.Labelled.{frame_bytes};
-ghost use Rattle.mn_net_refusals.specs.Coming.{dir_of};
+ghost use Rattle.mn_net_laws.specs.Coming.{dir_of};
 ghost use Rattle.mn_net.specs.Prelude.{StandsFor};
 ghost use Rattle.mn_course_laws.specs.declared.coming.Kind.TheVariants as kind;
 ghost use Rattle.mn_net.specs.declared.flight.Channel.TheVariants as channel;
 ghost use Rattle.mn_net.specs.Told.{told_at};
 ghost use Rattle.mn_net.specs.Tables.{count_of};
 
+use crate::coming::pending;
 use crate::net::Net;
 use mn_base::{LinkNo, ListOf, NodeNo};
 use mn_course_laws::Kind;
 use mn_flight::{Flight, Item};
-use mn_net_refusals::pending;
 use mn_transit::Flown;
 use mn_transport_laws::Notice;
 use mn_wiring::{Dir, direction_of};

@@ -11,8 +11,8 @@ use crate::net::Net;
 use crate::turns::LinkTurn;
 use mn_base::LinkNo;
 use mn_flight::Clock;
-use mn_net_refusals::Transport;
 use mn_topo::{Step, Topology};
+use mn_transport::Transport;
 use std::alloc::AllocError;
 
 /// The transport does its part of a step of links or LDP. It answers how many items that made.

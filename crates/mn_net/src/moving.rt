@@ -7,7 +7,7 @@ use crate::doing::do_step;
 use crate::entry::enter;
 use crate::net::Net;
 use mn_base::{LinkNo, SiteNo};
-use mn_net_refusals::count_frame;
+use mn_net_tally::count_frame;
 use mn_topo::Step;
 use mn_wiring::Dir;
 use std::alloc::AllocError;

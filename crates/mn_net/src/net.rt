@@ -6,11 +6,15 @@ ghost use Rattle.mn_topo.specs.declared.steps.Step.TheVariants as step;
 ghost use Rattle.mn_ledger.specs.declared.refused.Refused.TheVariants as why;
 ghost use Rattle.mn_net.specs.Prelude.{StandsFor, but_spare, HasRoom, LabelsMean, Answers, Refuses, IsLonger, HasFailed, Leaves, MayBeDone, IsDone, is_of_frames, TakesOne, TakesRoom};
 
+use crate::first::refusal;
+use crate::parts::Parts;
 use crate::turns::{LinkTurn, RouteTurn};
 use mn_ledger::Refused;
-use mn_net_refusals::{Parts, Routes, Tally, Transport, refusal};
+use mn_net_tally::Tally;
+use mn_routing::Routes;
 use mn_topo::{JournalEntry, Step, Topology};
 use mn_transit::Transit;
+use mn_transport::Transport;
 use std::alloc::{AllocError, Global};
 use std::marker::Model;
 

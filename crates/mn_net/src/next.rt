@@ -8,9 +8,10 @@ ghost use Rattle.mn_course_laws.specs.Next.{first_due};
 ghost use Rattle.mn_net.specs.Prelude.{StandsFor};
 ghost use Rattle.mn_course_laws.specs.declared.coming.Kind;
 
+use crate::coming::coming;
 use crate::net::Net;
+use crate::parts::Parts;
 use mn_course_laws::{Coming, Kind};
-use mn_net_refusals::{Parts, coming};
 
 impl Net {
     /// What comes next of a kind, if it is due by the limit: the item of the least due tick and, of these, of the least number,

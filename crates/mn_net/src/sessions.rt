@@ -9,7 +9,8 @@ use crate::doing::do_step;
 use crate::net::Net;
 use crate::turns::RouteTurn;
 use mn_flight::Clock;
-use mn_net_refusals::{Routes, count_static};
+use mn_net_tally::count_static;
+use mn_routing::Routes;
 use mn_topo::Topology;
 use std::alloc::AllocError;
 

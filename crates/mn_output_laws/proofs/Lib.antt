@@ -7,3 +7,6 @@ pub mod Loads
 pub mod Lives
 pub mod Frames
 pub mod Tellings
+pub mod Apart
+pub mod Told
+pub mod ShownWitness

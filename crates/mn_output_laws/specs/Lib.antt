@@ -6,3 +6,4 @@ pub mod Tables
 pub mod Report
 pub mod Sendings
 pub mod Lists
+pub mod ShownFrames

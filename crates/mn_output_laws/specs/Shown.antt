@@ -11,7 +11,7 @@ use Rattle.mn_lfib.specs.declared.answer.Forwarded.{Forwarded}
 use Rattle.mn_lfib.specs.declared.answer.Forwarded.TheVariants.{Next, Site, Drop}
 use Rattle.mn_topo.specs.Network.{Network}
 use Rattle.mn_topo.specs.declared.steps.JournalEntry.{JournalEntry}
-use Rattle.mn_shown_laws.specs.Shown.{shown}
+use Rattle.mn_output_laws.specs.ShownFrames.{shown}
 use Rattle.mn_lines.specs.Lines.{text, rule_name}
 use Rattle.mn_output_laws.specs.Files.{node_name, site_name}
 

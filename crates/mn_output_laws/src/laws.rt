@@ -10,6 +10,7 @@ ghost use Rattle.mn_output_laws.specs.Files.{OutputFile, Journal, Deliveries, Fr
 ghost use Rattle.mn_output_laws.specs.Contents.{contents, adds, whole};
 ghost use Rattle.mn_output_laws.specs.Lists.{deliveries_file, said_file, frames_file, told_file};
 ghost use Rattle.mn_output_laws.specs.Sendings.{AreSentBy, AreAllTold};
+ghost use Rattle.mn_output_laws.specs.ShownFrames.{IsTold};
 
 /// With one step more a file has what the step adds behind what it had: so it can be written as steps are done.
 pub fn each_step_adds_its_part()
@@ -63,4 +64,10 @@ pub fn tellings_are_written()
     ensures { (topology : Network) (capture : List (List ℕ)) (entries : List JournalEntry) (edge peer : ℕ) →
         IsLawful topology → IsLawfulJournal topology entries (inputs_of capture entries) → edge ≢ peer →
         whole topology capture entries (Told edge peer) ≡ told_file topology capture entries edge peer }
+{}
+
+/// A node's table that stands for the world after a journal uses each label as it leads there, and so forwards every frame as is
+/// shown.
+pub fn a_table_is_told()
+    ensures { IsTold }
 {}

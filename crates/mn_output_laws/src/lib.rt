@@ -15,6 +15,8 @@
 //! - `specs/Files`: the files, their order and names; `specs/Contents`: their bytes, and what each step adds to them
 //! - `specs/Tables`: the tables of `show`; `specs/Report`: the report, and the whole answer of a run
 //! - `specs/Sendings`: which line sent a packet; `specs/Lists`: whole files by what the ledger lists over a journal
+//! - `specs/ShownFrames`: what labels lead to after a journal, and what becomes of a frame that is shown to a node (RFC 3031, sections 3.10 and
+//!   3.11): a function of the journal, so it is determined before any node is asked, also of a frame that no customer sent
 //! - `laws`: a longer journal adds its last step's part to each file; each packet has its line; what whole files are
 //!
 //! Frames are stacks of labels over packets, and messages are the bytes of LDP's and BGP's writers. Each is written as it was sent: a
@@ -24,6 +26,6 @@
 mod laws;
 
 pub use laws::{
-    all_lives_are_written, deliveries_are_written, each_packet_has_its_line,
+    a_table_is_told, all_lives_are_written, deliveries_are_written, each_packet_has_its_line,
     each_step_adds_its_part, frames_are_written, steps_are_written, tellings_are_written,
 };

@@ -8,9 +8,9 @@
 #![tactic(auto)]
 
 use mn_base::{LinkNo, NodeNo, SiteNo};
+use mn_join::{Pair, PairBad, Played, Which};
 use mn_ledger::{Refused, Verdict};
 use mn_net::Net;
-use mn_join::{Pair, PairBad, Played, Which};
 use mn_prefix::Prefix;
 use mn_script::Command;
 use mn_test_nets::row;

@@ -7,8 +7,8 @@ use Rattle.mn_edge.specs.FaultLaws.{grew_by, grew_told}
 use Rattle.mn_edge.specs.Files.{Absent, Files, file}
 use Rattle.mn_edge.specs.Kept.{AllThere, Lacking}
 use Rattle.mn_capture.specs.Packets.{CaptureView}
-use Rattle.mn_record.specs.Recorded.{told_packets}
-pub use Rattle.mn_record.proofs.Recording.{absent_untold}
+use Rattle.mn_perform.specs.Recorded.{told_packets}
+pub use Rattle.mn_perform.proofs.Recording.{absent_untold}
 use Rattle.mn_perform.specs.Faults.{Counts, Blamed}
 use Rattle.mn_perform.specs.declared.ended.Fault.{Fault}
 use Rattle.mn_perform.specs.declared.ended.Fault.TheVariants.{Read, Write, NoMemory}

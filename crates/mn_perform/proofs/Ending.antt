@@ -23,7 +23,7 @@ use Rattle.mn_output_laws.specs.Report.{packet_lines, count, is_refusal, is_deli
 use Rattle.mn_files.specs.Numbers.{file_at, edge_places}
 use Rattle.mn_net_laws.specs.Now.{NetNow}
 use Rattle.mn_output_laws.specs.Files.{files_of}
-use Rattle.mn_record.specs.Recorded.{BooksNow, IsFor, contents_at, whole_at}
+use Rattle.mn_perform.specs.Recorded.{BooksNow, IsFor, contents_at, whole_at}
 use Rattle.mn_report.specs.Shown.{sending_of, totals_by}
 use Rattle.mn_perform.specs.declared.desk.Desk.{Desk}
 use Rattle.mn_perform.specs.declared.ended.Ended.{Ended}

@@ -15,9 +15,9 @@ use Rattle.mn_course_laws.specs.declared.coming.Ending.{Ending}
 use Rattle.mn_course_laws.specs.declared.coming.Ending.TheVariants as ending
 use Rattle.mn_course_laws.specs.Course.{Past, Course, record_of, deliver, all, until, most_of, played}
 use Rattle.mn_course_laws.specs.Expansion.{Note, Expansion, after_line, with_line, unless_stopped, expanded_from}
-use Rattle.mn_record.specs.Playing.{IsFirstPart}
-use Rattle.mn_record.proofs.Delivering.{first_part_refl, first_part_trans, deliver_more}
-use Rattle.mn_record.proofs.Telling.{stepped_more, damaged_more}
+use Rattle.mn_sched.specs.Playing.{IsFirstPart}
+use Rattle.mn_sched.proofs.Delivering.{first_part_refl, first_part_trans, deliver_more}
+use Rattle.mn_sched.proofs.Telling.{stepped_more, damaged_more}
 use Rattle.mn_output_laws.specs.Files.{OutputFile}
 use Rattle.mn_output_laws.specs.Moments.{Moment, moments_from, moments_of}
 use Rattle.mn_output_laws.specs.Contents.{contents, adds, head_of}

@@ -15,8 +15,8 @@ use Rattle.mn_topo.specs.Network.{Network}
 use Rattle.mn_topo.specs.declared.steps.JournalEntry.{JournalEntry}
 use Rattle.mn_output_laws.specs.Files.{OutputFile, Journal, files_of, file_name, base_name}
 use Rattle.mn_output_laws.specs.Contents.{contents, whole, tail_of, output}
-use Rattle.mn_record.specs.Recorded.{contents_at, whole_at, packets_there, told_packets}
-use Rattle.mn_record.specs.Playing.{IsFirstPart}
+use Rattle.mn_perform.specs.Recorded.{contents_at, whole_at, packets_there, told_packets}
+use Rattle.mn_sched.specs.Playing.{IsFirstPart}
 use Rattle.mn_perform.specs.Inside.{is_inside}
 use Rattle.mn_perform.specs.Whole.{running}
 use Rattle.mn_perform.proofs.Growing.{contents_first}

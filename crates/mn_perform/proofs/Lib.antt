@@ -9,5 +9,14 @@ pub mod Records
 pub mod Showing
 pub mod Totals
 pub mod Blaming
-pub use Rattle.mn_record.proofs.Adding
-pub use Rattle.mn_record.proofs.Closing
+pub mod Low
+pub mod Adding
+pub mod Same
+pub mod Flying
+pub mod Loads
+pub mod Steps
+pub mod Opening
+pub mod Recording
+pub mod Stepping
+pub mod Closing
+pub mod Few

@@ -21,11 +21,11 @@ use Rattle.mn_output_laws.specs.Report.{packet_for, note_text, count, is_refusal
 use Rattle.mn_output_laws.specs.Tables.{table_text}
 use Rattle.mn_files.specs.Numbers.{file_at}
 use Rattle.mn_net_laws.specs.Now.{NetNow}
-use Rattle.mn_record.specs.Playing.{past_of, is_show, IsFirstPart, Takes}
-use Rattle.mn_record.specs.Played.{Played}
-use Rattle.mn_record.specs.Played.TheVariants.{All, Refused, NoRecord}
-use Rattle.mn_record.specs.Stopped.TheVariants.{TooManySteps}
-use Rattle.mn_record.specs.Recorded.{BooksNow, contents_at, RecordedAfter}
+use Rattle.mn_sched.specs.Playing.{past_of, is_show, IsFirstPart, Takes}
+use Rattle.mn_sched.specs.declared.line.Played.{Played}
+use Rattle.mn_sched.specs.declared.line.Played.TheVariants.{All, Refused, NoRecord}
+use Rattle.mn_sched.specs.declared.line.Stopped.TheVariants.{TooManySteps}
+use Rattle.mn_perform.specs.Recorded.{BooksNow, contents_at, RecordedAfter}
 use Rattle.mn_report.specs.Shown.{sending_of}
 use Rattle.mn_perform.specs.declared.desk.Desk.{Desk}
 use Rattle.mn_perform.specs.declared.ended.Ended.TheVariants as ended

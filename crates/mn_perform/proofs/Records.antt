@@ -7,8 +7,8 @@ use Rattle.mn_base.proofs.Rules.{some_is}
 use Rattle.mn_pcap.specs.declared.message.Place.{Place}
 use Rattle.mn_pcap.specs.Reading.{bytes_at, packet_of}
 use Rattle.mn_course_laws.specs.Course.{record_of}
-use Rattle.mn_record.specs.Watching.{is_record}
-use Rattle.mn_record.proofs.Recording.{record_within}
+use Rattle.mn_sched.specs.Watching.{is_record}
+use Rattle.mn_perform.proofs.Recording.{record_within}
 use Rattle.mn_perform.specs.Memory.{MemoryView, packets_at}
 
 from_one : (all : List (List ℕ)) (nth : ℕ) → 1 ≤ nth → record_of all nth ≡ slice_get all (nth - 1)

@@ -10,7 +10,7 @@ use Rattle.mn_course_laws.specs.Expansion.{Expansion, with_line, unless_stopped,
 use Rattle.mn_output_laws.specs.Report.{note_text}
 use Rattle.mn_files.specs.Numbers.{file_at}
 use Rattle.mn_net_laws.specs.Now.{NetNow}
-use Rattle.mn_record.specs.Recorded.{BooksNow}
+use Rattle.mn_perform.specs.Recorded.{BooksNow}
 use Rattle.mn_perform.specs.declared.desk.Desk.{Desk}
 use Rattle.mn_perform.specs.declared.ended.Ended.{Ended}
 use Rattle.mn_perform.specs.declared.ended.Ended.TheVariants as ended

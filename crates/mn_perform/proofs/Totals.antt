@@ -16,9 +16,9 @@ use Rattle.mn_lines.specs.Lines.{total_line}
 use Rattle.mn_lines.specs.Putting.{PutOn, PartPut}
 use Rattle.mn_output_laws.specs.Report.{packet_lines, count, is_refusal, is_delivered, is_dropped, is_flying, totals_of}
 use Rattle.mn_net_laws.specs.Now.{NetNow, StandsFor}
-use Rattle.mn_record.specs.Playing.{past_of, is_show, Takes}
-use Rattle.mn_record.specs.Played.{Played}
-use Rattle.mn_record.specs.Stopped.TheVariants.{TooManySteps}
+use Rattle.mn_sched.specs.Playing.{past_of, is_show, Takes}
+use Rattle.mn_sched.specs.declared.line.Played.{Played}
+use Rattle.mn_sched.specs.declared.line.Stopped.TheVariants.{TooManySteps}
 use Rattle.mn_report.specs.Shown.{sending_of, totals_by}
 use Rattle.mn_perform.specs.declared.desk.Desk.{Desk}
 use Rattle.mn_perform.specs.declared.ended.Ended.{Ended}

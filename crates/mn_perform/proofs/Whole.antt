@@ -15,7 +15,7 @@ use Rattle.mn_output_laws.specs.Files.{files_of, file_name}
 use Rattle.mn_output_laws.specs.Contents.{output}
 use Rattle.mn_output_laws.specs.Report.{run_answer}
 use Rattle.mn_net_laws.specs.Now.{NetNow, StandsFor}
-use Rattle.mn_record.specs.Recorded.{BooksNow, contents_at, told_packets}
+use Rattle.mn_perform.specs.Recorded.{BooksNow, contents_at, told_packets}
 use Rattle.mn_report.specs.Shown.{sending_of}
 use Rattle.mn_perform.specs.declared.desk.Desk.{Desk}
 use Rattle.mn_perform.specs.declared.ended.Ended.{Ended}

@@ -8,5 +8,9 @@ pub mod Memory
 pub mod MemoryLaws
 pub mod Total
 pub use Rattle.mn_report.specs.Shown
-pub use Rattle.mn_record.specs.Laws
-pub use Rattle.mn_record.specs.Recorded
+pub mod Recorded
+pub mod Adding
+pub mod Heads
+pub mod Parts
+pub mod Watched
+pub mod Laws

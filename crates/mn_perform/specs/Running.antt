@@ -11,9 +11,9 @@ use Rattle.mn_lines.specs.Lines.{cause_text, refused_line}
 use Rattle.mn_lines.specs.Putting.{PutOn, PartPut, Puts}
 use Rattle.mn_output_laws.specs.Report.{note_text, count, is_refusal}
 use Rattle.mn_net_laws.specs.Now.{NetNow, StandsFor}
-use Rattle.mn_record.specs.Played.{Played}
-use Rattle.mn_record.specs.Played.TheVariants.{All, Refused, NoRecord}
-use Rattle.mn_record.specs.Recorded.{BooksNow, contents_at}
+use Rattle.mn_sched.specs.declared.line.Played.{Played}
+use Rattle.mn_sched.specs.declared.line.Played.TheVariants.{All, Refused, NoRecord}
+use Rattle.mn_perform.specs.Recorded.{BooksNow, contents_at}
 use Rattle.mn_report.specs.Shown.{sending_of}
 use Rattle.mn_perform.specs.declared.desk.Desk.{Desk}
 use Rattle.mn_perform.specs.declared.ended.Ended.{Ended}

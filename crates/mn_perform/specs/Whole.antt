@@ -15,7 +15,7 @@ use Rattle.mn_edge.specs.Laid.{named}
 use Rattle.mn_output_laws.specs.Files.{files_of, file_name}
 use Rattle.mn_output_laws.specs.Contents.{contents}
 use Rattle.mn_output_laws.specs.Report.{packet_lines, RunAnswer, run_answer, report}
-use Rattle.mn_record.specs.Recorded.{contents_at, whole_at}
+use Rattle.mn_perform.specs.Recorded.{contents_at, whole_at}
 use Rattle.mn_net_laws.specs.Now.{NetNow}
 use Rattle.mn_report.specs.Shown.{sending_of, totals_by}
 use Rattle.mn_perform.specs.Running.{is_stopped, notes_text}

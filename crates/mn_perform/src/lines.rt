@@ -1,16 +1,19 @@
 //! The lines of a script, one after another.
 ghost use Rattle.std.specs.Prelude.{◌≡◌, ◌-◌, ◌+◌, ◌<◌, ◌≤◌, ◌^◌, true, false, [], List, ℕ, length, None, Option, IfOk, OnOk};
 ghost use Rattle.std.specs.Option.{ForSome};
-ghost use Rattle.mn_perform.specs.Prelude.{most_script_lines, Framed, command_fits, AllFit, Expansion, with_line, start_of, expanded, is_show, IsPaced, IsFor, told_packets};
+ghost use Rattle.mn_perform.specs.Prelude.{most_script_lines, Framed, command_fits, AllFit, Expansion, with_line, start_of, expanded, is_show, IsPaced};
+ghost use Rattle.mn_perform.specs.Recorded.{IsFor, told_packets};
 ghost use Rattle.mn_perform.specs.Faults.{Blamed};
 ghost use Rattle.mn_perform.specs.Running.{Stands, Keeps, Went};
 
+use crate::books::Books;
 use crate::desk::Desk;
 use crate::ended::{Ended, Fault};
+use crate::recorder::record_line;
 use crate::show::put_shown;
 use mn_capture::Capture;
 use mn_edge::{Shelf, Sink};
-use mn_record::{Books, Net, Stopped, record_line};
+use mn_sched::{Net, Stopped};
 use mn_script::{Command, Line};
 
 /// Plays a line that isn't a table, and notes what became of it.

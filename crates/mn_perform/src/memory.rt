@@ -6,8 +6,9 @@ ghost use Rattle.mn_pcap.specs.declared.refusal.PcapBad.TheVariants.{NoMemory};
 ghost use Rattle.mn_perform.specs.Memory.{packets_at};
 ghost use Rattle.mn_perform.specs.MemoryLaws.{has_each};
 
+use crate::recorder::is_record;
 use mn_pcap::{LinkKind, PcapBad, Place, packet_of, read_header, records};
-use mn_record::{Done, Net, Watch, WatchBad, is_record};
+use mn_sched::{Done, Net, Watch, WatchBad};
 use std::alloc::Global;
 use std::marker::Model;
 

@@ -1,7 +1,8 @@
 //! A whole run.
 ghost use Rattle.std.specs.Prelude.{◌≡◌, ◌≢◌, ◌⊎◌, ◌≤◌, ◌++◌, [], false, List, ℕ, length, None, Some, Ok, Err, OnOk, OnErr};
 ghost use Rattle.std.specs.Option.{ForSome};
-ghost use Rattle.mn_perform.specs.Prelude.{most_script_lines, Absent, Files, Framed, Lacking, named, laid, PartWritten, AllFit, inputs_of, PutOn, PartPut, whole_at, IsFor, told_packets, start_of, expanded};
+ghost use Rattle.mn_perform.specs.Prelude.{most_script_lines, Absent, Files, Framed, Lacking, named, laid, PartWritten, AllFit, inputs_of, PutOn, PartPut, start_of, expanded};
+ghost use Rattle.mn_perform.specs.Recorded.{IsFor, told_packets, whole_at};
 ghost use Rattle.mn_ledger.specs.Ledger.{packets_of};
 ghost use Rattle.mn_perform.specs.Faults.{Blamed};
 ghost use Rattle.mn_perform.specs.Inside.{is_inside};
@@ -9,12 +10,13 @@ ghost use Rattle.mn_perform.specs.Running.{notes_text, Keeps, Stands};
 ghost use Rattle.mn_perform.specs.Whole.{last_text, running, running_files, BegunAtRead, UntoldAtRead, RunEnds, RunFiles, RunText, IsLate};
 ghost use Rattle.mn_perform.specs.Whole.{ForRun, ForPackets, FilesOf, TextOf, EndsAs, TellsLate};
 
+use crate::books::Books;
 use crate::desk::Desk;
 use crate::ended::{Ended, Fault};
 use crate::lines::perform_lines;
 use mn_capture::Capture;
 use mn_edge::{Shelf, Sink};
-use mn_record::{Books, Net};
+use mn_sched::Net;
 use mn_script::Line;
 use mn_topo::Topology;
 use std::alloc::Global;

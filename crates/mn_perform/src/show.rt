@@ -1,16 +1,18 @@
 //! A table, with the packet of the record that it names.
 ghost use Rattle.std.specs.Prelude.{◌≡◌, true, List, ℕ, Option, Some, OnOk, OnErr, IfOk};
-ghost use Rattle.mn_perform.specs.Prelude.{Absent, command_fits, Puts, PutsPart, packet_for, table_text, StandsFor, told_packets};
+ghost use Rattle.mn_perform.specs.Prelude.{Absent, command_fits, Puts, PutsPart, packet_for, table_text, StandsFor};
+ghost use Rattle.mn_perform.specs.Recorded.{told_packets};
 ghost use Rattle.mn_script.specs.declared.command.Command.TheVariants as command;
 ghost use Rattle.mn_report.specs.Frames.{packet_of as packet_shown};
 ghost use Rattle.mn_perform.specs.Faults.{Blamed};
 
 use crate::desk::Desk;
 use crate::ended::Fault;
+use crate::recorder::is_record;
 use mn_capture::Capture;
 use mn_edge::{DeviceBad, Shelf, Sink};
 use mn_pcap::packet_of;
-use mn_record::{Net, is_record};
+use mn_sched::Net;
 use mn_script::Show;
 
 /// The packet of the record that a table names, fetched into the buffer: none where it names none, or the capture hasn't the record.

@@ -11,7 +11,7 @@ use crate::desk::Desk;
 use crate::ended::{Ended, Fault};
 use crate::memory::{InMemory, MemoryCapture};
 use mn_edge::Sink;
-use mn_record::{Net, Played, Stopped, play};
+use mn_sched::{Net, Played, Stopped, play};
 use mn_script::{Command, Line};
 use mn_topo::Topology;
 use std::alloc::{AllocError, Global};

@@ -9,7 +9,7 @@ use Rattle.mn_stack.specs.Reading.{frame_of}
 use Rattle.mn_lfib.specs.declared.answer.Forwarded.{Forwarded}
 use Rattle.mn_topo.specs.Network.{Network}
 use Rattle.mn_topo.specs.declared.steps.JournalEntry.{JournalEntry}
-use Rattle.mn_shown_laws.specs.Shown.{shown}
+use Rattle.mn_output_laws.specs.ShownFrames.{shown}
 use Rattle.mn_output_laws.specs.Shown.{unread_name, unread_text, outcome_text, read_text, frame_line, said_line}
 use Rattle.mn_tables.specs.Telling.{Stand, Tells}
 use Rattle.mn_tables.proofs.Telling.{Answer, tells_as}

@@ -8,7 +8,7 @@ use mn_base::NodeNo;
 use mn_edge::{DeviceBad, Sink};
 use mn_lines::Page;
 use mn_net::Net;
-use mn_shown_laws::a_table_is_told;
+use mn_output_laws::a_table_is_told;
 use mn_stack::{Frame, FrameBad};
 use mn_tables::{put_outcome, put_unread};
 use std::alloc::Global;

@@ -35,10 +35,10 @@ use Rattle.mn_reuse_laws.proofs.Answering.{Released, released_step}
 use Rattle.mn_reuse_laws.proofs.Blocking.{rest_blocks, hop_mapped, over_mapped, link_at}
 use Rattle.mn_reuse_laws.proofs.Resting.{rest_begins}
 use Rattle.mn_base.proofs.Bools.{never}
-use Rattle.mn_age_laws.proofs.Aging.{AreYoung, AreLasting, lasting_of, flown, timed_young, timed_all, grown_young, clock_then, clock_is}
+use Rattle.mn_ledger_laws.proofs.Aging.{AreYoung, AreLasting, lasting_of, flown, timed_young, timed_all, grown_young, clock_then, clock_is}
 use Rattle.mn_reuse_laws.specs.Laws.{WereSentBefore, FramesKeepTheirLabels}
 use Rattle.mn_reuse_laws.proofs.Over.{keeps_its_label}
-use Rattle.mn_age_laws.proofs.Sending.{grows, sends_in}
+use Rattle.mn_ledger_laws.proofs.Sending.{grows, sends_in}
 
 -- 1. Frames that fly to a node where their FEC is at rest
 

@@ -7,5 +7,6 @@ pub mod LawfulLinks
 pub mod LawfulVrfs
 pub mod Prefixes
 pub mod LawfulSites
+pub mod SiteSteps
 pub mod LawfulNetwork
 pub mod Chain

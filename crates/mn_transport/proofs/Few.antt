@@ -10,7 +10,7 @@ use Rattle.mn_node.specs.Node.{Session, Node, session_at, knowledge_in}
 use Rattle.mn_node.specs.Machine.{Event, Learns, Opens, Closes, Hears, answer_in, answers, said, changed, speaks_first}
 use Rattle.mn_ldp_session.specs.Spelling.{pdus, one_said}
 use Rattle.mn_labels.specs.Labels.{Labels, own_labels}
-use Rattle.mn_item_laws.proofs.Steps.{few_answers, few_news}
+use Rattle.mn_ledger_laws.proofs.Steps.{few_answers, few_news}
 use Rattle.mn_lsr.specs.Turns.{Kept}
 use Rattle.mn_lsr.specs.Turns.{kept_in, labels_then}
 use Rattle.mn_lsr.specs.Said.{pdu_of}

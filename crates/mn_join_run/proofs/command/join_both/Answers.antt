@@ -4,7 +4,7 @@ use Rattle.mn_answer.specs.Inputs.{JointsAre, JointsFit}
 use Rattle.mn_answer.specs.Endings.{Answers}
 use Rattle.mn_answer.specs.Answer.{with_joints}
 use Rattle.mn_answer.proofs.Ending.{fault_answers, memory_answers, caused_after, caused_read, sink_caused}
-use Rattle.mn_join_report.specs.Pairs.{AreSites, AreApart}
+use Rattle.mn_join.specs.Pairs.{AreSites, AreApart}
 use Rattle.mn_join_run.specs.Answer.{with_both, with_pairing}
 use Rattle.mn_join_run.proofs.Told.{undone, refused}
 use Rattle.mn_join_run.proofs.command.join_both.Goals as goal

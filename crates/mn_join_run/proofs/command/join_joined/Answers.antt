@@ -6,7 +6,7 @@ use Rattle.mn_answer.specs.Endings.{Answers}
 use Rattle.mn_answer.specs.Answer.{with_lines_of}
 use Rattle.mn_answer.proofs.Ending.{fault_answers, memory_answers, caused_after, caused_read, sink_caused}
 use Rattle.mn_join_run.specs.Answer.{with_pairing, with_script}
-use Rattle.mn_join_report.specs.Pairs.{pairing_of}
+use Rattle.mn_join.specs.Pairs.{pairing_of}
 use Rattle.mn_join_script.specs.Language.{join_says, line_fits}
 use Rattle.mn_join_run.proofs.Told.{undone, refused}
 use Rattle.mn_join_run.proofs.command.join_joined.Goals as goal

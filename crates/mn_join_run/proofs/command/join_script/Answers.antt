@@ -8,7 +8,7 @@ use Rattle.mn_answer.specs.Inputs.{CaptureIs, CaptureOf}
 use Rattle.mn_answer.specs.Endings.{Answers}
 use Rattle.mn_answer.specs.Answer.{with_capture}
 use Rattle.mn_answer.proofs.Ending.{fault_answers, memory_answers, caused_after, caused_read, sink_caused}
-use Rattle.mn_join_report.specs.Pairs.{pairing_of}
+use Rattle.mn_join.specs.Pairs.{pairing_of}
 use Rattle.mn_perform.specs.Inside.{is_inside}
 use Rattle.mn_join_run.specs.Answer.{join_done, with_script}
 use Rattle.mn_join_run.proofs.Told.{undone, refused, played_told}

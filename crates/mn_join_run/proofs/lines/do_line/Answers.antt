@@ -6,7 +6,7 @@ use Rattle.mn_edge.specs.KeptLaws.{framed_same}
 use Rattle.mn_perform.specs.Recorded.{told_packets}
 use Rattle.mn_perform.proofs.Blaming.{absent_untold, blamed_by, blamed_after}
 use Rattle.mn_perform.specs.declared.ended.Fault.TheVariants.{Read, NoMemory}
-use Rattle.mn_join_report.specs.Course.{with_packet}
+use Rattle.mn_join_run.specs.Course.{with_packet}
 use Rattle.mn_join_run.specs.Outside.{outside}
 use Rattle.mn_join_run.specs.Playing.{Keeps}
 use Rattle.mn_join_run.specs.declared.desk.Desk.{Desk}

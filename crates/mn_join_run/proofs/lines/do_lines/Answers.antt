@@ -6,7 +6,7 @@ use Rattle.mn_perform.specs.Recorded.{told_packets}
 use Rattle.mn_perform.proofs.Blaming.{blamed_by, blamed_after}
 use Rattle.mn_perform.proofs.Adding.{framed_then}
 use Rattle.mn_perform.proofs.Results.{err_is}
-use Rattle.mn_join_report.specs.Course.{at_start}
+use Rattle.mn_join_run.specs.Course.{at_start}
 use Rattle.mn_join_run.specs.Outside.{outside}
 use Rattle.mn_join_run.proofs.Going.{goes_on, stops, breaks, all_gone}
 use Rattle.mn_join_run.proofs.lines.do_lines.Goals as goal

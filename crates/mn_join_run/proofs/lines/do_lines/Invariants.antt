@@ -1,7 +1,7 @@
 use Rattle.std.proofs.Common.{◌≡◌}
 use Rattle.mn_edge.specs.Kept.{Framed}
 use Rattle.mn_join_laws.specs.Pairing.{Pairing}
-use Rattle.mn_join_report.specs.Course.{at_start}
+use Rattle.mn_join_run.specs.Course.{at_start}
 use Rattle.mn_join_run.specs.Outside.{Start, outside}
 use Rattle.mn_join_run.specs.Playing.{Keeps, IsAt}
 use Rattle.mn_join_run.proofs.lines.do_lines.Given as goal

@@ -5,8 +5,8 @@ use Rattle.mn_course_laws.specs.Expansion.{sending_by}
 use Rattle.mn_lines.specs.Lines.{refused_line, cause_text}
 use Rattle.mn_lines.specs.Putting.{Puts, PutsPart}
 use Rattle.mn_join_laws.specs.Pairing.{network}
-use Rattle.mn_join_report.specs.Course.{goes_on, after_course}
-use Rattle.mn_join_report.specs.Report.{refused_texts, exit_record, exits_file}
+use Rattle.mn_join_run.specs.Course.{goes_on, after_course}
+use Rattle.mn_join_run.specs.Report.{refused_texts, exit_record, exits_file}
 use Rattle.mn_join_run.specs.Outside.{outside, Stands, IsCut, Holding, Beginning}
 use Rattle.mn_join_run.specs.Playing.{ending_of, IsNoted}
 use Rattle.mn_join_run.specs.declared.desk.Desk.{Desk}

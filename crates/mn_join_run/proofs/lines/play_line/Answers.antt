@@ -1,10 +1,10 @@
 use Rattle.std.proofs.Common.{◌≡◌, ◌++◌, ℕ, List, Some, None, Ok, Err, sym, subst}
 use Rattle.std.specs.List.{flat_map}
 use Rattle.mn_join_laws.specs.Course.{PairCourse, played}
-use Rattle.mn_join_report.specs.PairBad.TheVariants.{TooManySteps}
-use Rattle.mn_join_report.specs.Plays.{Plays}
-use Rattle.mn_join_report.specs.Course.{after_course}
-use Rattle.mn_join_report.specs.Report.{exit_record}
+use Rattle.mn_join.specs.declared.played.PairBad.TheVariants.{TooManySteps}
+use Rattle.mn_join.specs.Plays.{Plays}
+use Rattle.mn_join_run.specs.Course.{after_course}
+use Rattle.mn_join_run.specs.Report.{exit_record}
 use Rattle.mn_join_run.specs.Outside.{outside, Holding, Beginning}
 use Rattle.mn_join_run.proofs.Noting.{stands_out, cut_out, cut_noted}
 use Rattle.mn_join_run.proofs.Played.{went_cut, exits_are, stood_after, topology_of, line_kept, line_noted_cut, line_stops, line_unplayed}

@@ -5,10 +5,10 @@ use Rattle.mn_edge.specs.Kept.{Framed}
 use Rattle.mn_edge.specs.KeptLaws.{framed_both}
 use Rattle.mn_edge.specs.Laid.{named}
 use Rattle.mn_edge.specs.Written.{laid}
-use Rattle.mn_join_report.specs.Report.{exits_file}
+use Rattle.mn_join_run.specs.Report.{exits_file}
 use Rattle.mn_join_run.specs.Outside.{Holding, Beginning}
 use Rattle.mn_join_run.specs.Ending.{RunEnds}
-use Rattle.mn_join_run.proofs.Ends.{stood, has_ended, ends_as, ended_lawful, file_fails, text_fails, all_ends}
+use Rattle.mn_join_run.proofs.Endings.{stood, has_ended, ends_as, ended_lawful, file_fails, text_fails, all_ends}
 use Rattle.mn_join_run.proofs.Runs.{no_read_of, report_part, report_cut, report_put}
 use Rattle.mn_join_run.proofs.run.finish.Goals as goal
 

@@ -5,9 +5,9 @@ use Rattle.mn_capture.specs.Packets.{packets_in}
 use Rattle.mn_answer.specs.Endings.{Answers, CausedBy}
 use Rattle.mn_answer.proofs.Ending.{memory_answers}
 use Rattle.mn_join_laws.specs.declared.leg.Which.TheVariants.{First, Second}
-use Rattle.mn_join_report.specs.Pairs.{pairing_of}
+use Rattle.mn_join.specs.Pairs.{pairing_of}
 use Rattle.mn_join_script.specs.Language.{line_fits}
-use Rattle.mn_join_report.specs.Course.{run_of}
+use Rattle.mn_join_run.specs.Course.{run_of}
 use Rattle.mn_join_run.specs.Answer.{run_done, join_done}
 use Rattle.mn_join_run.specs.Ending.{AreLawfulIfDone, RunEnds, start_in}
 use Rattle.mn_join_run.proofs.Telling.{played, blames, no_usage}

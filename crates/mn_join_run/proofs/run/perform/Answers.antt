@@ -8,10 +8,10 @@ use Rattle.mn_perform.specs.Recorded.{told_packets}
 use Rattle.mn_perform.proofs.Blaming.{blamed_by, blamed_after, blamed_told, untold_absent}
 use Rattle.mn_perform.proofs.Results.{err_is}
 use Rattle.mn_perform.specs.declared.ended.Fault.TheVariants.{NoMemory}
-use Rattle.mn_join_report.specs.Course.{run_of}
+use Rattle.mn_join_run.specs.Course.{run_of}
 use Rattle.mn_join_run.specs.Outside.{Start, outside}
 use Rattle.mn_join_run.specs.Ending.{RunEnds, start_in}
-use Rattle.mn_join_run.proofs.Ends.{is_ended}
+use Rattle.mn_join_run.proofs.Endings.{is_ended}
 use Rattle.mn_join_run.proofs.Runs.{no_read_of, not_begun, packets_told, stands_at_start, keeps_at_start, unplayed, lines_break, lines_end}
 use Rattle.mn_join_run.proofs.run.perform.Goals as goal
 

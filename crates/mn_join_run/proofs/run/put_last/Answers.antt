@@ -2,9 +2,9 @@ use Rattle.std.proofs.Common.{cond, [], map, refl, sym, ◌∙◌, ap, subst}
 use Rattle.std.specs.Prelude.{codes, false}
 use Rattle.mn_perform.specs.Shown.{sending_of}
 use Rattle.mn_tables.proofs.Telling.{tells_as}
-use Rattle.mn_join_report.specs.Course.{JoinRun}
-use Rattle.mn_join_report.specs.Reading.{IsJoined}
-use Rattle.mn_join_report.specs.Report.{ended_text}
+use Rattle.mn_join_run.specs.Course.{JoinRun}
+use Rattle.mn_join_run.specs.Reading.{IsJoined}
+use Rattle.mn_join_run.specs.Report.{ended_text}
 use Rattle.mn_join_run.specs.Ending.{IsEnded, HasEnded}
 use Rattle.mn_join_run.proofs.run.put_last.Goals as goal
 

@@ -7,7 +7,7 @@ use Rattle.mn_course_laws.specs.Course.{inputs_of}
 use Rattle.mn_course_laws.specs.Expansion.{with_line}
 use Rattle.mn_perform.specs.Running.{Breaks}
 use Rattle.mn_perform.proofs.Played.{table_cut}
-use Rattle.mn_record.specs.Recorded.{told_packets}
+use Rattle.mn_perform.specs.Recorded.{told_packets}
 use Rattle.mn_perform.proofs.Blaming.{absent_untold, blamed_by}
 use Rattle.mn_perform.proofs.Results.{err_is}
 use Rattle.mn_perform.proofs.lines.perform_line.Goals as goal

@@ -2,7 +2,7 @@ use Rattle.std.proofs.Common.{◌≡◌, [], length, true, false, not, None, Ok,
 use Rattle.mn_edge.specs.Kept.{Framed}
 use Rattle.mn_edge.specs.KeptLaws.{framed_same, framed_both}
 use Rattle.mn_course_laws.specs.Expansion.{start_of}
-use Rattle.mn_record.specs.Recorded.{told_packets}
+use Rattle.mn_perform.specs.Recorded.{told_packets}
 use Rattle.mn_perform.specs.declared.ended.Ended.TheVariants.{All, TooManySteps}
 use Rattle.mn_perform.proofs.Ending.{stands_at, still_for}
 use Rattle.mn_perform.proofs.Script.{line_went, goes_on, stops, breaks, all_gone}

@@ -1,7 +1,7 @@
 use Rattle.std.proofs.Common.{◌≡◌, ◌≤◌, ◌+◌, ◌*◌, length}
 use Rattle.std.specs.Option.{ForSome}
 use Rattle.mn_edge.specs.Kept.{Framed}
-use Rattle.mn_record.specs.Recorded.{told_packets}
+use Rattle.mn_perform.specs.Recorded.{told_packets}
 use Rattle.mn_perform.specs.Running.{IsAt}
 use Rattle.mn_perform.proofs.lines.perform_lines.Given as goal
 

@@ -2,7 +2,7 @@ use Rattle.std.proofs.Common.{◌≡◌, None}
 use Rattle.mn_course_laws.specs.Expansion.{expanded}
 use Rattle.mn_edge.specs.KeptLaws.{framed_both}
 use Rattle.mn_perform.proofs.Ending.{run_files, run_text, run_late, broken_files, broken_begun, broken_untold, no_read, untold_unread, notes_begin}
-use Rattle.mn_record.specs.Recorded.{told_packets}
+use Rattle.mn_perform.specs.Recorded.{told_packets}
 use Rattle.mn_edge.specs.KeptLaws.{holds_there}
 use Rattle.mn_perform.proofs.Blaming.{blamed_by, blamed_after, lacking_then}
 use Rattle.mn_perform.proofs.Results.{err_is}

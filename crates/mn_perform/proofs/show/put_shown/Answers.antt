@@ -1,7 +1,7 @@
 use Rattle.std.proofs.Common.{None, subst}
 use Rattle.mn_lines.specs.Putting.{Puts, PutsPart}
 use Rattle.mn_output_laws.specs.Tables.{table_text}
-use Rattle.mn_record.proofs.Growing.{ok_then, err_then}
+use Rattle.mn_sched.proofs.Growing.{ok_then, err_then}
 use Rattle.mn_perform.proofs.Results.{err, err_is}
 use Rattle.mn_perform.proofs.Showing.{none_put, only_sink}
 use Rattle.mn_perform.proofs.show.put_shown.Goals as goal

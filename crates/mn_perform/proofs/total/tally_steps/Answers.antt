@@ -1,5 +1,5 @@
 use Rattle.std.proofs.Common.{refl, arith}
-use Rattle.mn_record.specs.Played.TheVariants.{All, Refused, NoRecord}
+use Rattle.mn_sched.specs.declared.line.Played.TheVariants.{All, Refused, NoRecord}
 use Rattle.mn_perform.proofs.Totals.{line_counted, line_met_full}
 use Rattle.mn_perform.proofs.total.tally_steps.Goals as goal
 

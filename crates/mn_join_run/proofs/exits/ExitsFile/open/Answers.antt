@@ -5,7 +5,7 @@ use Rattle.mn_edge.specs.Kept.{Framed, Lacking}
 use Rattle.mn_edge.specs.KeptLaws.{framed_both, begun-there}
 use Rattle.mn_edge.specs.Laid.{begun_part}
 use Rattle.mn_edge.specs.Written.{texts, Stands}
-use Rattle.mn_join_report.specs.Report.{exits_file}
+use Rattle.mn_join_run.specs.Report.{exits_file}
 use Rattle.mn_perform.proofs.Adding.{on_err}
 use Rattle.mn_perform.proofs.Closing.{framed_begun}
 use Rattle.mn_join_run.specs.Answer.{exits_name}

@@ -3,7 +3,7 @@ use Rattle.std.specs.Prelude.{slice_get}
 use Rattle.std.specs.List.{flat_map}
 use Rattle.mn_perform.proofs.Adding.{on_err, framed_then, writes_out}
 use Rattle.mn_join_laws.specs.Course.{Exit}
-use Rattle.mn_join_report.specs.Report.{exit_record}
+use Rattle.mn_join_run.specs.Report.{exit_record}
 use Rattle.mn_join_run.specs.Outside.{Holding}
 use Rattle.mn_join_run.proofs.Files.{both_grow, second_grows, first_grows, exit_within, no_exit_more, exits_begin, exits_more}
 use Rattle.mn_join_run.proofs.exits.ExitsFile.put_exits.Goals as goal

@@ -1,7 +1,7 @@
 use Rattle.std.proofs.Common.{◌≡◌, ◌++◌, ◌-◌, ◌≤◌, ℕ, List, length, take}
 use Rattle.std.specs.List.{flat_map}
 use Rattle.mn_edge.specs.Kept.{Framed}
-use Rattle.mn_join_report.specs.Report.{exit_record}
+use Rattle.mn_join_run.specs.Report.{exit_record}
 use Rattle.mn_join_run.specs.Outside.{Holding}
 use Rattle.mn_join_run.proofs.exits.ExitsFile.put_exits.Given as goal
 

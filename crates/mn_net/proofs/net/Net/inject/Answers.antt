@@ -1,7 +1,7 @@
 use Rattle.std.proofs.Common.{ℕ, ap, sym, ◌∙◌, ◌+◌, ◌<◌, subst, length, arith}
 use Rattle.std.specs.Prelude.{slice_index}
 use Rattle.mn_flight.specs.Flying.{IsFlight}
-use Rattle.mn_net_refusals.specs.Tallies.{Tally, frame_of}
+use Rattle.mn_net_laws.specs.Tallies.{Tally, frame_of}
 use Rattle.mn_topo.specs.declared.steps.Step.TheVariants as step
 use Rattle.mn_ledger.specs.Ledger.{world_of}
 use Rattle.mn_frame_laws.specs.Given.{given}

@@ -1,8 +1,8 @@
 use Rattle.std.proofs.Common.{◌∙◌, ◌<◌, ◌*◌, arith, ap, sym, subst, length}
 use Rattle.std.specs.Prelude.{◌/◌, ◌%◌, option_map}
 use Rattle.std.specs.Option.{option_copied}
-use Rattle.mn_net_refusals.proofs.Counts.{as_many_nodes}
-use Rattle.mn_net_refusals.proofs.Nexts.{notices_on, pdus_on, messages_on, frames_on}
+use Rattle.mn_net.proofs.Counts.{as_many_nodes}
+use Rattle.mn_net.proofs.Nexts.{notices_on, pdus_on, messages_on, frames_on}
 use Rattle.mn_net_laws.specs.Now.{NetNow, StandsFor}
 use Rattle.mn_net.specs.declared.flight.Flying.{Flying}
 use Rattle.mn_net.specs.Told.{Told, told_at}

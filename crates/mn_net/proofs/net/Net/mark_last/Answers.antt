@@ -1,7 +1,7 @@
 use Rattle.std.proofs.Common.{◌∙◌, sym, ap}
 use Rattle.std.specs.Prelude.{map}
 use Rattle.mn_damage.specs.Same.{unmarked}
-use Rattle.mn_mark_laws.proofs.Still.{marks_last}
+use Rattle.mn_net.proofs.Still.{marks_last}
 use Rattle.mn_net.proofs.Damages.{put_back, still_net, put_marked}
 use Rattle.mn_net.proofs.net.Net.mark_last.Goals as goal
 

@@ -2,7 +2,7 @@ use Rattle.std.proofs.Common.{◌≡◌, ◌+◌, ℕ, true, List, length, Some,
 use Rattle.std.specs.Prelude.{slice_range}
 use Rattle.mn_pcap.specs.Reading.{bytes_at, packet_of}
 use Rattle.mn_course_laws.specs.Course.{record_of}
-use Rattle.mn_record.specs.Watching.{is_record}
+use Rattle.mn_sched.specs.Watching.{is_record}
 use Rattle.mn_perform.specs.Memory.{MemoryView, packets_at}
 use Rattle.mn_perform.proofs.Records.{its_packet}
 use Rattle.mn_perform.proofs.memory.MemoryCapture.packet.Goals as goal

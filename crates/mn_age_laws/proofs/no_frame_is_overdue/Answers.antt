@@ -1,5 +1,0 @@
-use Rattle.mn_age_laws.proofs.Aging.{none_is_overdue}
-use Rattle.mn_age_laws.proofs.no_frame_is_overdue.Goals as goal
-
-pub returns : goal.returns
-returns c = none_is_overdue

@@ -1,5 +1,0 @@
-use Rattle.mn_mark_laws.proofs.Still.{marks_last}
-use Rattle.mn_mark_laws.proofs.a_mark_is_of_the_last_entry.Goals as goal
-
-pub returns : goal.returns
-returns c = marks_last
