@@ -1,0 +1,5 @@
+pub mod Rest
+pub mod Fates
+pub mod Candidates
+pub mod TwoLinks
+pub mod TwoHomes
