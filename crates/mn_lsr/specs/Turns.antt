@@ -1,6 +1,6 @@
 -- Which labels a node's FECs have as something happens to it, and since when they rest: RFC 3031, section 3.14; RFC 5036,
 -- sections 3.5.10 and 3.5.11.
-use Rattle.std.specs.Prelude.{ℕ, ◌==◌, ◌&&◌, Bool, not, List, [], ◌∷◌, filter, Option, Some, None}
+use Rattle.std.specs.Prelude.{ℕ, ◌==◌, ◌&&◌, Bool, not, List, [], ◌∷◌, filter, Option, Some}
 use Rattle.mn_wiring.specs.Wiring.{Wiring, across, nodes_of}
 use Rattle.mn_states.specs.declared.states.LdpState.{LdpState}
 use Rattle.mn_states.specs.declared.states.LdpState.TheVariants.{OpenRec, Operational}
@@ -9,7 +9,7 @@ use Rattle.mn_releases.specs.Rests.{Resting, opened, closed, withdrawn, released
 use Rattle.mn_bindings.specs.Known.{all_stopped}
 use Rattle.mn_node.specs.Ldp.{Message, KeepAlive, Withdraw, Release, Said, Knowledge, offers}
 use Rattle.mn_node.specs.Node.{Node, session_at, knowledge_in}
-use Rattle.mn_node.specs.Machine.{Event, Learns, Opens, Closes, Hears, changed, said, after_event}
+use Rattle.mn_node.specs.Machine.{Event, Closes, Hears, changed, said, after_event}
 use Rattle.mn_lsr.specs.Standing.{Standing, state_in}
 
 -- what a node keeps: of links and sessions, which labels it gave, and since when its FECs are at rest

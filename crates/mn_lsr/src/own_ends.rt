@@ -62,10 +62,15 @@ fn note(ends: &mut Vec<End>, link: LinkNo, noted: Option<Open>) -> Result<(), Al
     ensures ascending { IsAscending ends.new.items }
 {
     match place_of(ends, link) {
-        Ok(place) => ends[place] = End { link, noted },
-        Err(place) => ends.insert(place, End { link, noted })?,
+        Ok(place) => {
+            ends[place] = End { link, noted };
+            Ok(())
+        }
+        Err(place) => {
+            ends.insert(place, End { link, noted })?;
+            Ok(())
+        }
     }
-    Ok(())
 }
 
 /// Whether little was said at an end.
@@ -109,8 +114,7 @@ impl Sessions {
         requires { link.0 < length self.old.items }
         ensures { OnOk result (self.new.items ≡ slice_set self.old.items link.0 session) }
     {
-        note(&mut self.ends, link, session)?;
-        Ok(())
+        note(&mut self.ends, link, session)
     }
 
     /// Whether little was said at each end.

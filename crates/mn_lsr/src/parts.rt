@@ -340,21 +340,21 @@ impl Parts {
         ensures counted { OnOk result (self.new.sessions.items ≡ ends_after self.old.sessions.items (said_on link.0 self.old.me.0 (if holds then meaning message ∷ [] else []))) }
         ensures others { OnOk result (self.new ≡ record self.old { sessions = self.new.sessions }) }
     {
-        if holds {
-            say(
-                alloc,
-                self.me,
-                &self.loopbacks,
-                self.view.ends(),
-                &self.labels,
-                0,
-                link,
-                message,
-                &mut self.sessions,
-                out,
-            )?;
+        if !holds {
+            return Ok(());
         }
-        Ok(())
+        say(
+            alloc,
+            self.me,
+            &self.loopbacks,
+            self.view.ends(),
+            &self.labels,
+            0,
+            link,
+            message,
+            &mut self.sessions,
+            out,
+        )
     }
 
     /// Says what the session replies.

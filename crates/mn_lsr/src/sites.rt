@@ -17,10 +17,11 @@ fn attached_so_far(attached: &mut Vec<u32>, site: SiteNo) -> Result<u32, AllocEr
     ensures same { (other : ℕ) → slice_index_or attached.new.items other 0 ≡ slice_index_or attached.old.items other 0 }
 {
     let at = usize::from(site.0);
-    if attached.len() <= at {
-        attached.resize(at + 1, 0)?;
+    if at < attached.len() {
+        return Ok(attached[at]);
     }
-    Ok(attached[at])
+    attached.resize(at + 1, 0)?;
+    Ok(0)
 }
 
 impl Parts {
