@@ -3,8 +3,7 @@ use Rattle.std.proofs.Common.{ℕ, ◌≡◌, Bool, true, false, cond, List, [],
 use Rattle.std.specs.Prelude.{◌&&◌, not}
 use Rattle.std.specs.List.{flat_map, range_with_len}
 use Rattle.std.proofs.lemmas.List.{append_assoc}
-use Rattle.mn_labels.specs.Labels.{Labels, own_labels, meaning_of, offered}
-use Rattle.mn_lfib.specs.Uses.{use_of}
+use Rattle.mn_labels.specs.Labels.{Labels, own_labels, offered}
 use Rattle.mn_bindings.specs.declared.event.LibEvent.{LibEvent}
 use Rattle.mn_bindings.specs.Bindings.{Bindings, after_events}
 use Rattle.mn_bindings.specs.News.{begun_of, begun, ended_of, ended}
@@ -23,10 +22,9 @@ use Rattle.mn_lsr.specs.declared.parts.Open.{Open}
 use Rattle.mn_lsr.specs.OwnEnds.{Listed}
 use Rattle.mn_lsr.specs.declared.parts.Parts.{Parts}
 use Rattle.mn_lsr.specs.Telling.{said_by_tell, MayTell}
-use Rattle.mn_lsr.specs.Parts.{wiring_in, node_in, kept_of, HaveLabels, SitesStay, Stands, MaySpeak, MayFollow, machines_of, pdus_by, ends_after}
+use Rattle.mn_lsr.specs.Parts.{wiring_in, node_in, kept_of, SitesStay, Stands, MaySpeak, MayFollow, machines_of, pdus_by, ends_after, HasTold}
 use Rattle.mn_lsr.proofs.Saying.{ends_after-append, length-ends_after}
 use Rattle.mn_lsr.proofs.After.{Happens, IsThen, stands-then, kept-of, said-all, may-follow, length-machines, machines-after, no_tells}
-use Rattle.mn_lsr.specs.Standing.{IsUseOf}
 use Rattle.mn_lsr.specs.Turns.{kept_then}
 
 -- messages that bring no label are said alike, whatever labels FECs have and whatever is withdrawn
@@ -62,18 +60,6 @@ known_none known tick =
     (sym (flat_none (ended_of known.bindings known.bindings) (none_ended_at known.bindings) (range_with_len 0 (lib.nodes known.bindings))))
     ∙ ap (λ ts. let k : Known = record { bindings = known.bindings; resting = all_stopped tick (owed_for known.resting ts) (ended known.bindings known.bindings) } in k)
     (sym (no_tells known.bindings))
-
--- what is true once events were followed
-pub record HasTold (q r : Parts) (withdrawn tick : ℕ) (es : List LibEvent) (before after : List Pdu) : Type 0 where
-  pub said : after ≡ before ++ pdus_by (wiring_in q) q.me.0 (own_labels q.me.0 r.labels.labels) withdrawn q.sessions.items
-      (flat_map (said_by_tell (wiring_in q) q.me.0) (tells q.lib.bindings es))
-  pub counted : r.sessions.items ≡ ends_after q.sessions.items (flat_map (said_by_tell (wiring_in q) q.me.0) (tells q.lib.bindings es))
-  pub known : r.lib ≡ known_after q.lib es tick
-  pub labels : r.labels.labels ≡ offered (is_free q.lib tick) q.labels.labels (begun q.lib.bindings (after_events q.lib.bindings es))
-  pub have : HaveLabels q.me.0 (length q.loopbacks.items) (after_events q.lib.bindings es) r.labels
-  pub table : (label : ℕ) → IsUseOf (lib.usable (after_events q.lib.bindings es)) (meaning_of r.labels.labels label) (use_of r.lfib label)
-  pub sites : SitesStay q r
-  pub others : r ≡ record q { sessions = r.sessions; lib = r.lib; labels = r.labels; lfib = r.lfib }
 
 -- the node once an event is over
 pub record IsAfter (p r : Parts) (withdrawn tick : ℕ) (e : Event) (before after_it : List Pdu) : Type 0 where

@@ -1,20 +1,21 @@
 -- The parts of a node, what contracts see of them, and how they hang together.
-use Rattle.std.specs.Prelude.{◌≡◌, ◌≢◌, ◌<◌, ◌≤◌, ◌^◌, ℕ, ◌+◌, ◌==◌, ◌||◌, ◌&&◌, is_some, Bool, true, false, if◌then◌else◌, List, [], ◌∷◌, length, map, slice_index_or}
+use Rattle.std.specs.Prelude.{◌≡◌, ◌≢◌, ◌<◌, ◌≤◌, ◌^◌, ℕ, ◌+◌, ◌==◌, ◌||◌, ◌&&◌, is_some, Bool, true, false, if◌then◌else◌, List, [], ◌∷◌, ◌++◌, length, map, slice_index_or}
 use Rattle.std.specs.Prelude.{slice_set, Option, Some, None, option_map, nat_le, ⊤}
 use Rattle.std.specs.List.{flat_map, range_with_len}
 use Rattle.mn_base.specs.declared.numbers.NodeNo.{NodeNo}
 use Rattle.mn_wiring.specs.Wiring.{Wiring, is_end, across, joining, JoinsNodes}
 use Rattle.mn_linkdb.specs.Learned.{links_up, IsView}
 use Rattle.mn_linkdb.specs.PathTable.{PathTable, next_at}
-use Rattle.mn_labels.specs.Labels.{Labels, LabelTable, label_now, meaning_of, IsTold}
+use Rattle.mn_labels.specs.Labels.{Labels, LabelTable, label_now, own_labels, meaning_of, offered, IsTold}
 use Rattle.mn_releases.specs.Rests.{Resting, row_of, count_in}
 use Rattle.mn_lfib.specs.Uses.{use_of, IsNextHop}
 use Rattle.mn_bindings.specs.declared.event.LibEvent.{LibEvent}
 use Rattle.mn_bindings.specs.declared.event.LibEvent.TheVariants as event
 use Rattle.mn_bindings.specs.Bindings as lib
-use Rattle.mn_bindings.specs.Tells.{releases}
+use Rattle.mn_bindings.specs.News.{begun}
+use Rattle.mn_bindings.specs.Tells.{tells, releases}
 use Rattle.mn_bindings.specs.Bindings.{Bindings}
-use Rattle.mn_bindings.specs.Known.{Known, is_free}
+use Rattle.mn_bindings.specs.Known.{Known, is_free, known_after}
 use Rattle.mn_node.specs.Ldp.{Said}
 use Rattle.mn_node.specs.Node.{Node}
 use Rattle.mn_node.specs.Machine.{loopback_of}
@@ -24,7 +25,7 @@ use Rattle.mn_lsr.specs.declared.parts.Open.{Open}
 use Rattle.mn_lsr.specs.declared.parts.Parts.{Parts}
 use Rattle.mn_lsr.specs.Standing.{IsWired, IsMendedFor, IsUseOf, IsAttachment, sessions_from, attachments}
 use Rattle.mn_lsr.specs.Turns.{Kept}
-use Rattle.mn_lsr.specs.Telling.{MayTell, AreLinks}
+use Rattle.mn_lsr.specs.Telling.{said_by_tell, MayTell, AreLinks}
 use Rattle.mn_lsr.specs.Ties.{AreTied}
 
 abbrev pub wiring_in : Parts → Wiring
@@ -168,3 +169,15 @@ free_of known labels tick fec = if is_some (label_now labels fec) && is_free kno
 abbrev pub ends_after : List (Option Open) → List Said → List (Option Open)
 ends_after ends [] = ends
 ends_after ends (said ∷ sayings) = ends_after (bumped ends said.link) sayings
+
+-- what is true once events were followed
+pub record HasTold (q r : Parts) (withdrawn tick : ℕ) (es : List LibEvent) (before after : List Pdu) : Type 0 where
+  pub said : after ≡ before ++ pdus_by (wiring_in q) q.me.0 (own_labels q.me.0 r.labels.labels) withdrawn q.sessions.items
+      (flat_map (said_by_tell (wiring_in q) q.me.0) (tells q.lib.bindings es))
+  pub counted : r.sessions.items ≡ ends_after q.sessions.items (flat_map (said_by_tell (wiring_in q) q.me.0) (tells q.lib.bindings es))
+  pub known : r.lib ≡ known_after q.lib es tick
+  pub labels : r.labels.labels ≡ offered (is_free q.lib tick) q.labels.labels (begun q.lib.bindings (lib.after_events q.lib.bindings es))
+  pub have : HaveLabels q.me.0 (length q.loopbacks.items) (lib.after_events q.lib.bindings es) r.labels
+  pub table : (label : ℕ) → IsUseOf (lib.usable (lib.after_events q.lib.bindings es)) (meaning_of r.labels.labels label) (use_of r.lfib label)
+  pub sites : SitesStay q r
+  pub others : r ≡ record q { sessions = r.sessions; lib = r.lib; labels = r.labels; lfib = r.lfib }

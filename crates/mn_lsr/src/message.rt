@@ -13,7 +13,7 @@ use std::alloc::{AllocError, Global};
 const IDS: u64 = 1 << 32;
 
 /// What an end of a link says. A FEC is named by its node, whose loopback it is.
-#[derive(Clone, Copy, Debug)]
+#[derive(Clone, Copy)]
 pub enum Message {
     Initialization,
     KeepAlive,

@@ -9,7 +9,7 @@ ghost use Rattle.mn_lsr.specs.Replies.{replied, first_reply, closing_events};
 ghost use Rattle.mn_lsr.specs.Said.{pdu_of};
 ghost use Rattle.mn_lsr.specs.Standing.{HasNumbers, IsUseOf};
 ghost use Rattle.mn_lsr.specs.Turns.{labels_then, resting_then};
-ghost use Rattle.mn_lsr.specs.Parts.{wiring_in, node_in, kept_of, HaveLabels, SitesStay, Stands, MayFollow, MaySpeak, NumbersFit, has_numbers, same_hop, stays, hop_events, said_in, pdus_by, ends_after};
+ghost use Rattle.mn_lsr.specs.Parts.{wiring_in, node_in, kept_of, HaveLabels, SitesStay, Stands, MayFollow, MaySpeak, NumbersFit, has_numbers, same_hop, stays, hop_events, said_in, pdus_by, ends_after, HasTold};
 
 use crate::message::Message;
 use crate::own_ends::Sessions;
@@ -144,16 +144,7 @@ impl Parts {
         requires follow { MayFollow self.old withdrawn events.now }
         requires numbers { NumbersFit self.old.sessions.items (length out.old.items) }
         requires owed { AreFew (2 ^ 62 + length out.old.items) self.old.lib.resting }
-        ensures said { OnOk result (map pdu_of out.new.items ≡ map pdu_of out.old.items ++ pdus_by (wiring_in self.old) self.old.me.0 (own_labels self.old.me.0 self.new.labels.labels) withdrawn
-            self.old.sessions.items (flat_map (said_by_tell (wiring_in self.old) self.old.me.0) (tells self.old.lib.bindings events.now))) }
-        ensures counted { OnOk result (self.new.sessions.items ≡ ends_after self.old.sessions.items (flat_map (said_by_tell (wiring_in self.old) self.old.me.0) (tells self.old.lib.bindings events.now))) }
-        ensures known { OnOk result (self.new.lib ≡ known_after self.old.lib events.now tick) }
-        ensures labels { OnOk result (self.new.labels.labels ≡ offered (is_free self.old.lib tick) self.old.labels.labels
-            (begun self.old.lib.bindings (after_events self.old.lib.bindings events.now))) }
-        ensures have { OnOk result (HaveLabels self.old.me.0 (length self.old.loopbacks.items) (after_events self.old.lib.bindings events.now) self.new.labels) }
-        ensures table { OnOk result ((label : ℕ) → IsUseOf (lib.usable (after_events self.old.lib.bindings events.now)) (meaning_of self.new.labels.labels label) (use_of self.new.lfib label)) }
-        ensures sites { OnOk result (SitesStay self.old self.new) }
-        ensures others { OnOk result (self.new ≡ record self.old { sessions = self.new.sessions; lib = self.new.lib; labels = self.new.labels; lfib = self.new.lfib }) }
+        ensures { OnOk result (HasTold self.old self.new withdrawn tick events.now (map pdu_of out.old.items) (map pdu_of out.new.items)) }
     {
         let nodes = self.view.nodes();
         let free = free_before(alloc, &self.lib, &self.labels, events, nodes, tick)?;
@@ -230,17 +221,7 @@ impl Parts {
         requires follow { MayFollow self.old withdrawn (option_to_list event) }
         requires numbers { NumbersFit self.old.sessions.items (length out.old.items) }
         requires owed { AreFew (2 ^ 62 + length out.old.items) self.old.lib.resting }
-        ensures said { OnOk result (map pdu_of out.new.items ≡ map pdu_of out.old.items ++ pdus_by (wiring_in self.old) self.old.me.0 (own_labels self.old.me.0 self.new.labels.labels) withdrawn
-            self.old.sessions.items (flat_map (said_by_tell (wiring_in self.old) self.old.me.0) (tells self.old.lib.bindings (option_to_list event)))) }
-        ensures counted { OnOk result (self.new.sessions.items ≡ ends_after self.old.sessions.items
-            (flat_map (said_by_tell (wiring_in self.old) self.old.me.0) (tells self.old.lib.bindings (option_to_list event)))) }
-        ensures known { OnOk result (self.new.lib ≡ known_after self.old.lib (option_to_list event) tick) }
-        ensures labels { OnOk result (self.new.labels.labels ≡ offered (is_free self.old.lib tick) self.old.labels.labels
-            (begun self.old.lib.bindings (after_events self.old.lib.bindings (option_to_list event)))) }
-        ensures have { OnOk result (HaveLabels self.old.me.0 (length self.old.loopbacks.items) (after_events self.old.lib.bindings (option_to_list event)) self.new.labels) }
-        ensures table { OnOk result ((label : ℕ) → IsUseOf (lib.usable (after_events self.old.lib.bindings (option_to_list event))) (meaning_of self.new.labels.labels label) (use_of self.new.lfib label)) }
-        ensures sites { OnOk result (SitesStay self.old self.new) }
-        ensures others { OnOk result (self.new ≡ record self.old { sessions = self.new.sessions; lib = self.new.lib; labels = self.new.labels; lfib = self.new.lfib }) }
+        ensures { OnOk result (HasTold self.old self.new withdrawn tick (option_to_list event) (map pdu_of out.old.items) (map pdu_of out.new.items)) }
     {
         match event {
             None => Ok(()),
@@ -260,16 +241,7 @@ impl Parts {
         requires follow { MayFollow self.old withdrawn (event ∷ []) }
         requires numbers { NumbersFit self.old.sessions.items (length out.old.items) }
         requires owed { AreFew (2 ^ 62 + length out.old.items) self.old.lib.resting }
-        ensures said { OnOk result (map pdu_of out.new.items ≡ map pdu_of out.old.items ++ pdus_by (wiring_in self.old) self.old.me.0 (own_labels self.old.me.0 self.new.labels.labels) withdrawn
-            self.old.sessions.items (flat_map (said_by_tell (wiring_in self.old) self.old.me.0) (tells self.old.lib.bindings (event ∷ [])))) }
-        ensures counted { OnOk result (self.new.sessions.items ≡ ends_after self.old.sessions.items (flat_map (said_by_tell (wiring_in self.old) self.old.me.0) (tells self.old.lib.bindings (event ∷ [])))) }
-        ensures known { OnOk result (self.new.lib ≡ known_after self.old.lib (event ∷ []) tick) }
-        ensures labels { OnOk result (self.new.labels.labels ≡ offered (is_free self.old.lib tick) self.old.labels.labels
-            (begun self.old.lib.bindings (after_events self.old.lib.bindings (event ∷ [])))) }
-        ensures have { OnOk result (HaveLabels self.old.me.0 (length self.old.loopbacks.items) (after_events self.old.lib.bindings (event ∷ [])) self.new.labels) }
-        ensures table { OnOk result ((label : ℕ) → IsUseOf (lib.usable (after_events self.old.lib.bindings (event ∷ []))) (meaning_of self.new.labels.labels label) (use_of self.new.lfib label)) }
-        ensures sites { OnOk result (SitesStay self.old self.new) }
-        ensures others { OnOk result (self.new ≡ record self.old { sessions = self.new.sessions; lib = self.new.lib; labels = self.new.labels; lfib = self.new.lfib }) }
+        ensures { OnOk result (HasTold self.old self.new withdrawn tick (event ∷ []) (map pdu_of out.old.items) (map pdu_of out.new.items)) }
     {
         if self.lib.is_aside(event) {
             self.lib.hear_aside(event);

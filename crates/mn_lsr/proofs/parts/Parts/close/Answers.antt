@@ -43,16 +43,7 @@ done c =
     (own_labels p.me.0 p.labels.labels)
     (map pdu_of c.new-out.result.items) (map pdu_of c.new-out.result.items)
     (map pdu_of c.tell.new.out.items) c.set_session.ensures.others c.in_ok-set_session.ensures.set (sym (append-nil (map pdu_of c.new-out.result.items)))
-    (record {
-      said = c.in_ok-tell.ensures.said;
-      counted = c.in_ok-tell.ensures.counted;
-      known = c.in_ok-tell.ensures.known;
-      labels = c.in_ok-tell.ensures.labels;
-      have = c.in_ok-tell.ensures.have;
-      table = c.in_ok-tell.ensures.table;
-      sites = c.in_ok-tell.ensures.sites;
-      others = c.in_ok-tell.ensures.others;
-    })
+    c.in_ok-tell.ensures
 
 pub returns-clause-stands : goal.returns-clause-stands
 returns-clause-stands c = (done (goal.at.returns-clause-stands c).In_ok-tell).stands

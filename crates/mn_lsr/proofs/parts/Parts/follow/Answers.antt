@@ -1,10 +1,10 @@
 use Rattle.std.proofs.Common.{Result, Ok, Err, OnOk, ◌≢◌, ℕ, ◌≡◌, ◌+◌, ◌<◌, ◌^◌, List, [], ◌∷◌, length, map, arith, rules, refl, sym, ◌∙◌, ap, subst}
 use Rattle.mn_bindings.specs.declared.event.LibEvent.{LibEvent}
 use Rattle.std.specs.List.{All, flat_map, range_with_len}
-use Rattle.std.proofs.lemmas.Result.{IfOk-weaker}
 use Rattle.mn_base.specs.declared.numbers.NodeNo.{NodeNo}
-use Rattle.mn_labels.specs.Labels.{Labels, numbers, is_one_of, offered}
-use Rattle.mn_bindings.specs.Bindings.{nodes, after_events}
+use Rattle.mn_labels.specs.Labels.{Labels, numbers, is_one_of, offered, meaning_of}
+use Rattle.mn_lfib.specs.Uses.{use_of}
+use Rattle.mn_bindings.specs.Bindings.{nodes, after_events, usable}
 use Rattle.mn_bindings.specs.News.{AreBelow, fecs_in, begun}
 use Rattle.mn_bindings.specs.Tells.{tells}
 use Rattle.mn_bindings.specs.Known.{Known}
@@ -12,7 +12,9 @@ use Rattle.mn_bindings.proofs.Events.{nodes-after_events}
 use Rattle.mn_bindings.proofs.Staying.{below}
 use Rattle.mn_lsr.specs.declared.parts.Parts.{Parts}
 use Rattle.mn_lsr.specs.Telling.{MayTell}
-use Rattle.mn_lsr.specs.Parts.{free_of}
+use Rattle.mn_lsr.specs.Said.{pdu_of}
+use Rattle.mn_lsr.specs.Standing.{IsUseOf}
+use Rattle.mn_lsr.specs.Parts.{free_of, SitesStay, HasTold}
 use Rattle.mn_lsr.proofs.Followed.{IsOffered, tells-few, others_begin, labels_are, have, may_tell, none_of_sites, table_is, sites_are}
 use Rattle.mn_lsr.proofs.parts.Parts.follow.Goals as goal
 use Rattle.mn_lsr.proofs.parts.Parts.follow.Goals.{After-given-given}
@@ -115,32 +117,29 @@ use_new_ways-requires-clause-free c =
     none_of_sites c.args.self.now c.args.withdrawn c.args.events.now c.requires.follow c.args.tick c.offer.new.self
     (offered_is (goal.at.use_new_ways-requires-clause-free c).After-given-given)
 
-pub returns-clause-labels : goal.returns-clause-labels
-returns-clause-labels c =
-    IfOk-weaker c.use_new_ways.result _ _
-    (λ x q. labels_are c.args.self.now c.args.withdrawn c.args.events.now c.requires.follow c.args.tick c.offer.new.self
-    (offered_is (goal.at.returns-clause-labels c).After-given-given)) c.use_new_ways.ensures.others
-
-pub returns-clause-have : goal.returns-clause-have
-returns-clause-have c =
-    IfOk-weaker c.use_new_ways.result _ _
-    (λ x q. have c.args.self.now c.args.withdrawn c.args.events.now c.requires.follow c.args.tick c.offer.new.self
-    (offered_is (goal.at.returns-clause-have c).After-given-given)) c.use_new_ways.ensures.others
-
-pub returns-clause-table : goal.returns-clause-table
-returns-clause-table c =
-    both_ok c.use_new_ways.result _ _ _
-    (table_is c.args.self.now c.args.withdrawn c.args.events.now c.requires.follow c.args.tick c.offer.new.self
-    (offered_is (goal.at.returns-clause-table c).After-given-given)
-    c.nodes-nodes.result (c.nodes-nodes.ensures.value ∙ c.requires.follow.view_nodes) c.apply.new.self.bindings
-    (ap (λ (k : Known). k.bindings) c.in_ok-changed.ensures.after) c.use_new_ways.new.lfib)
-    c.use_new_ways.ensures.ways c.use_new_ways.ensures.others
-
-pub returns-clause-sites : goal.returns-clause-sites
-returns-clause-sites c =
-    both_ok c.use_new_ways.result _ _ _
-    (sites_are c.args.self.now c.args.withdrawn c.args.events.now c.requires.follow c.args.tick c.offer.new.self
-    (offered_is (goal.at.returns-clause-sites c).After-given-given)
-    c.nodes-nodes.result (c.nodes-nodes.ensures.value ∙ c.requires.follow.view_nodes) c.apply.new.self.bindings
-    (ap (λ (k : Known). k.bindings) c.in_ok-changed.ensures.after) c.use_new_ways.new.lfib)
-    c.use_new_ways.ensures.ways c.use_new_ways.ensures.others
+pub returns : goal.returns
+returns c =
+    let p : Parts = c.args.self.now in
+    let q : Parts = record p { sessions = c.say_all.new.sessions; lib = c.apply.new.self; labels = c.offer.new.self; lfib = c.use_new_ways.new.lfib } in
+    let es : List LibEvent = c.args.events.now in
+    let newly = offered_is (goal.at.returns c).After-given-given in
+    let many = c.nodes-nodes.ensures.value ∙ c.requires.follow.view_nodes in
+    let bindings = ap (λ (k : Known). k.bindings) c.in_ok-changed.ensures.after in
+    both_ok c.use_new_ways.result _ _
+    (HasTold p q c.args.withdrawn c.args.tick es (map pdu_of c.args.out.now.items) (map pdu_of c.say_all.new.out.items))
+    (λ (table : (label : ℕ) → IsUseOf (usable (after_events p.lib.bindings es)) (meaning_of q.labels.labels label) (use_of q.lfib label)) (sites : SitesStay p q). record {
+      said = search rules;
+      counted = search rules;
+      known = c.in_ok-changed.ensures.after;
+      labels = labels_are p c.args.withdrawn es c.requires.follow c.args.tick c.offer.new.self newly;
+      have = have p c.args.withdrawn es c.requires.follow c.args.tick c.offer.new.self newly;
+      table = table;
+      sites = sites;
+      others = refl;
+    })
+    (both_ok c.use_new_ways.result _ _ _
+    (table_is p c.args.withdrawn es c.requires.follow c.args.tick c.offer.new.self newly c.nodes-nodes.result many c.apply.new.self.bindings bindings c.use_new_ways.new.lfib)
+    c.use_new_ways.ensures.ways c.use_new_ways.ensures.others)
+    (both_ok c.use_new_ways.result _ _ _
+    (sites_are p c.args.withdrawn es c.requires.follow c.args.tick c.offer.new.self newly c.nodes-nodes.result many c.apply.new.self.bindings bindings c.use_new_ways.new.lfib)
+    c.use_new_ways.ensures.ways c.use_new_ways.ensures.others)

@@ -16,10 +16,10 @@ use Rattle.mn_ldp_session.specs.declared.session.Session.{Session}
 use Rattle.mn_lsr.specs.Message.{meaning}
 use Rattle.mn_lsr.specs.Said.{pdu_of}
 use Rattle.mn_lsr.specs.Replies.{replied, heard_by}
-use Rattle.mn_lsr.specs.Parts.{NumbersFit, wiring_in, node_in}
+use Rattle.mn_lsr.specs.Parts.{NumbersFit, wiring_in, node_in, HasTold}
 use Rattle.mn_lsr.proofs.HeardMessage.{meant-is, hearing-as, machine-heard}
 use Rattle.mn_lsr.proofs.After.{Happens}
-use Rattle.mn_lsr.proofs.Tail.{HasTold, IsAfter, IsReplied, after-all, may-follow-then, replied-then, machines-then}
+use Rattle.mn_lsr.proofs.Tail.{IsAfter, IsReplied, after-all, may-follow-then, replied-then, machines-then}
 use Rattle.mn_lsr.proofs.parts.Parts.hear_meant.Goals as goal
 use Rattle.mn_lsr.proofs.parts.Parts.hear_meant.Goals.{In_ok-set_session, In_ok-reply, In_ok-tell}
 
@@ -85,16 +85,7 @@ said c =
 told : (c : In_ok-tell) →
     HasTold c.reply.new.self c.tell.new.self c.args.heard.1 c.args.tick (option_to_list c.event_of-event.result) (map pdu_of c.reply.new.out.items)
     (map pdu_of c.tell.new.out.items)
-told c = record {
-  said = c.in_ok-tell.ensures.said;
-  counted = c.in_ok-tell.ensures.counted;
-  known = c.in_ok-tell.ensures.known;
-  labels = c.in_ok-tell.ensures.labels;
-  have = c.in_ok-tell.ensures.have;
-  table = c.in_ok-tell.ensures.table;
-  sites = c.in_ok-tell.ensures.sites;
-  others = c.in_ok-tell.ensures.others;
-}
+told c = c.in_ok-tell.ensures
 
 done : (c : In_ok-set_session) (r : Parts) (middle : List Pdu) →
     IsReplied c.args.self.now r c.set_session.new.self.sessions.items c.args.link.0 c.in-Ok.reply (map pdu_of c.args.out.now.items) middle

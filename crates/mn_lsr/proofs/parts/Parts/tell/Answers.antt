@@ -1,4 +1,4 @@
-use Rattle.std.proofs.Common.{ℕ, ◌++◌, map, length, sym, ◌∙◌, ap, subst, append-nil, List}
+use Rattle.std.proofs.Common.{refl, ℕ, ◌++◌, map, length, sym, ◌∙◌, ap, subst, append-nil, List}
 use Rattle.std.specs.List.{flat_map}
 use Rattle.std.specs.Option.{option_to_list}
 use Rattle.mn_bindings.specs.declared.event.LibEvent.{LibEvent}
@@ -19,40 +19,30 @@ use Rattle.mn_lsr.proofs.After.{no_tells}
 use Rattle.mn_lsr.proofs.Tail.{known_none, none_begun}
 use Rattle.mn_lsr.proofs.parts.Parts.tell.Goals as goal
 
-pub returns-in-None-clause-said : goal.returns-in-None-clause-said
-returns-in-None-clause-said c =
+pub returns-in-None : goal.returns-in-None
+returns-in-None c =
     let p = c.args.self.now in
-    sym (ap (λ (e : Option LibEvent). map pdu_of c.args.out.now.items ++ pdus_by (wiring_in p) p.me.0 (own_labels p.me.0 p.labels.labels) c.args.withdrawn p.sessions.items
-    (flat_map (said_by_tell (wiring_in p) p.me.0) (tells p.lib.bindings (option_to_list e)))) c.in-None.is
-    ∙ ap (λ (ts : List Tell). map pdu_of c.args.out.now.items ++ pdus_by (wiring_in p) p.me.0 (own_labels p.me.0 p.labels.labels) c.args.withdrawn p.sessions.items
-    (flat_map (said_by_tell (wiring_in p) p.me.0) ts)) (no_tells p.lib.bindings)
-    ∙ append-nil (map pdu_of c.args.out.now.items))
-
-pub returns-in-None-clause-counted : goal.returns-in-None-clause-counted
-returns-in-None-clause-counted c =
-    let p = c.args.self.now in
-    sym (ap (λ (e : Option LibEvent). ends_after p.sessions.items (flat_map (said_by_tell (wiring_in p) p.me.0) (tells p.lib.bindings (option_to_list e)))) c.in-None.is
-    ∙ ap (λ (ts : List Tell). ends_after p.sessions.items (flat_map (said_by_tell (wiring_in p) p.me.0) ts)) (no_tells p.lib.bindings))
-
-pub returns-in-None-clause-known : goal.returns-in-None-clause-known
-returns-in-None-clause-known c =
-    let p = c.args.self.now in
-    known_none p.lib c.args.tick ∙ sym (ap (λ (e : Option LibEvent). known_after p.lib (option_to_list e) c.args.tick) c.in-None.is)
-
-pub returns-in-None-clause-labels : goal.returns-in-None-clause-labels
-returns-in-None-clause-labels c =
-    let p = c.args.self.now in
-    sym (ap (λ (e : Option LibEvent). offered (is_free p.lib c.args.tick) p.labels.labels (begun p.lib.bindings (after_events p.lib.bindings (option_to_list e)))) c.in-None.is
-    ∙ ap (offered (is_free p.lib c.args.tick) p.labels.labels) (none_begun p.lib.bindings))
-
-pub returns-in-None-clause-have : goal.returns-in-None-clause-have
-returns-in-None-clause-have c =
-    let p = c.args.self.now in
-    subst (λ (e : Option LibEvent). HaveLabels p.me.0 (length p.loopbacks.items) (after_events p.lib.bindings (option_to_list e)) p.labels) (sym c.in-None.is)
-    c.requires.follow.labels
-
-pub returns-in-None-clause-table : goal.returns-in-None-clause-table
-returns-in-None-clause-table c =
-    let p = c.args.self.now in
-    subst (λ (e : Option LibEvent). (label : ℕ) → IsUseOf (usable (after_events p.lib.bindings (option_to_list e))) (meaning_of p.labels.labels label)
-    (use_of p.lfib label)) (sym c.in-None.is) c.requires.follow.table
+    record {
+      said =
+          sym (ap (λ (e : Option LibEvent). map pdu_of c.args.out.now.items ++ pdus_by (wiring_in p) p.me.0 (own_labels p.me.0 p.labels.labels) c.args.withdrawn p.sessions.items
+          (flat_map (said_by_tell (wiring_in p) p.me.0) (tells p.lib.bindings (option_to_list e)))) c.in-None.is
+          ∙ ap (λ (ts : List Tell). map pdu_of c.args.out.now.items ++ pdus_by (wiring_in p) p.me.0 (own_labels p.me.0 p.labels.labels) c.args.withdrawn p.sessions.items
+          (flat_map (said_by_tell (wiring_in p) p.me.0) ts)) (no_tells p.lib.bindings)
+          ∙ append-nil (map pdu_of c.args.out.now.items));
+      counted =
+          sym (ap (λ (e : Option LibEvent). ends_after p.sessions.items (flat_map (said_by_tell (wiring_in p) p.me.0) (tells p.lib.bindings (option_to_list e)))) c.in-None.is
+          ∙ ap (λ (ts : List Tell). ends_after p.sessions.items (flat_map (said_by_tell (wiring_in p) p.me.0) ts)) (no_tells p.lib.bindings));
+      known =
+          known_none p.lib c.args.tick ∙ sym (ap (λ (e : Option LibEvent). known_after p.lib (option_to_list e) c.args.tick) c.in-None.is);
+      labels =
+          sym (ap (λ (e : Option LibEvent). offered (is_free p.lib c.args.tick) p.labels.labels (begun p.lib.bindings (after_events p.lib.bindings (option_to_list e)))) c.in-None.is
+          ∙ ap (offered (is_free p.lib c.args.tick) p.labels.labels) (none_begun p.lib.bindings));
+      have =
+          subst (λ (e : Option LibEvent). HaveLabels p.me.0 (length p.loopbacks.items) (after_events p.lib.bindings (option_to_list e)) p.labels) (sym c.in-None.is)
+          c.requires.follow.labels;
+      table =
+          subst (λ (e : Option LibEvent). (label : ℕ) → IsUseOf (usable (after_events p.lib.bindings (option_to_list e))) (meaning_of p.labels.labels label)
+          (use_of p.lfib label)) (sym c.in-None.is) c.requires.follow.table;
+      sites = λ label is. (refl, refl);
+      others = refl;
+    }
