@@ -25,4 +25,3 @@ pub mod Importing
 pub mod Exporting
 pub mod Attaching
 pub mod AtStart
-pub mod After

@@ -1,7 +1,7 @@
 -- A change of the VRF at the place of its number is the change of the VRF of that number.
 use Rattle.std.proofs.Common.{ℕ, zero, suc, ◌≡◌, ◌≢◌, ◌<◌, Bool, true, false, cond, List, [], ◌∷◌, ◌++◌, map, take, drop, length, refl, arith, sym, ◌∙◌, ap}
 use Rattle.std.proofs.Common.{◌+◌, Option, None, subst}
-use Rattle.std.specs.Prelude.{Result, Ok, Err, OnOk, OnErr, slice_set, slice_index_or, ◌==◌, if◌then◌else◌}
+use Rattle.std.specs.Prelude.{Result, Ok, Err, OnOk, OnErr, IfOk, slice_set, slice_index_or, ◌==◌, if◌then◌else◌}
 use Rattle.std.specs.List.{AllByRecursion}
 use Rattle.std.proofs.lemmas.List.{set-get_or, get_or_default, get_or-set_same, set-set}
 use Rattle.mn_base.specs.Ordered.{Ascends}
@@ -148,6 +148,10 @@ stays_at hs at one new one_is e = ap (slice_set hs at) (e ∙ one_is) ∙ set-ge
 pub on_ok : {A E : Type 0} (r : Result A E) (P Q : Type 0) → (P → Q) → OnOk r P → OnOk r Q
 on_ok (Ok x) P Q f h = f h
 on_ok (Err e) P Q f h = h
+
+pub if_ok : {A E : Type 0} (r : Result A E) {P Q : A → Type 0} → ((x : A) → P x → Q x) → IfOk r P → IfOk r Q
+if_ok (Ok x) f h = f x h
+if_ok (Err e) f h = h
 
 pub on_err : {A E : Type 0} (r : Result A E) (P Q : Type 0) → (P → Q) → OnErr r P → OnErr r Q
 on_err (Ok x) P Q f h = h

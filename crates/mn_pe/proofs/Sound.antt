@@ -1,6 +1,7 @@
 -- Each VRF still holds what it should.
 use Rattle.std.proofs.Common.{ℕ, zero, suc, ◌≡◌, ◌≢◌, ◌<◌, ◌≤◌, inl, inr, Bool, true, false, cond, ◌^◌, List, [], ◌∷◌, map, filter, length, refl, sym, ◌∙◌}
-use Rattle.std.proofs.Common.{ap, subst, Option}
+use Rattle.std.proofs.Common.{ap, subst, Option, None, Some}
+use Rattle.std.specs.Option.{option_map, option_and_then}
 use Rattle.std.specs.Prelude.{slice_set, slice_index_or, ◌||◌, ◌==◌, if◌then◌else◌}
 use Rattle.std.specs.List.{AllByRecursion}
 use Rattle.std.proofs.lemmas.List.{set-get_or, get_or-set_same, get_or_default}
@@ -327,6 +328,27 @@ pub by_vrfs : {A : Type 0} (v : ℕ) (f : VrfState → Option A) (holdings : Lis
     numbered v (λ (h : Holding). f h.vrf) holdings ≡ found_in v f (map (λ (h : Holding). h.vrf) holdings)
 by_vrfs v f [] = refl
 by_vrfs v f (h ∷ hs) = ap (λ x. if h.vrf.number == v then f h.vrf else x) (by_vrfs v f hs)
+
+-- what is asked of the VRF of a number is asked of the one that is found, if one is
+asked : {A : Type 0} (b : Bool) (f : Holding → Option A) (h : Holding) (rest : Option A) (found : Option Holding) → rest ≡ option_and_then f found →
+    (if b then f h else rest) ≡ option_and_then f (if b then Some h else found)
+asked true f h rest found e = refl
+asked false f h rest found e = e
+
+asks : {A : Type 0} (v : ℕ) (f : Holding → Option A) (hs : List Holding) → numbered v f hs ≡ option_and_then f (numbered v Some hs)
+asks v f [] = refl
+asks v f (h ∷ hs) = asked (h.vrf.number == v) f h (numbered v f hs) (numbered v Some hs) (asks v f hs)
+
+pub asks_none : {A : Type 0} (v : ℕ) (f : Holding → Option A) (hs : List Holding) → None ≡ numbered v Some hs → numbered v f hs ≡ None
+asks_none v f hs found = asks v f hs ∙ ap (option_and_then f) (sym found)
+
+pub asks_one : {A : Type 0} (v : ℕ) (f : Holding → Option A) (hs : List Holding) (h : Holding) → Some h ≡ numbered v Some hs → numbered v f hs ≡ f h
+asks_one v f hs h found = asks v f hs ∙ ap (option_and_then f) (sym found)
+
+pub asks_each : {A R : Type 0} (v : ℕ) (f : Holding → A) (hs : List Holding) (now : R → Holding) (o : Option R) → option_map now o ≡ numbered v Some hs →
+    option_map (λ x. f (now x)) o ≡ numbered v (λ (h : Holding). Some (f h)) hs
+asks_each v f hs now None found = sym (asks_none v (λ (h : Holding). Some (f h)) hs found)
+asks_each v f hs now (Some x) found = sym (asks_one v (λ (h : Holding). Some (f h)) hs (now x) found)
 
 -- what is asked of the VRF of a number, of an edge that hasn't failed: it holds what it should
 pub looked_up : {A : Type 0} (v : ℕ) (f : List (AddressBlock × Source) → Option A) {items holdings : List Holding} {sites : List VrfNo}

@@ -6,7 +6,7 @@ ghost use Rattle.mn_pe.specs.Held.{export_at};
 ghost use Rattle.mn_pe.specs.Exports.{export_over, exports_by_over, exports_by, exports_among, exports_at_among, exports_over_among, export_by};
 ghost use Rattle.mn_pe.specs.Pe.{found_in, told};
 
-use crate::look::label_at;
+use crate::look::{label_at, vrf_in};
 use mn_base::{Rd, Rt, SiteNo, VrfNo};
 use mn_prefix::Prefix;
 use mn_vrf::{StaticRoute, Vrf};
@@ -253,10 +253,8 @@ pub(crate) fn export_of_in(
 ) -> Result<Option<Export>, AllocError>
     ensures { IfOk result (λ export. export ≡ found_in number.0 (λ (vrf : VrfState). export_by labels.now vrf vrf.exports (static_of prefix vrf.statics)) (told vrfs.now)) }
 {
-    for vrf in vrfs {
-        if vrf.number().0 == number.0 {
-            return told_if(alloc, vrf, labels, vrf.static_of(prefix));
-        }
+    match vrf_in(vrfs, number) {
+        None => Ok(None),
+        Some(vrf) => told_if(alloc, vrf, labels, vrf.static_of(prefix)),
     }
-    Ok(None)
 }

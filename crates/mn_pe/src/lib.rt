@@ -25,7 +25,7 @@
 //! - `spreading`: a static that comes to the VRFs that are to hold it, or goes
 //! - `switching`: routes that come to VRFs, or go, as a target comes to a set or leaves it, and as a site gets a label or
 //!   loses it
-//! - `look`: what the VRF of a number holds, a site's label, and a node's loopback
+//! - `look`: the VRF of a number, a site's label, and a node's loopback
 //! - `export`: `Export`, a route that the edge tells
 //! - `entering`: `Entered`, what becomes of a packet that a site sends
 //! - `laws`: what is read can be heard

@@ -13,9 +13,7 @@ use crate::changes::{add_in, del_in, export_in, import_in, is_want, set_label};
 use crate::entering::{entered_by, head_at_entry};
 use crate::export::{export_of_in, exports_at_in, exports_in, exports_over_in};
 use crate::hearing::{forget_in_all, hear_reached, hear_withdrawn};
-use crate::look::{
-    after_in, held_in, label_at, lookup_among_in, lookup_in, loopback_at, open_at_in, vrf_in,
-};
+use crate::look::{label_at, loopback_at, vrf_in};
 use crate::spreading::spread_present;
 use crate::start::{loopbacks_of, no_labels, nothing_heard, sites_of, vrfs_of};
 use crate::switching::{switch_export, switch_import, switch_site};
@@ -343,7 +341,10 @@ impl Pe {
     pub fn lookup(&self, vrf: VrfNo, address: u32) -> Option<(Prefix, Source)>
         ensures { self.now.failed ≡ false → result ≡ found_in vrf.0 (λ (state : VrfState). longest_match address (held_by self.now.edge state)) self.now.edge.vrfs }
     {
-        lookup_in(&self.vrfs, vrf, address)
+        match vrf_in(&self.vrfs, vrf) {
+            None => None,
+            Some(found) => found.lookup(address),
+        }
     }
 
     /// The best of the open routes that a VRF holds for an address, while the edge hasn't failed: own routes, those of its other VRFs,
@@ -351,21 +352,30 @@ impl Pe {
     pub fn lookup_among(&self, vrf: VrfNo, address: u32, ways: &[bool]) -> Option<(Prefix, Source)>
         ensures { self.now.failed ≡ false → result ≡ found_in vrf.0 (λ (state : VrfState). found_among ways.now address (held_by self.now.edge state)) self.now.edge.vrfs }
     {
-        lookup_among_in(&self.vrfs, vrf, address, ways)
+        match vrf_in(&self.vrfs, vrf) {
+            None => None,
+            Some(found) => found.lookup_among(address, ways),
+        }
     }
 
     /// Where the best of the open routes of a prefix comes from that a VRF holds, while the edge hasn't failed. It takes no memory.
     pub fn open_at(&self, vrf: VrfNo, prefix: Prefix, ways: &[bool]) -> Option<Source>
         ensures { self.now.failed ≡ false → result ≡ found_in vrf.0 (λ (state : VrfState). first_of (filter (is_open ways.now) (sources_of prefix (held_by self.now.edge state)))) self.now.edge.vrfs }
     {
-        open_at_in(&self.vrfs, vrf, prefix, ways)
+        match vrf_in(&self.vrfs, vrf) {
+            None => None,
+            Some(found) => found.open_at(prefix, ways),
+        }
     }
 
     /// The held prefix of this place in a VRF, with the best of its routes, while the edge hasn't failed. It takes no memory.
     pub fn held(&self, vrf: VrfNo, k: u32) -> Option<(Prefix, Source)>
         ensures { self.now.failed ≡ false → result ≡ found_in vrf.0 (λ (state : VrfState). slice_get (heads (held_by self.now.edge state)) k) self.now.edge.vrfs }
     {
-        held_in(&self.vrfs, vrf, k)
+        match vrf_in(&self.vrfs, vrf) {
+            None => None,
+            Some(found) => found.held(k),
+        }
     }
 
     /// The held prefix after a held one in a VRF, with the best of its routes, while the edge hasn't failed. It takes no memory.
@@ -373,7 +383,10 @@ impl Pe {
         ensures { self.now.failed ≡ false → (k : ℕ) → IsHeldAt last (found_in vrf.0 (λ (state : VrfState). slice_get (heads (held_by self.now.edge state)) k) self.now.edge.vrfs) →
             result ≡ found_in vrf.0 (λ (state : VrfState). slice_get (heads (held_by self.now.edge state)) (k + 1)) self.now.edge.vrfs }
     {
-        after_in(&self.vrfs, vrf, last)
+        match vrf_in(&self.vrfs, vrf) {
+            None => None,
+            Some(found) => found.after(last),
+        }
     }
 
     /// A VRF of the edge, with what it was told. It takes no memory.
