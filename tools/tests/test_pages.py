@@ -1,4 +1,5 @@
-"""docs/PROVED.md is as the crates' READMEs have it, the picture of crates/README.md as crates.txt has it, and the README's picture as the player draws it; what isn't so is told."""
+"""docs/PROVED.md is as the crates' READMEs have it, the picture of crates/README.md as crates.txt has it, and the README's picture
+as the player draws it; what isn't so is told."""
 
 import shutil
 import subprocess
