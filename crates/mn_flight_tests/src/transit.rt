@@ -68,28 +68,69 @@ fn packet_alone(alloc: Global) -> Result<Frame, Fail> {
     Ok(frame)
 }
 
-/// The table of p: label 17 is that of pe2's FEC, of which p is the last hop but one.
-fn table_of_p(alloc: Global) -> Result<Lfib, Fail> {
-    let mut table = Lfib::new(alloc);
-    table.set_fec(17, Some((PE2, 3)))?;
-    Ok(table)
+/// The table of a node on the way.
+#[derive(Clone, Copy)]
+enum Table {
+    /// Of p: label 17 is that of pe2's FEC, of which p is the last hop but one.
+    OfP,
+    /// Of pe2, where site b is attached.
+    OfPe2,
+    /// The same once site b was detached and attached anew.
+    LaterOfPe2,
 }
 
-/// The table of pe2 where site b is attached.
-fn table_of_pe2(alloc: Global) -> Result<Lfib, Fail> {
-    let mut table = Lfib::new(alloc);
-    table.set_site(18, Some(SITE_B))?;
-    Ok(table)
+fn made(alloc: Global, table: Table) -> Result<Lfib, Fail> {
+    let mut made = Lfib::new(alloc);
+    match table {
+        Table::OfP => made.set_fec(17, Some((PE2, 3)))?,
+        Table::OfPe2 => made.set_site(18, Some(SITE_B))?,
+        Table::LaterOfPe2 => {
+            made.set_site(18, Some(SITE_B))?;
+            made.set_site(18, None)?;
+            made.set_site(19, Some(SITE_B))?;
+        }
+    }
+    Ok(made)
 }
 
-/// The same once site b was detached and attached anew.
-fn later_table_of_pe2(alloc: Global) -> Result<Lfib, Fail> {
-    let mut table = Lfib::new(alloc);
-    table.set_site(18, Some(SITE_B))?;
-    table.set_site(18, None)?;
-    table.set_site(19, Some(SITE_B))?;
-    Ok(table)
+/// How a packet enters at pe1, as the edge says of it.
+#[derive(Clone, Copy)]
+enum Way {
+    /// It is for site b, and flies to p with p's label for pe2 over that of the site.
+    Out,
+    /// It is for site b, and there is no way to pe2.
+    Nowhere,
+    /// It is for a site of the edge.
+    Local,
+    /// There is no route.
+    NoRoute,
 }
+
+/// What is done in a run, or what holds of it then.
+#[derive(Clone, Copy)]
+enum Act<'a> {
+    /// A packet enters; whether it flies.
+    Inject(Way, bool),
+    /// The first frame on a link comes to its end at a node of this table, at a tick; whether it flies on.
+    Carry(Table, LinkNo, u64, bool),
+    /// The first frame on a link is lost.
+    Lose(LinkNo),
+    Down(LinkNo),
+    /// What became of a packet, and where it was.
+    Ends(u32, Verdict, &'a [NodeNo]),
+    /// The frame of a number: when it is due, and what stands before the packet.
+    Flies(u64, u64, &'a [u8]),
+    /// How many frames fly over a link.
+    On(LinkNo, Dir, u64),
+    /// How many frames fly, and how many bytes.
+    InFlight(u64, u64),
+    /// Whether a frame is due by a tick.
+    IsDue(u64, bool),
+    /// The packet that the last step delivered.
+    Delivers(Option<&'a [u8]>),
+}
+
+use Act::{Carry, Delivers, Down, Ends, Flies, InFlight, Inject, IsDue, Lose, On};
 
 /// A run, whose next step makes an item of this number.
 #[derive(Drop)]
@@ -138,17 +179,25 @@ impl Run {
         Ok(flies)
     }
 
-    /// A packet for site b enters at pe1: it flies to p with p's label for pe2 over that of the site.
-    fn injects_for_b(&mut self, rt: &impl Abort, alloc: Global) -> Result<bool, Fail> {
-        let frame = frame_for_b(alloc)?;
-        let entered = Entered::Tunnel { edge: PE2, frame };
-        self.injects(rt, entered, Some((P, Some(17))))
+    fn enters(&mut self, rt: &impl Abort, alloc: Global, way: Way) -> Result<bool, Fail> {
+        match way {
+            Way::Out => {
+                let frame = frame_for_b(alloc)?;
+                let entered = Entered::Tunnel { edge: PE2, frame };
+                self.injects(rt, entered, Some((P, Some(17))))
+            }
+            Way::Nowhere => {
+                let frame = frame_for_b(alloc)?;
+                self.injects(rt, Entered::Tunnel { edge: PE2, frame }, None)
+            }
+            Way::Local => self.injects(rt, Entered::Local(SITE_B, packet_alone(alloc)?), None),
+            Way::NoRoute => self.injects(rt, Entered::Drop(Rule::NoRoute), None),
+        }
     }
 
     /// The first frame on a link comes to its end.
-    fn carries(&mut self, rt: &impl Abort, table: &Lfib, link: LinkNo, tick: u64) -> bool
-        requires { tick < 1000 }
-    {
+    fn carries(&mut self, rt: &impl Abort, table: &Lfib, link: LinkNo, tick: u64) -> bool {
+        assert!(rt; tick < 1000);
         assert!(rt; self.number < 1000);
         assert!(rt; usize::from(link.0) < self.topology.links().len());
         assert!(rt; self.transit.flying(link, Dir::Forth) > 0);
@@ -201,44 +250,106 @@ impl Run {
         assert_eq!(rt; item.item.frame.bytes(), bytes.as_slice());
         Ok(())
     }
+
+    /// What holds of the run.
+    fn holds(&self, rt: &impl Abort, alloc: Global, act: Act<'_>) -> Result<(), Fail> {
+        match act {
+            Ends(packet, verdict, path) => self.ends(rt, packet, verdict, path),
+            Flies(number, due, stack) => return self.flies(rt, alloc, number, due, stack),
+            On(link, dir, count) => {
+                assert_eq!(rt; self.transit.flying(link, dir), count);
+            }
+            InFlight(frames, bytes) => {
+                assert_eq!(rt; self.transit.in_flight(), frames);
+                assert_eq!(rt; self.transit.flying_bytes(), bytes);
+            }
+            IsDue(tick, is_due) => {
+                assert_eq!(rt; self.transit.earliest(tick).is_some(), is_due);
+            }
+            Delivers(packet) => {
+                assert_eq!(rt; self.transit.delivered(), packet);
+            }
+            _ => {}
+        }
+        Ok(())
+    }
+
+    /// Does an act, or sees that it holds.
+    fn does(&mut self, rt: &impl Abort, alloc: Global, act: Act<'_>) -> Result<(), Fail> {
+        match act {
+            Inject(way, flies) => {
+                let found = self.enters(rt, alloc, way)?;
+                assert_eq!(rt; found, flies);
+            }
+            Carry(table, link, tick, flies) => {
+                let table = made(alloc, table)?;
+                let found = self.carries(rt, &table, link, tick);
+                assert_eq!(rt; found, flies);
+            }
+            Lose(link) => self.loses(rt, link),
+            Down(link) => self.goes_down(rt, link),
+            _ => return self.holds(rt, alloc, act),
+        }
+        Ok(())
+    }
+
+    /// A run of these acts.
+    fn of(rt: &impl Abort, alloc: Global, acts: &[Act<'_>]) -> Result<Run, Fail> {
+        let mut run = Run::begins(alloc)?;
+        for act in acts {
+            run.does(rt, alloc, *act)?;
+        }
+        Ok(run)
+    }
 }
+
+/// A packet for site b enters, and flies.
+const SEND: Act<'static> = Inject(Way::Out, true);
+
+/// The first packet comes to p, and flies on; then to pe2, where it ends.
+const OVER_P: Act<'static> = Carry(Table::OfP, NEAR, 2, true);
+
+const TO_PE2: Act<'static> = Carry(Table::OfPe2, FAR, 4, false);
+
+/// A packet was dropped.
+fn dropped(rule: Rule, node: NodeNo) -> Verdict {
+    Verdict::Dropped { rule, node }
+}
+
+/// Site b has the first packet.
+const DELIVERED_TO_B: Verdict = Verdict::Delivered {
+    site: SITE_B,
+    ttl: 61,
+    copy: 1,
+};
 
 #[test]
 fn a_packet_crosses_two_links(rt: HostRuntime) -> Result<(), Fail> {
-    let mut run = Run::begins(rt.alloc())?;
-    assert!(rt; run.injects_for_b(&rt, rt.alloc())?);
     let flying = Verdict::Flying {
         link: NEAR,
         dir: Dir::Forth,
     };
-    run.ends(&rt, 0, flying, &[PE1]);
-    run.flies(
+    let mut run = Run::of(
         &rt,
         rt.alloc(),
-        0,
-        2,
-        &[0x00, 0x01, 0x10, 0x3f, 0x00, 0x01, 0x21, 0x3f],
+        &[
+            SEND,
+            Ends(0, flying, &[PE1]),
+            Flies(0, 2, &[0x00, 0x01, 0x10, 0x3f, 0x00, 0x01, 0x21, 0x3f]),
+            InFlight(1, 28),
+            OVER_P,
+            Flies(1, 4, &[0x00, 0x01, 0x21, 0x3e]),
+            On(NEAR, Dir::Forth, 0),
+            On(FAR, Dir::Forth, 1),
+            On(FAR, Dir::Back, 0),
+            IsDue(3, false),
+            IsDue(4, true),
+            TO_PE2,
+            Ends(0, DELIVERED_TO_B, &[PE1, P, PE2]),
+            Delivers(Some(DELIVERED.as_slice())),
+            InFlight(0, 0),
+        ],
     )?;
-    assert_eq!(rt; run.transit.flying_bytes(), 28);
-
-    assert!(rt; run.carries(&rt, &table_of_p(rt.alloc())?, NEAR, 2));
-    run.flies(&rt, rt.alloc(), 1, 4, &[0x00, 0x01, 0x21, 0x3e])?;
-    assert_eq!(rt; run.transit.flying(NEAR, Dir::Forth), 0);
-    assert_eq!(rt; run.transit.flying(FAR, Dir::Forth), 1);
-    assert_eq!(rt; run.transit.flying(FAR, Dir::Back), 0);
-    assert!(rt; run.transit.earliest(3).is_none());
-    assert!(rt; run.transit.earliest(4).is_some());
-
-    assert!(rt; !run.carries(&rt, &table_of_pe2(rt.alloc())?, FAR, 4));
-    let delivered = Verdict::Delivered {
-        site: SITE_B,
-        ttl: 61,
-        copy: 1,
-    };
-    run.ends(&rt, 0, delivered, &[PE1, P, PE2]);
-    assert_eq!(rt; run.transit.delivered(), Some(DELIVERED.as_slice()));
-    assert_eq!(rt; run.transit.in_flight(), 0);
-    assert_eq!(rt; run.transit.flying_bytes(), 0);
     run.transit.begin();
     assert!(rt; run.transit.delivered().is_none());
     Ok(())
@@ -247,100 +358,102 @@ fn a_packet_crosses_two_links(rt: HostRuntime) -> Result<(), Fail> {
 /// Site b is attached anew, with label 19, while the packet flies.
 #[test]
 fn an_old_label_is_not_of_the_new_attachment(rt: HostRuntime) -> Result<(), Fail> {
-    let mut run = Run::begins(rt.alloc())?;
-    assert!(rt; run.injects_for_b(&rt, rt.alloc())?);
-    assert!(rt; run.carries(&rt, &table_of_p(rt.alloc())?, NEAR, 2));
-    assert!(rt; !run.carries(&rt, &later_table_of_pe2(rt.alloc())?, FAR, 4));
-    let gone = Verdict::Dropped {
-        rule: Rule::SiteGone,
-        node: PE2,
-    };
-    run.ends(&rt, 0, gone, &[PE1, P, PE2]);
-    assert!(rt; run.transit.delivered().is_none());
+    Run::of(
+        &rt,
+        rt.alloc(),
+        &[
+            SEND,
+            OVER_P,
+            Carry(Table::LaterOfPe2, FAR, 4, false),
+            Ends(0, dropped(Rule::SiteGone, PE2), &[PE1, P, PE2]),
+            Delivers(None),
+        ],
+    )?;
     Ok(())
 }
 
 #[test]
 fn all_on_a_link_are_cut_at_their_sender(rt: HostRuntime) -> Result<(), Fail> {
-    let mut run = Run::begins(rt.alloc())?;
-    for _ in 0..3 {
-        assert!(rt; run.injects_for_b(&rt, rt.alloc())?);
-    }
-    run.goes_down(&rt, FAR);
-    assert_eq!(rt; run.transit.flying(NEAR, Dir::Forth), 3);
-    run.goes_down(&rt, NEAR);
-    assert_eq!(rt; run.transit.in_flight(), 0);
-    assert_eq!(rt; run.transit.flying_bytes(), 0);
-    let cut = Verdict::Dropped {
-        rule: Rule::LinkCut,
-        node: PE1,
-    };
-    for packet in 0..3 {
-        run.ends(&rt, packet, cut, &[PE1]);
-    }
+    let cut = dropped(Rule::LinkCut, PE1);
+    Run::of(
+        &rt,
+        rt.alloc(),
+        &[
+            SEND,
+            SEND,
+            SEND,
+            Down(FAR),
+            On(NEAR, Dir::Forth, 3),
+            Down(NEAR),
+            InFlight(0, 0),
+            Ends(0, cut, &[PE1]),
+            Ends(1, cut, &[PE1]),
+            Ends(2, cut, &[PE1]),
+        ],
+    )?;
     Ok(())
 }
 
 #[test]
 fn the_next_takes_the_place_of_a_lost_one(rt: HostRuntime) -> Result<(), Fail> {
-    let mut run = Run::begins(rt.alloc())?;
-    assert!(rt; run.injects_for_b(&rt, rt.alloc())?);
-    assert!(rt; run.injects_for_b(&rt, rt.alloc())?);
-    run.loses(&rt, NEAR);
-    assert!(rt; run.carries(&rt, &table_of_p(rt.alloc())?, NEAR, 2));
-    assert!(rt; !run.carries(&rt, &table_of_pe2(rt.alloc())?, FAR, 4));
-    let lost = Verdict::Dropped {
-        rule: Rule::Lost,
-        node: PE1,
-    };
-    run.ends(&rt, 0, lost, &[PE1]);
-    let delivered = Verdict::Delivered {
-        site: SITE_B,
-        ttl: 61,
-        copy: 1,
-    };
-    run.ends(&rt, 1, delivered, &[PE1, P, PE2]);
-    assert_eq!(rt; run.transit.flying(NEAR, Dir::Forth), 0);
+    Run::of(
+        &rt,
+        rt.alloc(),
+        &[
+            SEND,
+            SEND,
+            Lose(NEAR),
+            OVER_P,
+            TO_PE2,
+            Ends(0, dropped(Rule::Lost, PE1), &[PE1]),
+            Ends(1, DELIVERED_TO_B, &[PE1, P, PE2]),
+            On(NEAR, Dir::Forth, 0),
+        ],
+    )?;
     Ok(())
 }
 
 #[test]
 fn a_packet_is_dropped_as_it_enters(rt: HostRuntime) -> Result<(), Fail> {
-    let mut run = Run::begins(rt.alloc())?;
-    assert!(rt; !run.injects(&rt, Entered::Drop(Rule::NoRoute), None)?);
-    let no_route = Verdict::Dropped {
-        rule: Rule::NoRoute,
-        node: PE1,
-    };
-    run.ends(&rt, 0, no_route, &[PE1]);
+    Run::of(
+        &rt,
+        rt.alloc(),
+        &[
+            Inject(Way::NoRoute, false),
+            Ends(0, dropped(Rule::NoRoute, PE1), &[PE1]),
+        ],
+    )?;
     Ok(())
 }
 
 #[test]
 fn a_packet_for_a_site_of_its_edge_is_delivered_at_once(rt: HostRuntime) -> Result<(), Fail> {
-    let mut run = Run::begins(rt.alloc())?;
-    let entered = Entered::Local(SITE_B, packet_alone(rt.alloc())?);
-    assert!(rt; !run.injects(&rt, entered, None)?);
     let delivered = Verdict::Delivered {
         site: SITE_B,
         ttl: 63,
         copy: 1,
     };
-    run.ends(&rt, 0, delivered, &[PE1]);
-    assert_eq!(rt; run.transit.delivered(), Some(SENT.as_slice()));
+    Run::of(
+        &rt,
+        rt.alloc(),
+        &[
+            Inject(Way::Local, false),
+            Ends(0, delivered, &[PE1]),
+            Delivers(Some(SENT.as_slice())),
+        ],
+    )?;
     Ok(())
 }
 
 #[test]
 fn a_packet_with_no_way_out_is_dropped_at_its_edge(rt: HostRuntime) -> Result<(), Fail> {
-    let mut run = Run::begins(rt.alloc())?;
-    let frame = frame_for_b(rt.alloc())?;
-    let entered = Entered::Tunnel { edge: PE2, frame };
-    assert!(rt; !run.injects(&rt, entered, None)?);
-    let no_way = Verdict::Dropped {
-        rule: Rule::NoLsp,
-        node: PE1,
-    };
-    run.ends(&rt, 0, no_way, &[PE1]);
+    Run::of(
+        &rt,
+        rt.alloc(),
+        &[
+            Inject(Way::Nowhere, false),
+            Ends(0, dropped(Rule::NoLsp, PE1), &[PE1]),
+        ],
+    )?;
     Ok(())
 }
