@@ -165,6 +165,24 @@ _mplsnet_whatif() {
     fi
 }
 
+_mplsnet_orders() {
+    local word=${COMP_WORDS[COMP_CWORD]}
+    COMPREPLY=()
+    case ${COMP_WORDS[COMP_CWORD - 1]} in
+        --of) _mplsnet_words 'links nodes ldp bgp' "$word"; return ;;
+        --ask) _mplsnet_words 'loops window orders' "$word"; return ;;
+        --html) _mplsnet_files "$word" .html; return ;;
+        --script) _mplsnet_folders "$word"; return ;;
+        --program) _mplsnet_files "$word"; return ;;
+        --only | --site | --every | --delays | --runs | --orders | --seed | --budget | --jobs | --dask) return ;;
+    esac
+    if [[ $word == -* ]]; then
+        _mplsnet_words '--help --of --ask --only --site --down --up --no-resolve --no-witness --every --delays --runs --orders --seed --json --csv --all --script --html --budget --jobs --dask --program --quiet' "$word"
+    else
+        _mplsnet_files "$word" .toml
+    fi
+}
+
 _mplsnet_why() {
     local word=${COMP_WORDS[COMP_CWORD]}
     COMPREPLY=()
@@ -245,6 +263,7 @@ complete -F _mplsnet_wireshark mplsnet-wireshark
 complete -F _mplsnet_play mplsnet-play
 complete -F _mplsnet_decode mplsnet-decode
 complete -F _mplsnet_whatif mplsnet-whatif
+complete -F _mplsnet_orders mplsnet-orders
 complete -F _mplsnet_why mplsnet-why
 complete -F _mplsnet_report mplsnet-report
 complete -F _mplsnet_diff mplsnet-diff

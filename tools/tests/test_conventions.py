@@ -14,7 +14,7 @@ ZSH = ROOT / "completions/_mplsnet"
 FORMATS = (ROOT / "docs/FORMATS.md").read_text()
 
 TOOLS = ["mplsnet-draw", "mplsnet-wireshark", "mplsnet-play", "mplsnet-decode", "mplsnet-read", "mplsnet-lint", "mplsnet-run"]
-TOOLS += ["mplsnet-whatif", "mplsnet-why", "mplsnet-report", "mplsnet-diff", "mplsnet-new"]
+TOOLS += ["mplsnet-whatif", "mplsnet-orders", "mplsnet-why", "mplsnet-report", "mplsnet-diff", "mplsnet-new"]
 
 # What bash would do at the end of the line, in a folder.
 COMPLETE = """
@@ -108,6 +108,7 @@ class Bash(unittest.TestCase):
         self.assertEqual({"topology.toml", "expected"}, self.completed(first, "mplsnet-play", "expected", "--report", "report.txt", ""))
         self.assertEqual({"expected"}, self.completed(first, "mplsnet-decode", "expected", "expected", ""))
         self.assertEqual({"topology.toml", "expected"}, self.completed(first, "mplsnet-whatif", "--only", "p1", ""))
+        self.assertEqual({"window"}, self.completed(first, "mplsnet-orders", "--ask", "w"))
         self.assertEqual({"topology.toml", "expected"}, self.completed(first, "mplsnet-why", "expected", ""))
         self.assertEqual({"packets"}, self.completed(first, "mplsnet-report", "expected", "--csv", "p"))
         self.assertEqual({"waxman"}, self.completed(first, "mplsnet-new", "--family", "w"))

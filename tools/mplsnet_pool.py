@@ -1,0 +1,103 @@
+"""Runs of the program side by side: on this machine, or on the workers of a scheduler of dask.distributed."""
+
+import concurrent.futures
+import multiprocessing
+import os
+import shutil
+import sys
+import tempfile
+import zipfile
+from pathlib import Path
+
+from mplsnet_files import Fault
+from mplsnet_whatif import begin_worker
+
+HERE = Path(__file__).resolve().parent
+
+
+def program_of(named):
+    """The program that runs: the one that is named, or by $MPLSNET, or the one that 'make build' made, or the one in PATH."""
+    named = named or os.environ.get("MPLSNET")
+    built = HERE.parent / "crates/mplsnet/out/mplsnet"
+    path = named or (str(built) if os.access(built, os.X_OK) else shutil.which("mplsnet"))
+    if path is None:
+        raise Fault(f"there is no mplsnet in PATH, and no {built}: 'make build' makes it; --program names another", 3)
+    if not os.access(path, os.X_OK) or os.path.isdir(path):
+        raise Fault(f"{path}: isn't a program that can be run", 3)
+    return os.path.abspath(path)
+
+
+class Local:
+    """Runs on this machine."""
+
+    was_stopped = False
+
+    def __init__(self, count):
+        self.pool = concurrent.futures.ProcessPoolExecutor(count, initializer=begin_worker)
+        self.as_completed = concurrent.futures.as_completed
+
+    def submit(self, function, job):
+        return self.pool.submit(function, job)
+
+    def stop(self):
+        Local.was_stopped = True
+        workers = multiprocessing.active_children()
+        for process in workers:
+            process.terminate()
+        for process in workers:
+            process.join(5)
+            process.kill()
+
+    def close(self):
+        self.pool.shutdown()
+
+
+class Dask:
+    """Runs on the workers of a scheduler, which get the tools' modules with the jobs."""
+
+    def __init__(self, address):
+        try:
+            import distributed
+        except ImportError:
+            raise Fault("--dask needs dask.distributed, which isn't installed (Debian: python3-distributed)", 3)
+        try:
+            self.client = distributed.Client(address, timeout="10s", set_as_default=False)
+        except (OSError, ValueError) as error:
+            raise Fault(f"--dask {address}: {str(error) or type(error).__name__}", 3)
+        with tempfile.TemporaryDirectory() as folder:
+            modules = Path(folder) / "mplsnet_tools.zip"
+            with zipfile.ZipFile(modules, "w") as archive:
+                for path in HERE.glob("mplsnet_*.py"):
+                    archive.write(path, path.name)
+            self.client.upload_file(str(modules))
+        self.as_completed = lambda futures: distributed.as_completed(futures, loop=self.client.loop)
+        self.futures = []
+
+    def submit(self, function, job):
+        self.futures.append(self.client.submit(function, job, pure=False, retries=0))
+        return self.futures[-1]
+
+    def stop(self):
+        self.client.cancel(self.futures)
+        self.client.close()
+
+    def close(self):
+        self.client.close()
+
+
+def result_of(future):
+    """What a run came to; where its process was killed, that is said."""
+    try:
+        return future.result()
+    except Exception as error:
+        if type(error).__name__ in ("BrokenProcessPool", "KilledWorker", "CancelledError"):
+            raise Fault("the process of a run was killed: is there memory enough? A lower --budget and --jobs take less", 3)
+        raise
+
+
+def end(status):
+    """Ends the tool; where runs were stopped, without waiting for what the pool's thread still waits for."""
+    if Local.was_stopped:
+        sys.stderr.flush()
+        os._exit(status)
+    sys.exit(status)
