@@ -9,7 +9,7 @@ import unittest
 from pathlib import Path
 
 EXAMPLES = Path(__file__).resolve().parents[2] / "examples"
-RUNS = "first two-links overlap hub-and-spoke extranet micro-loop dual-homing ordered-control site-moves loss late labels-again damaged ring".split()
+RUNS = "first two-links overlap hub-and-spoke extranet micro-loop maintenance dual-homing ordered-control site-moves loss late labels-again damaged ring".split()
 REPORTED = {"flood": "flood", "older-database": "flood", "reflectors": "reflect"}  # of a report alone, by example the command
 JOINS = ["two-providers"]
 OF_ALL = ["README.md", "topology.toml", "script.txt", "expected/report.txt"]
