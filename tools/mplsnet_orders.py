@@ -22,7 +22,6 @@ MOST_DELAY, LONG = 1_000, 1_000_000  # ticks: the greatest delay, and of a `run`
 MOST_POINTS = 100  # ticks of a window at which packets are sent, where none are asked for
 POINTS, AT_A_POINT, HEARD = 24, 2, 3  # of an order: points, packets at each, and messages of each channel
 SENT = "inject"  # among a case's lines: the place of its packet
-ASTRAY = "astray"  # the packet was delivered at another site than those that it was sent to
 
 
 # Changes.
@@ -177,13 +176,27 @@ class Script:
 
 
 @dataclass(frozen=True)
+class Fall:
+    """What became of a packet that reached no site that it was meant for: the rule and the node that dropped it.
+
+    Where it was delivered elsewhere the rule is Astray, the node is the last of its path, and `astray_to` is the site.
+    """
+
+    rule: str
+    node: str
+    astray_to: str | None = None
+
+    def words(self):
+        return f"{self.rule} at {self.node}" if self.astray_to is None else f"astray to {self.astray_to}"
+
+
+@dataclass(frozen=True)
 class End:
-    """How a packet ended: its probe and mark, and the rule and node that dropped it; none where it was reached."""
+    """How a packet ended: its probe and mark, what became of it where it wasn't reached, and its path."""
 
     probe: int
     mark: object
-    rule: str | None
-    node: str | None
+    fall: Fall | None
     path: str
 
 
@@ -204,11 +217,12 @@ class Reading(whatif.Reading):
         said, _, path = line.rstrip("\n").partition(" path ")
         words = said.split(" ")
         probe, mark = self.job.marks[int(words[3])]
-        verdict, what = words[8], words[9]
+        verdict, what, last = words[8], words[9], path.rsplit(" ", 1)[-1]
         if verdict == "delivered":
-            reached = what in self.job.job.probes[probe].to
-            return End(probe, mark, None if reached else ASTRAY, None if reached else what, path)
-        return End(probe, mark, what if verdict == "dropped" else verdict, words[-1], path)
+            fall = None if what in self.job.job.probes[probe].to else Fall("Astray", last, what)
+        else:
+            fall = Fall(what, last) if verdict == "dropped" else Fall("Flying", last)
+        return End(probe, mark, fall, path)
 
     def steps(self):
         with open(self.out / "journal.txt", "rb") as journal:
@@ -257,7 +271,7 @@ def surveyed(job, folder):
         script.add("flush", *change.lines("up"), "drain")
     reached = [[] for _ in job.work]
     for end in run(script, folder, "survey").ends():
-        if end.rule is None:
+        if end.fall is None:
             reached[end.mark].append(end.probe)
     return reached
 
@@ -313,7 +327,7 @@ def shown(job, folder):
 
 @dataclass
 class Window:
-    """Of a change in one way: the ticks until it had settled, those at which packets were sent, and what was lost: (probe, tick, rule, node)."""
+    """Of a change in one way: the ticks until it had settled, those at which packets were sent, and what was lost: (probe, tick, fall)."""
 
     change: int
     way: str
@@ -387,9 +401,9 @@ def windows(job, folder):
                 window.sent = len(points) * len(change.pairs)
                 found.append(window)
     for end in run(script, folder, "window").ends():
-        if end.rule is not None:
+        if end.fall is not None:
             window, tick = end.mark
-            window.lost.append((end.probe, tick, end.rule, end.node))
+            window.lost.append((end.probe, tick, end.fall))
     return found
 
 
@@ -398,7 +412,7 @@ def windows(job, folder):
 
 @dataclass
 class Order:
-    """A random order of a change in one way: its packets, and those lost: (place among its actions, probe, rule, node)."""
+    """A random order of a change in one way: its packets, and those lost: (place among its actions, probe, fall)."""
 
     change: int
     way: str
@@ -466,8 +480,8 @@ def orders(job, folder):
     for end in run(script, folder, "orders").ends(may_be_empty=True):
         order, place = end.mark
         order.sent += 1
-        if end.rule is not None:
-            order.lost.append((place, end.probe, end.rule, end.node))
+        if end.fall is not None:
+            order.lost.append((place, end.probe, end.fall))
     return found
 
 
@@ -493,8 +507,7 @@ class Case:
     sent: int
     probe: int
     ttl: int
-    rule: str
-    node: str
+    fall: Fall
     draw: int = 0
 
 
@@ -520,7 +533,7 @@ def tried(job, folder):
         script.send(case.probe, number, case.ttl)
         script.add(*case.lines[case.sent + 1 :], "flush", *case.change.after("down"))
     for end, case in zip(run(script, folder, "case").ends(may_be_empty=True), job.work):
-        kept.append((end.rule, end.node) == (case.rule, case.node))
+        kept.append(end.fall == case.fall)
     return kept
 
 

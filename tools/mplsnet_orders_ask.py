@@ -75,7 +75,7 @@ class Asking:
                     jobs += self.halved(job)
                     continue
                 done += len(job.work)
-                self.progress.say(f"{what}: {done} of {all_work}")
+                self.progress.say(f"{what}: {done} of {all_work}" if all_work else what)
                 yield job, found
 
     def halved(self, job):
@@ -100,7 +100,7 @@ class Asking:
         ((_, [(ends, steps)]),) = self.run([self.question.job("rest", [])], "at rest")
         moved = sum(end.path.count(" ") + 2 for end in ends)
         self.bring_up_cost, self.packet_cost = max(steps - moved, 1), -(-moved // len(ends))
-        reached = {end.probe for end in ends if end.rule is None}
+        reached = {end.probe for end in ends if end.fall is None}
         changes = [self.asked_of(change, reached) for change in self.question.changes]
         return Answer(ends, changes, [0] * len(changes))
 
@@ -127,24 +127,30 @@ class Asking:
                 self.progress.say(f"loops: {number + 1} of {len(answer.changes)}")
                 loops, are_all = loops_of(self.hops, change.links[0])
                 answer.are_all = answer.are_all and are_all
-                for way in self.given.ways:
-                    answer.loops[number, way] = [self.met(change, way, loop) for loop in loops]
+                for way in self.given.ways if loops else ():
+                    answer.loops[number, way] = self.met(change, way, loops)
 
-    def met(self, change, way, loop):
-        """The probes that meet the loop, and the order that shows it to the one that comes to it soonest."""
-        choices = self.hops.choices(loop.edge, loop.link)
-        ways = ways_into(choices, loop.nodes)
-        pairs = tuple(probe for probe in change.pairs if self.ends[probe][0] in ways and self.towards(probe, way, loop) == loop.edge)
-        if not pairs:
-            return Met(loop, pairs)
-        first = min(pairs, key=lambda probe: len(ways[self.ends[probe][0]]))
-        return Met(loop, pairs, orders.witness_of(self.net, change, way, loop, choices, first, self.ends[first][0]))
+    def met(self, change, way, loops):
+        """Of each loop the probes that meet it, and the order that shows it to the one that comes to it soonest."""
+        sent, choices, found = {}, {}, []
+        for probe in change.pairs:
+            sent.setdefault((self.ends[probe][0], self.towards(probe, way, change.links[0])), []).append(probe)
+        for loop in loops:
+            if loop.edge not in choices:
+                choices[loop.edge] = self.hops.choices(loop.edge, loop.link)
+            choice = choices[loop.edge]
+            ways = ways_into(choice, loop.nodes)
+            pairs = sorted(probe for source in ways for probe in sent.get((source, loop.edge), ()))
+            first = min(pairs, key=lambda probe: len(ways[self.ends[probe][0]]), default=None)
+            witness = orders.witness_of(self.net, change, way, loop, choice, first, self.ends[first][0]) if pairs else None
+            found.append(Met(loop, tuple(pairs), witness))
+        return found
 
-    def towards(self, probe, way, loop):
+    def towards(self, probe, way, link):
         """The edge towards which the probe is sent before the link's change is heard of."""
         source, edges = self.ends[probe]
         for edge in edges:
-            hops = self.hops.whole[edge] if way == "down" else self.hops.without(edge, [loop.link])
+            hops = self.hops.whole[edge] if way == "down" else self.hops.without(edge, [link])
             if edge == source or not self.question.resolve or source in hops:
                 return edge
         return edges[0]
@@ -152,9 +158,9 @@ class Asking:
     def check_shown(self, job, ends):
         """Each witness has shown its loop."""
         for end, witness in zip(ends, job.work):
-            if (end.rule, end.path) != (LOOPED, witness.path):
+            if (end.fall and end.fall.rule, end.path) != (LOOPED, witness.path):
                 loop = f"{witness.change.failure} {witness.way}: a loop with {', '.join(witness.learns)}"
-                raise Fault(f"{self.given.topology}: {loop} was found, and the program doesn't show it: {end.rule or 'reached'}, path {end.path}, and not {witness.path}", 3)
+                raise Fault(f"{self.given.topology}: {loop} was found, and the program doesn't show it: {end.fall.rule if end.fall else 'delivered'}, path {end.path}, and not {witness.path}", 3)
 
     # All three.
 
@@ -217,7 +223,7 @@ class Asking:
             return None
         one = met.witness
         lines = (*one.lines(), orders.SENT)
-        return orders.Case(one.change, one.way, lines, len(lines) - 1, one.probe, one.ttl, LOOPED, one.path.rsplit(" ", 1)[-1])
+        return orders.Case(one.change, one.way, lines, len(lines) - 1, one.probe, one.ttl, orders.Fall(LOOPED, one.path.rsplit(" ", 1)[-1]))
 
     def worst_window(self, answer):
         """Of the change that loses most packets the probe that loses most, as it first does."""
@@ -229,18 +235,18 @@ class Asking:
         for probe, *_ in worst.lost:
             count[probe] = count.get(probe, 0) + 1
         probe = max(count, key=count.get)
-        tick, rule, node = next(rest for of, *rest in worst.lost if of == probe)
+        tick, fall = next(rest for of, *rest in worst.lost if of == probe)
         job = self.question.job("window", [], delays=self.given.delays, draw=worst.draw)
         lines = orders.window_lines(job, answer.changes[worst.change], worst, tick)
-        return orders.Case(answer.changes[worst.change], worst.way, lines, lines.index(orders.SENT), probe, orders.TTL, rule, node, worst.draw)
+        return orders.Case(answer.changes[worst.change], worst.way, lines, lines.index(orders.SENT), probe, orders.TTL, fall, worst.draw)
 
     def worst_order(self, answer):
         """Of the order that loses most the first packet that goes round, or else the first that is lost."""
         worst = max((order for found in answer.orders.values() for order in found), key=lambda one: len(one.lost), default=None)
         if worst is None or not worst.lost:
             return None
-        place, probe, rule, node = min(worst.lost, key=lambda one: (one[2] != LOOPED, one[0]))
+        place, probe, fall = min(worst.lost, key=lambda one: (one[2].rule != LOOPED, one[0]))
         change = answer.changes[worst.change]
         actions = orders.order_of(self.given.seed, orders.acts_of(self.hops, change, ()), worst.way, worst.number)[:place]
         lines = (*change.lines(worst.way), *(action for action in actions if isinstance(action, str)), orders.SENT)
-        return orders.Case(change, worst.way, lines, len(lines) - 1, probe, orders.TTL, rule, node)
+        return orders.Case(change, worst.way, lines, len(lines) - 1, probe, orders.TTL, fall)

@@ -19,6 +19,7 @@ from mplsnet_topology import topology_text
 
 HERE = Path(__file__).resolve().parent
 SHOWN = 4  # pairs and reasons that the table names of each answer
+MOST_STEPS = 100_000  # that a page of mplsnet-play takes
 MARK = "made by mplsnet-orders"
 FILES = ("topology.toml", "script.txt", "capture.pcap")
 WENT = {("link", "down"): "goes down", ("link", "up"): "comes up", ("node", "down"): "goes down", ("node", "up"): "comes up"}
@@ -44,32 +45,28 @@ def name_of(change, way):
     return f"{change.failure} {way}"
 
 
-def falls(rule, node):
-    return f"{rule} {'to' if rule == orders.ASTRAY else 'at'} {node}"
-
-
 # What each answer comes to.
 
 
 class Sums:
-    """The losses of some windows or orders: by rule and node, and by pair."""
+    """The losses of some windows or orders: by what became of packets, and by pair."""
 
     def __init__(self, losses):
         losses = list(losses)
-        self.reasons = Counter((rule, node) for _, rule, node in losses)
-        self.rules = Counter(rule for _, rule, _ in losses)
-        self.pairs = list(dict.fromkeys(sorted(probe for probe, _, _ in losses)))
+        self.falls = Counter(fall for _, fall in losses)
+        self.rules = Counter(fall.rule for _, fall in losses)
+        self.pairs = sorted({probe for probe, _ in losses})
 
     def words(self, most):
-        return listed((f"{count} {falls(*reason)}" for reason, count in self.reasons.most_common()), most)
+        return listed((f"{count} {fall.words()}" for fall, count in self.falls.most_common()), most)
 
 
 def window_sums(windows):
-    return Sums((probe, rule, node) for window in windows for probe, _, rule, node in window.lost)
+    return Sums((probe, fall) for window in windows for probe, _, fall in window.lost)
 
 
 def order_sums(found):
-    return Sums((probe, rule, node) for order in found for _, probe, rule, node in order.lost)
+    return Sums((probe, fall) for order in found for _, probe, fall in order.lost)
 
 
 def grouped(net, found, way):
@@ -107,7 +104,7 @@ class Telling:
         lossy = [window for window in windows if window.lost]
         if not lossy:
             return
-        ticks = [tick for window in lossy for _, tick, _, _ in window.lost]
+        ticks = [tick for window in lossy for _, tick, _ in window.lost]
         sums, runs = window_sums(windows), f"in {len(lossy)} of {counted(len(windows), 'run')} " if self.given.delays else ""
         every = max(window.every for window in lossy)
         settled = f"settled at tick {max(window.settled for window in windows)}" + (f", sent each {every} ticks" if every > 1 else "")
@@ -146,7 +143,7 @@ class Telling:
 
     def totals(self):
         answer, given = self.answer, self.given
-        unreached = sum(end.rule is not None for end in answer.rest)
+        unreached = sum(end.fall is not None for end in answer.rest)
         ways = " and ".join(given.ways)
         yield f"{counted(len(answer.changes), 'change')}, {ways}, of {counted(len(self.probes), 'pair')}" + (f", {unreached} of them not reached at rest" if unreached else "")
         if "loops" in given.ask:
@@ -159,14 +156,13 @@ class Telling:
 
     def loops_total(self):
         found = [(number, met) for (number, _), loops in self.answer.loops.items() for met in loops]
-        pairs = {probe for _, met in found for probe in met.pairs}
-        links = {number for number, met in found}
-        met = [met for _, met in found if met.pairs]
+        met = [one for _, one in found if one.pairs]
+        pairs = {probe for one in met for probe in one.pairs}
+        links = sum(change.failure.kind == "link" for change in self.answer.changes)
         shown = "not shown by the program" if self.given.no_witness else "each shown by the program"
-        all_links = sum(change.failure.kind == "link" for change in self.answer.changes)
-        bound = "" if self.answer.are_all else "; the search was cut off, so there may be more"
-        shown = f", {shown}" if met else ""
-        return f"loops: {len(found)} by {len(links)} of {counted(all_links, 'link')}; {counted(len(pairs), 'pair')} can meet {len(met)} of them{shown}{bound}"
+        said = f"{len(found)} by {len({number for number, _ in found})} of {counted(links, 'link')}" if found else f"none by {counted(links, 'link')}"
+        said += f"; {len(met)} of them met by {counted(len(pairs), 'pair')}, {shown}" if met else "; no pair meets one" if found else ""
+        return f"loops: {said}" + ("" if self.answer.are_all else "; the search was cut off, so there may be more")
 
     def total(self, what, found, sums, words):
         lossy = [key for key, those in found.items() if any(one.lost for one in those)]
@@ -191,12 +187,12 @@ def as_json(question, answer):
 
     def windows(number, way):
         for one in answer.windows.get((number, way), ()):
-            lost = [{"pair": probe, "tick": tick, "rule": rule, "node": node} for probe, tick, rule, node in one.lost]
+            lost = [{"pair": probe, "tick": tick} | vars(fall) for probe, tick, fall in one.lost]
             yield {"run": one.draw, "settled": one.settled, "every": one.every, "sent": one.sent, "lost": lost}
 
     def random(number, way):
         for one in answer.orders.get((number, way), ()):
-            lost = [{"pair": probe, "rule": rule, "node": node} for _, probe, rule, node in one.lost]
+            lost = [{"pair": probe} | vars(fall) for _, probe, fall in one.lost]
             yield {"order": one.number, "sent": one.sent, "lost": lost}
 
     return {
@@ -204,7 +200,7 @@ def as_json(question, answer):
         "resolve": question.resolve,
         "seed": question.given.seed,
         "all_loops": answer.are_all,
-        "pairs": [{"from": one.site, "to": list(one.to), "prefix": one.prefix, "reached": end.rule is None} for one, end in zip(question.probes, answer.rest)],
+        "pairs": [{"from": one.site, "to": list(one.to), "prefix": one.prefix, "reached": end.fall is None} for one, end in zip(question.probes, answer.rest)],
         "changes": [
             {
                 "kind": change.failure.kind, "name": change.failure.name, "way": way, "cut": answer.cut[number], "pairs": list(change.pairs),
@@ -215,7 +211,7 @@ def as_json(question, answer):
     }  # fmt: skip
 
 
-COLUMNS = ("ask", "kind", "name", "way", "from", "to", "prefix", "rule", "node", "lost", "first", "last", "learned")
+COLUMNS = ("ask", "kind", "name", "way", "from", "to", "prefix", "rule", "node", "astray_to", "lost", "first", "last", "learned")
 
 
 def rows(question, answer):
@@ -227,16 +223,16 @@ def rows(question, answer):
             for met in answer.loops.get((number, way), ()):
                 nodes, learned = (" ".join(net.nodes[node] for node in some) for some in (met.loop.nodes, met.loop.learned(way)))
                 for probe in met.pairs:
-                    yield "loops", *named, *pair_words(question.probes[probe]), "TtlExpired", nodes, "", "", "", learned
+                    yield "loops", *named, *pair_words(question.probes[probe]), "TtlExpired", nodes, None, None, None, None, learned
             ticks = {}
             for window in answer.windows.get((number, way), ()):
-                for probe, tick, rule, node in window.lost:
-                    ticks.setdefault((probe, rule, node), []).append(tick)
-            for (probe, rule, node), those in ticks.items():
-                yield "window", *named, *pair_words(question.probes[probe]), rule, node, len(those), min(those), max(those), ""
+                for probe, tick, fall in window.lost:
+                    ticks.setdefault((probe, fall), []).append(tick)
+            for (probe, fall), those in ticks.items():
+                yield "window", *named, *pair_words(question.probes[probe]), *vars(fall).values(), len(those), min(those), max(those), None
             counts = Counter(loss[1:] for order in answer.orders.get((number, way), ()) for loss in order.lost)
-            for (probe, rule, node), count in counts.items():
-                yield "orders", *named, *pair_words(question.probes[probe]), rule, node, count, "", "", ""
+            for (probe, fall), count in counts.items():
+                yield "orders", *named, *pair_words(question.probes[probe]), *vars(fall).values(), count, None, None, None
 
 
 def pair_words(probe):
@@ -252,7 +248,7 @@ def case_files(question, case):
     job = question.job("case", [], delays=question.given.delays if case.draw else None, draw=case.draw)
     packet = udp_packet(probe.source, probe.address, case.ttl)
     what = f"{failure} {WENT[failure.kind, case.way]}: the packet from {probe.site} to {address_text(int.from_bytes(probe.address, 'big'))}"
-    comments = [f"# {MARK}: {what} ends: {falls(case.rule, case.node)}"]
+    comments = [f"# {MARK}: {what} ends: {case.fall.words()}"]
     settled = [*whatif.bring_up(question.net, True), "drain               # the network has settled", *case.change.before(case.way), ""]
     lines = [f"inject {probe.site} 1" if line == orders.SENT else line for line in joined(case.lines)]
     script = "\n".join([*comments, *settled, *lines, "flush", ""])
@@ -313,8 +309,7 @@ def player(question, case):
             ran = subprocess.run([question.program, "run", *inputs, out], stdout=report, stderr=subprocess.PIPE)
         if ran.returncode != 0:
             raise Fault(f"{question.program} ended with status {ran.returncode}", 3)
-        kinds = [line.split()[1] for line in (out / "journal.txt").read_text(encoding="ascii").splitlines()]
-        first = max(len(kinds) - 200, first_step(question, case, out) or 1)
+        first = first_step(case, out / "journal.txt")
         words = [sys.executable, "-B", HERE / "mplsnet-play", "--from", str(first), "--capture", inputs[2], "--script", inputs[1], out, inputs[0], page]
         ran = subprocess.run(words, capture_output=True, text=True)
         if ran.returncode != 0:
@@ -322,12 +317,12 @@ def player(question, case):
         return page.read_text(encoding="utf-8")
 
 
-def first_step(question, case, out):
-    """The last step by which the case's change comes."""
-    lines = (out / "journal.txt").read_text(encoding="ascii").splitlines()
+def first_step(case, journal):
+    """The step with which a page begins: the first of those by which the case's change comes, as far as a page takes them."""
+    steps = [line.partition(" ")[2] for line in journal.read_text(encoding="ascii").splitlines()]
     change = set(case.change.lines(case.way))
-    steps = [number for number, line in enumerate(lines, 1) if line.split(" ", 1)[1] in change]
-    return steps[-len(change)] if len(steps) >= len(change) else None
+    found = [number for number, step in enumerate(steps, 1) if step in change]
+    return max(found[-len(change)] if len(found) >= len(change) else 1, len(steps) - MOST_STEPS + 1)
 
 
 # The page.
@@ -350,7 +345,7 @@ def page(question, answer):
         parts.append("<h2>The worst, step by step</h2>")
     pages = {ask: player(question, case) for ask, case in answer.cases.items()}
     for ask, case in answer.cases.items():
-        what = f"{ask}: {name_of(case.change, case.way)}, {question.probes[case.probe]}: {falls(case.rule, case.node)}"
+        what = f"{ask}: {name_of(case.change, case.way)}, {question.probes[case.probe]}: {case.fall.words()}"
         parts.append(f"<details class=p><summary>{say(what)}</summary><pre>{say(case_files(question, case)[1].decode())}</pre><iframe id={ask}></iframe></details>")
     parts.append("<h2>Changes by which something is lost</h2>")
     for number, way, lines in telling.changes():

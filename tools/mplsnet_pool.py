@@ -15,15 +15,18 @@ from mplsnet_whatif import begin_worker
 HERE = Path(__file__).resolve().parent
 
 
-def program_of(named):
-    """The program that runs: the one that is named, or by $MPLSNET, or the one that 'make build' made, or the one in PATH."""
+def program_of(named, is_quiet=False):
+    """The program that runs: the one that is named, or by $MPLSNET, the one in PATH, a build of these sources. A trial build is said to be one."""
     named = named or os.environ.get("MPLSNET")
-    built = HERE.parent / "crates/mplsnet/out/mplsnet"
-    path = named or (str(built) if os.access(built, os.X_OK) else shutil.which("mplsnet"))
+    built, trial = HERE.parent / "crates/mplsnet/out/mplsnet", HERE.parent / "trial/mplsnet-trial"
+    places = [named] if named else [shutil.which("mplsnet"), built, trial, shutil.which("mplsnet-trial")]
+    path = next((path for path in places if path and (named or os.access(path, os.X_OK))), None)
     if path is None:
-        raise Fault(f"there is no mplsnet in PATH, and no {built}: 'make build' makes it; --program names another", 3)
+        raise Fault("there is no mplsnet in PATH, and none is built: 'make build' makes it, 'make trial' one that isn't proved; --program names another", 3)
     if not os.access(path, os.X_OK) or os.path.isdir(path):
         raise Fault(f"{path}: isn't a program that can be run", 3)
+    if not named and Path(path).name == "mplsnet-trial" and not is_quiet:
+        print(f"{Path(sys.argv[0]).name}: what runs is a trial build, not proved: {path}", file=sys.stderr)
     return os.path.abspath(path)
 
 

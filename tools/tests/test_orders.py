@@ -156,11 +156,24 @@ class Runs(unittest.TestCase):
         probes, (down, _) = self.micro("window", "link x-pe2")
         self.assertEqual(["a -> b", "b -> a"], list(map(str, probes)))
         self.assertEqual(("down", 3, 1, 8), (down.way, down.settled, down.every, down.sent))
-        self.assertEqual([(1, 0, "NoLsp", "pe2"), (0, 1, "NoLsp", "pe1")], down.lost)
+        self.assertEqual([(1, 0, orders.Fall("NoLsp", "pe2")), (0, 1, orders.Fall("NoLsp", "pe1"))], down.lost)
+
+    def test_a_packet_may_go_astray(self):
+        """As above, and x has a default route: pe1 has no label for pe2 at tick 1 and sends there; x has none at tick 0 and keeps h's packet."""
+        tables = read_topology(MICRO / "topology.toml") | {"resolve": True}
+        tables["vrf"].append({"name": "hub", "node": "x", "rd": "65000:3", "import": ["65000:100"], "export": ["65000:100"]})
+        tables["site"].append({"name": "h", "vrf": "hub", "prefixes": ["0.0.0.0/0"]})
+        net = Net("net", tables)
+        probes = whatif.probes_of(net)
+        (change,) = [one for one in orders.changes_of(net, ["links"]) if one.failure.name == "x-pe2"]
+        down, _ = by_reference("window", tables, probes, [replace(change, pairs=tuple(range(len(probes))))])
+        lost = {(str(probes[probe]), tick, fall.words()) for probe, tick, fall in down.lost}
+        at_pe2 = {("b -> a", 0, "NoLsp at pe2"), ("b -> h", 0, "NoLsp at pe2")}
+        self.assertEqual({("a -> b", 1, "astray to h"), ("h -> b", 0, "astray to h")} | at_pe2, lost)
 
     def test_ticks_apart(self):
         _, (down, _) = self.micro("window", "link x-pe2", every=2)
-        self.assertEqual([(1, 0, "NoLsp", "pe2")], down.lost)
+        self.assertEqual([(1, 0, orders.Fall("NoLsp", "pe2"))], down.lost)
 
     def test_drawn_delays_are_each_nodes_own(self):
         """Packets come to x before it has learned, as none do where all learn at tick 1."""
@@ -168,7 +181,7 @@ class Runs(unittest.TestCase):
         for draw in range(1, 4):
             (down, _) = self.micro("window", "link x-pe2", delays=(1, 9), draw=draw)[1]
             self.assertLessEqual(down.settled, 9 * 6)
-            rules |= {(rule, node) for _, _, rule, node in down.lost}
+            rules |= {(fall.rule, fall.node) for _, _, fall in down.lost}
         self.assertIn(("NoEntry", "x"), rules)
 
     def test_orders_lose_what_can_be_lost(self):
@@ -176,7 +189,7 @@ class Runs(unittest.TestCase):
         acts = lambda change: orders.acts_of(loops.Hops(net), change, (1, 2, 3, 4))
         _, found = self.micro("orders", "link x-pe2", acts)
         self.assertEqual([("down", 1), ("up", 1), ("down", 2), ("up", 2)], [(one.way, one.number) for one in found[:4]])
-        rules = {(one.way, rule, node) for one in found for _, _, rule, node in one.lost}
+        rules = {(one.way, fall.rule, fall.node) for one in found for _, _, fall in one.lost}
         self.assertLessEqual({("down", "NoEntry", "x"), ("down", "NoLsp", "pe2"), ("up", "NoEntry", "x")}, rules)
         self.assertEqual(found, self.micro("orders", "link x-pe2", acts)[1])
 
@@ -211,12 +224,12 @@ class Runs(unittest.TestCase):
                 source, found = edges.of(probes[end.probe])
                 with self.subTest(seed=seed, probe=end.probe):
                     self.assertEqual(net.nodes[source], end.path.split()[0])
-                    if end.rule is None:
+                    if end.fall is None:
                         self.assertEqual(net.nodes[found[0]], end.path.split()[-1])
 
     def test_a_case_is_shrunk_to_what_it_takes(self):
         needed = {"b", "d", orders.SENT, "g"}
-        case = orders.Case(None, "down", (*"abcde", orders.SENT, *"fghi"), 5, 0, 64, "NoEntry", "x")
+        case = orders.Case(None, "down", (*"abcde", orders.SENT, *"fghi"), 5, 0, 64, orders.Fall("NoEntry", "x"))
         asked = []
         trial = lambda cases: asked.append(cases) or [needed <= set(one.lines) and one.lines[one.sent] == orders.SENT for one in cases]
         self.assertEqual(("b", "d", orders.SENT, "g"), orders.shrunk(case, trial).lines)
@@ -254,7 +267,7 @@ class Tool(unittest.TestCase):
             "link x-pe2 up:",
             "  loop of x and y towards pe2, once y has learned of it and x hasn't",
             "4 changes, down and up, of 2 pairs",
-            "loops: 2 by 1 of 4 links; 1 pair can meet 2 of them, each shown by the program",
+            "loops: 2 by 1 of 4 links; 2 of them met by 1 pair, each shown by the program",
         ):
             self.assertIn(line + "\n", said)
         self.assertEqual(["loops"], [path.name for path in worst.iterdir()])
@@ -270,7 +283,7 @@ class Tool(unittest.TestCase):
 
     def test_none_with_a_cheap_detour(self):
         said = self.answer(0, "--of", "links", "--ask", "loops", changed(self.folder, 15))
-        self.assertEqual("4 changes, down and up, of 2 pairs\nloops: 0 by 0 of 4 links; 0 pairs can meet 0 of them\n", said)
+        self.assertEqual("4 changes, down and up, of 2 pairs\nloops: none by 4 links\n", said)
 
     def test_forms_say_the_same(self):
         words = ["--only", "link x-pe2", "--orders", "1", MICRO / "topology.toml"]
