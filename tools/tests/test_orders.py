@@ -16,6 +16,7 @@ from itertools import combinations
 from pathlib import Path
 
 from runs import ROOT, random_runs, reference, stand_in
+from test_whatif import CLUSTER, dask_python
 
 import mplsnet_loops as loops
 import mplsnet_orders as orders
@@ -196,7 +197,7 @@ class Runs(unittest.TestCase):
     def test_pairs_that_no_change_concerns_lose_nothing(self):
         """A window of all pairs loses what one of those concerned does."""
         lost = 0
-        for seed in SEEDS[:6]:
+        for seed in SEEDS[:3]:
             tables = network(random.Random(seed), 5, 2, 3) | {"resolve": True}
             net = Net("net", tables)
             hops, edges, probes = loops.Hops(net), orders.Edges(net), whatif.probes_of(net)
@@ -339,6 +340,18 @@ class Tool(unittest.TestCase):
         self.refused(3, "no/page.html: No such file", "--html", self.folder / "no/page.html", MICRO / "topology.toml")
         self.program.write_text("#!/bin/sh\necho out of luck >&2\nexit 8\n")
         self.refused(3, "out of luck", MICRO / "topology.toml")
+
+
+class ByDask(unittest.TestCase):
+    @unittest.skipUnless(dask_python(), "dask.distributed isn't installed")
+    def test_two_workers_say_the_same(self):
+        with tempfile.TemporaryDirectory() as folder:
+            program, cluster = stand_in(folder), Path(folder) / "cluster.py"
+            cluster.write_text(CLUSTER)
+            words = ["--quiet", "--program", str(program), "--only", "link x-pe2", "--ask", "loops,window", str(MICRO / "topology.toml")]
+            here = subprocess.run([sys.executable, TOOL, *words], capture_output=True, text=True)
+            there = subprocess.run([dask_python(), cluster, TOOL, *words], capture_output=True, text=True, cwd=folder, env={**os.environ, "PYTHONPATH": ""})
+            self.assertEqual((1, here.stdout), (there.returncode, there.stdout), there.stderr)
 
 
 if __name__ == "__main__":
