@@ -159,8 +159,9 @@ class Asking:
         """Each witness has shown its loop."""
         for end, witness in zip(ends, job.work):
             if (end.fall and end.fall.rule, end.path) != (LOOPED, witness.path):
-                loop = f"{witness.change.failure} {witness.way}: a loop with {', '.join(witness.learns)}"
-                raise Fault(f"{self.given.topology}: {loop} was found, and the program doesn't show it: {end.fall.rule if end.fall else 'delivered'}, path {end.path}, and not {witness.path}", 3)
+                found = f"{witness.change.failure} {witness.way}: a loop with {', '.join(witness.learns)} was found, and the program doesn't show it"
+                shown = f"{end.fall.rule if end.fall else 'delivered'}, path {end.path}, and not {witness.path}"
+                raise Fault(f"{self.given.topology}: {found}: {shown}", 3)
 
     # All three.
 

@@ -95,7 +95,8 @@ class Telling:
     def loops(self, number, way):
         for nodes, learned, unlearned, edges, pairs in grouped(self.net, self.answer.loops.get((number, way), ()), way):
             if pairs or self.most is None:
-                when = f"{in_words(learned)} {'has' if len(learned) == 1 else 'have'} learned of it and {in_words(unlearned)} {'hasn' if len(unlearned) == 1 else 'haven'}'t"
+                have, have_not = "has" if len(learned) == 1 else "have", "hasn't" if len(unlearned) == 1 else "haven't"
+                when = f"{in_words(learned)} {have} learned of it and {in_words(unlearned)} {have_not}"
                 yield f"loop of {in_words(nodes)} towards {listed(edges, self.most)}, once {when}"
                 yield self.pairs(pairs) if pairs else "  no pair meets it"
 
@@ -144,15 +145,16 @@ class Telling:
     def totals(self):
         answer, given = self.answer, self.given
         unreached = sum(end.fall is not None for end in answer.rest)
-        ways = " and ".join(given.ways)
-        yield f"{counted(len(answer.changes), 'change')}, {ways}, of {counted(len(self.probes), 'pair')}" + (f", {unreached} of them not reached at rest" if unreached else "")
+        rest = f", {unreached} of them not reached at rest" if unreached else ""
+        yield f"{counted(len(answer.changes), 'change')}, {' and '.join(given.ways)}, of {counted(len(self.probes), 'pair')}{rest}"
         if "loops" in given.ask:
             yield self.loops_total()
         if "window" in given.ask:
             sums = window_sums(window for found in answer.windows.values() for window in found)
             yield self.total("window", answer.windows, sums, " (by random delays: others may lose more)" if given.delays else "")
         if "orders" in given.ask:
-            yield self.total("orders", answer.orders, order_sums(order for found in answer.orders.values() for order in found), " (at random: others may lose more)")
+            sums = order_sums(order for found in answer.orders.values() for order in found)
+            yield self.total("orders", answer.orders, sums, " (at random: others may lose more)")
 
     def loops_total(self):
         found = [(number, met) for (number, _), loops in self.answer.loops.items() for met in loops]
@@ -346,11 +348,13 @@ def page(question, answer):
     pages = {ask: player(question, case) for ask, case in answer.cases.items()}
     for ask, case in answer.cases.items():
         what = f"{ask}: {name_of(case.change, case.way)}, {question.probes[case.probe]}: {case.fall.words()}"
-        parts.append(f"<details class=p><summary>{say(what)}</summary><pre>{say(case_files(question, case)[1].decode())}</pre><iframe id={ask}></iframe></details>")
+        script = say(case_files(question, case)[1].decode())
+        parts.append(f"<details class=p><summary>{say(what)}</summary><pre>{script}</pre><iframe id={ask}></iframe></details>")
     parts.append("<h2>Changes by which something is lost</h2>")
     for number, way, lines in telling.changes():
         if lines:
-            parts.append(f"<details><summary>{say(telling.header(number, way))}: {say(', '.join(dict.fromkeys(re.match('[a-z]+', line)[0] for line in lines if line[0] != ' ')))}</summary><ul>")
+            kinds = ", ".join(dict.fromkeys(re.match("[a-z]+", line)[0] for line in lines if line[0] != " "))
+            parts.append(f"<details><summary>{say(telling.header(number, way))}: {kinds}</summary><ul>")
             parts += [f"<li>{say(line)}</li>" for line in lines]
             parts.append("</ul></details>")
     data = json.dumps(pages).replace("<", "\\u003c")

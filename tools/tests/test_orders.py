@@ -91,7 +91,8 @@ class Loops(unittest.TestCase):
         (loop,) = found.pop("x-pe2")
         names = lambda nodes: [net.nodes[node] for node in nodes]
         self.assertEqual(("pe2", ["x", "y"]), (net.nodes[loop.edge], names(loop.nodes)))
-        self.assertEqual((["x"], ["y"], ["y"], ["x"]), tuple(names(some) for some in (loop.learned("down"), loop.unlearned("down"), loop.learned("up"), loop.unlearned("up"))))
+        sides = loop.learned("down"), loop.unlearned("down"), loop.learned("up"), loop.unlearned("up")
+        self.assertEqual([["x"], ["y"], ["y"], ["x"]], list(map(names, sides)))
         self.assertEqual({"pe1-x": [], "x-y": [], "y-pe2": []}, found)
 
     def test_none_with_a_cheap_detour(self):
