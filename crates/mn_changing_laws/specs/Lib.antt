@@ -1,0 +1,2 @@
+pub mod BothNext
+pub mod Changing

@@ -1,0 +1,47 @@
+//! Paths while the change of one link spreads: laws of the ledger.
+#![tactic(auto)]
+
+ghost use Rattle.std.specs.Prelude.{ℕ, List, ◌≡◌, ◌<◌, [], ◌∷◌, ◌++◌, length, slice_index_or, Some, true, false};
+ghost use Rattle.std.specs.List.{Contains};
+ghost use Rattle.mn_wiring.specs.Wiring.{Wiring, View};
+ghost use Rattle.mn_ledger.specs.Prelude.{Damaged, IsLawful, Network, JournalEntry, world_of, packets_of, next_of, SiteNo, Inject, injections, ttl_of, wiring_of};
+ghost use Rattle.mn_settled_laws.specs.Ways.{way};
+ghost use Rattle.mn_settled_laws.specs.Arrival.{left_after};
+ghost use Rattle.mn_changing_laws.specs.Changing.{OneLinkChanges, old_and_new_next, links_with, bound_for, MeetsNoNodeTwice};
+ghost use Rattle.mn_changing_laws.specs.BothNext.{both_next, GoesBy, HasNoneTwice, HasNoLoop};
+
+/// Where no set of nodes that have learned of a change makes a loop, a path by old and new next hops meets no node twice.
+pub fn no_loop_no_node_twice()
+    ensures { (wiring : Wiring) (down up : View) (edge : ℕ) → HasNoLoop wiring down up edge →
+        (path : List ℕ) → GoesBy (both_next wiring down up edge) path → HasNoneTwice path }
+{}
+
+/// In a stretch in which one link changes each node sends by its next hop with that link down, or by that with it up.
+pub fn each_next_hop_is_the_old_or_the_new_one()
+    ensures { (topology : Network) (l : ℕ) (before earlier later : List JournalEntry) (inputs : List (List ℕ)) →
+        IsLawful topology → OneLinkChanges topology l before (earlier ++ later) inputs →
+        (node edge : ℕ) (hop : ℕ × ℕ) → node < length topology.loopbacks → way topology (world_of topology (before ++ earlier)) node edge ≡ Some hop →
+        Contains (old_and_new_next topology (world_of topology before) l edge node) hop.0 }
+{}
+
+/// A packet that is sent in such a stretch goes from node to node by next hops towards the edge for which it is bound: each with the link down,
+/// or with the link up.
+pub fn a_path_goes_by_old_or_new_hops()
+    ensures { (topology : Network) (l : ℕ) (before earlier later : List JournalEntry) (tick number : ℕ) (mark : Damaged) (site : SiteNo) (inputs : List (List ℕ)) →
+        IsLawful topology → OneLinkChanges topology l before (earlier ++ record { tick = tick; step = Inject site number; damaged = mark } ∷ later) inputs →
+        GoesBy (old_and_new_next topology (world_of topology before) l
+        (bound_for topology (world_of topology (before ++ earlier)) site.0 (next_of (left_after (before ++ earlier) inputs))))
+        (slice_index_or (packets_of topology (before ++ (earlier ++ record { tick = tick; step = Inject site number; damaged = mark } ∷ later)) inputs).paths
+        (injections (before ++ earlier)) []) }
+{}
+
+/// Where no set of nodes that take the link for up makes a loop towards that edge, the packet meets no node twice, and isn't dropped for
+/// its TTL if that was more than there are nodes: whatever is learned and heard, and in whatever order, before and while it flies.
+pub fn without_a_loop_no_packet_meets_a_node_twice()
+    ensures { (topology : Network) (l : ℕ) (before earlier later : List JournalEntry) (tick number : ℕ) (mark : Damaged) (site : SiteNo) (inputs : List (List ℕ)) →
+        IsLawful topology → OneLinkChanges topology l before (earlier ++ record { tick = tick; step = Inject site number; damaged = mark } ∷ later) inputs →
+        HasNoLoop (wiring_of topology) (links_with topology (world_of topology before) l false) (links_with topology (world_of topology before) l true)
+        (bound_for topology (world_of topology (before ++ earlier)) site.0 (next_of (left_after (before ++ earlier) inputs))) →
+        MeetsNoNodeTwice (packets_of topology (before ++ (earlier ++ record { tick = tick; step = Inject site number; damaged = mark } ∷ later)) inputs)
+        (injections (before ++ earlier)) (length topology.loopbacks) (ttl_of (next_of (left_after (before ++ earlier) inputs))) }
+{}
