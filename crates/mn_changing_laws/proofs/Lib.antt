@@ -4,3 +4,6 @@ pub mod Calm
 pub mod Stretch
 pub mod OnTheWay
 pub mod Paths
+pub mod Ranks
+pub mod MicroLoop
+pub mod MicroLoopRun

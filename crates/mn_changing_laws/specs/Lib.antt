@@ -1,2 +1,4 @@
 pub mod BothNext
 pub mod Changing
+pub mod MicroLoop
+pub mod MicroLoopRun

@@ -8,6 +8,8 @@ ghost use Rattle.mn_ledger.specs.Prelude.{Damaged, IsLawful, Network, JournalEnt
 ghost use Rattle.mn_settled_laws.specs.Ways.{way};
 ghost use Rattle.mn_settled_laws.specs.Arrival.{left_after};
 ghost use Rattle.mn_changing_laws.specs.Changing.{OneLinkChanges, old_and_new_next, links_with, bound_for, MeetsNoNodeTwice};
+ghost use Rattle.mn_changing_laws.specs.MicroLoop.{OneHasALoop};
+ghost use Rattle.mn_changing_laws.specs.MicroLoopRun.{TheLawIsMet};
 ghost use Rattle.mn_changing_laws.specs.BothNext.{both_next, GoesBy, HasNoneTwice, HasNoLoop};
 
 /// Where no set of nodes that have learned of a change makes a loop, a path by old and new next hops meets no node twice.
@@ -44,4 +46,14 @@ pub fn without_a_loop_no_packet_meets_a_node_twice()
         (bound_for topology (world_of topology (before ++ earlier)) site.0 (next_of (left_after (before ++ earlier) inputs))) →
         MeetsNoNodeTwice (packets_of topology (before ++ (earlier ++ record { tick = tick; step = Inject site number; damaged = mark } ∷ later)) inputs)
         (injections (before ++ earlier)) (length topology.loopbacks) (ttl_of (next_of (left_after (before ++ earlier) inputs))) }
+{}
+
+/// The definition says of two networks what one expects: at one cost two nodes send to each other while one has learned, at another none do.
+pub fn of_two_networks_one_has_a_loop()
+    ensures { OneHasALoop }
+{}
+
+/// What the law asks is met in a run of the one network; in a run of the other, with a loop, a packet meets nodes twice and is dropped for its TTL.
+pub fn the_law_is_met_in_two_runs()
+    ensures { TheLawIsMet }
 {}
