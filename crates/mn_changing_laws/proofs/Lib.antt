@@ -7,3 +7,4 @@ pub mod Paths
 pub mod Ranks
 pub mod MicroLoop
 pub mod MicroLoopRun
+pub mod Bound

@@ -4,7 +4,7 @@
 ghost use Rattle.std.specs.Prelude.{ℕ, List, ◌≡◌, ◌<◌, [], ◌∷◌, ◌++◌, length, slice_index_or, Some, true, false};
 ghost use Rattle.std.specs.List.{Contains};
 ghost use Rattle.mn_wiring.specs.Wiring.{Wiring, View};
-ghost use Rattle.mn_ledger.specs.Prelude.{Damaged, IsLawful, Network, JournalEntry, world_of, packets_of, next_of, SiteNo, Inject, injections, ttl_of, wiring_of};
+ghost use Rattle.mn_ledger.specs.Prelude.{Damaged, IsLawful, Network, JournalEntry, World, edges, world_of, packets_of, next_of, SiteNo, Inject, injections, ttl_of, wiring_of};
 ghost use Rattle.mn_settled_laws.specs.Ways.{way};
 ghost use Rattle.mn_settled_laws.specs.Arrival.{left_after};
 ghost use Rattle.mn_changing_laws.specs.Changing.{OneLinkChanges, old_and_new_next, links_with, bound_for, MeetsNoNodeTwice};
@@ -35,6 +35,12 @@ pub fn a_path_goes_by_old_or_new_hops()
         (bound_for topology (world_of topology (before ++ earlier)) site.0 (next_of (left_after (before ++ earlier) inputs))))
         (slice_index_or (packets_of topology (before ++ (earlier ++ record { tick = tick; step = Inject site number; damaged = mark } ∷ later)) inputs).paths
         (injections (before ++ earlier)) []) }
+{}
+
+/// That edge is one of the network's edges.
+pub fn a_packet_is_bound_for_an_edge()
+    ensures { (topology : Network) (world : World) (s : ℕ) (bytes : List ℕ) → IsLawful topology → s < length topology.sites →
+        Contains (edges topology) (bound_for topology world s bytes) }
 {}
 
 /// Where no set of nodes that take the link for up makes a loop towards that edge, the packet meets no node twice, and isn't dropped for
