@@ -8,7 +8,7 @@ use Rattle.mn_base.proofs.Members.{In, in_append, in_map, in_filter, in_flat_map
 use Rattle.mn_topo.specs.Network.{Network}
 use Rattle.mn_topo.specs.Lawful.{IsLawful}
 use Rattle.mn_ledger.specs.Places.{home_of, vrf_of, edges, loopback, vrf_at}
-use Rattle.mn_ledger.specs.World.{Config, Export, Peerings, World}
+use Rattle.mn_ledger.specs.World.{Config, Peerings, World}
 use Rattle.mn_ledger.specs.Exports.{exports_of, present_with}
 use Rattle.mn_ledger.specs.Held.{HeldRoute, Own, Near, Far, held_by, imported, own_routes, near_routes, far_routes, believed, held, is_better, matching, unbeaten}
 use Rattle.mn_ledger.specs.Held.{first_of, best}

@@ -10,7 +10,7 @@ use Rattle.mn_wiring.specs.Wiring.{Wiring, View}
 use Rattle.mn_wiring.specs.Paths.{next}
 use Rattle.mn_base.proofs.Bools.{or_ways, same_numbers, other_test, no}
 use Rattle.mn_base.proofs.Members.{In, in_contained, contained_in, in_append, in_front, in_rest}
-use Rattle.mn_changing_laws.specs.BothNext.{neighbour_in, both_next, next_where, GoesBy, HasNoneTwice, HasNoLoop}
+use Rattle.mn_changing_laws.specs.BothNext.{neighbour_in, both_next, next_where, GoesBy, HasNoneTwice, HasNoLoop, HasNoCycle}
 
 -- 1. Lists
 
@@ -126,17 +126,46 @@ module _ (wiring : Wiring) (down up : View) (edge : ℕ) where
   goes-tail x [] h = tt
   goes-tail x (y ∷ xs) h = h.1
 
-  pub no_node_twice : HasNoLoop wiring down up edge → (path : List ℕ) → GoesBy both path → HasNoneTwice path
-  no_node_twice none [] h = tt
-  no_node_twice none (x ∷ xs) h =
-      let once : HasNoneTwice xs = no_node_twice none xs (goes-tail x xs h) in
+  -- a path that meets a node twice has a walk from that node back to it on which it meets each other one once
+  cycle-free : HasNoCycle wiring down up edge → (path : List ℕ) → GoesBy both path → HasNoneTwice path
+  cycle-free none [] h = tt
+  cycle-free none (x ∷ xs) h =
+      let once : HasNoneTwice xs = cycle-free none xs (goes-tail x xs h) in
       (λ c. back once (split xs x (in_contained xs x c)), once)
     where
       back : HasNoneTwice xs → (front : List ℕ) × (back : List ℕ) × (xs ≡ front ++ x ∷ back) → ⊥
       back once parts =
           let apart : HasNoneTwice (parts.0 ++ x ∷ parts.1) = subst HasNoneTwice parts.2 once in
           let goes : GoesBy both ((x ∷ parts.0) ++ x ∷ parts.1) = subst (λ ys. GoesBy both (x ∷ ys)) parts.2 h in
-          let way = some-nodes (x ∷ parts.0) x
+          none x parts.0
           (λ c. before-other parts.0 x parts.1 apart (in_contained parts.0 x c), none-twice-front parts.0 (x ∷ parts.1) apart)
-          (goes-front both (x ∷ parts.0) x parts.1 goes) in
-          none way.0 x parts.0 way.1
+          (goes-front both (x ∷ parts.0) x parts.1 goes)
+
+  pub no-cycle : HasNoLoop wiring down up edge → HasNoCycle wiring down up edge
+  no-cycle none node nodes once h = let way = some-nodes (node ∷ nodes) node once h in none way.0 node nodes way.1
+
+  pub no_node_twice : HasNoLoop wiring down up edge → (path : List ℕ) → GoesBy both path → HasNoneTwice path
+  no_node_twice none path h = cycle-free (no-cycle none) path h
+
+  one-of-both : (at : ℕ → Bool) (x y : ℕ) → Contains (hops at x) y → Contains (both x) y
+  one-of-both at x y c = by (at x) (in_contained (hops at x) y c)
+    where
+      by : (b : Bool) → In (neighbour_in (next wiring (cond b up down) x edge)) y → Contains (both x) y
+      by false i =
+          contained_in (both x) y (in_front (neighbour_in (next wiring down x edge)) (neighbour_in (next wiring up x edge)) y i)
+      by true i =
+          contained_in (both x) y (in_rest (neighbour_in (next wiring down x edge)) (neighbour_in (next wiring up x edge)) y i)
+
+  goes-by-both : (at : ℕ → Bool) (xs : List ℕ) → GoesBy (hops at) xs → GoesBy both xs
+  goes-by-both at [] h = tt
+  goes-by-both at (x ∷ []) h = tt
+  goes-by-both at (x ∷ y ∷ xs) h = (one-of-both at x y h.0, goes-by-both at (y ∷ xs) h.1)
+
+  pub no-loop-of-any : HasNoCycle wiring down up edge → HasNoLoop wiring down up edge
+  no-loop-of-any none at node nodes h =
+      (cycle-free none (node ∷ nodes ++ node ∷ []) (goes-by-both at (node ∷ nodes ++ node ∷ []) h)).0
+      (contained_in (nodes ++ node ∷ []) node (in_rest nodes (node ∷ []) node (inl refl)))
+
+pub no_loop_where_no_cycle : (wiring : Wiring) (down up : View) (edge : ℕ)
+    → (HasNoCycle wiring down up edge → HasNoLoop wiring down up edge) × (HasNoLoop wiring down up edge → HasNoCycle wiring down up edge)
+no_loop_where_no_cycle wiring down up edge = (no-loop-of-any wiring down up edge, no-cycle wiring down up edge)

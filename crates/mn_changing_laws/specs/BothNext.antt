@@ -36,3 +36,8 @@ HasNoneTwice (node ∷ nodes) = (Contains nodes node → ⊥) × HasNoneTwice no
 abbrev pub HasNoLoop : Wiring → View → View → ℕ → Type 0
 HasNoLoop wiring down up edge =
     (is_up_at : ℕ → Bool) (node : ℕ) (nodes : List ℕ) → GoesBy (next_where wiring down up is_up_at edge) (node ∷ nodes ++ node ∷ []) → ⊥
+
+-- no walk by both next hops leads from a node back to it that meets no other one twice: what a search for loops finds, if there is one
+abbrev pub HasNoCycle : Wiring → View → View → ℕ → Type 0
+HasNoCycle wiring down up edge =
+    (node : ℕ) (nodes : List ℕ) → HasNoneTwice (node ∷ nodes) → GoesBy (both_next wiring down up edge) (node ∷ nodes ++ node ∷ []) → ⊥

@@ -1,4 +1,17 @@
-//! Paths while the change of one link spreads: laws of the ledger.
+//! Paths while one link changes: laws of the ledger on each stretch of a lawful journal in which one link alone comes up or goes down.
+//!
+//! ```text
+//!    all changes are learned     the link goes down     a packet is sent         it ends
+//!  --|---------------------------|----------------------|------------------------|---- one link changes, and whatever else is done
+//! ```
+//!
+//! Some nodes have learned of the change and others haven't, and others yet learn of it while the packet flies. Each sends by the links that it
+//! takes for up: by its old next hop or by its new one. A loop of such hops takes each node once, so it is one that some set of nodes makes by
+//! itself. Where no set does, no packet comes to a node twice.
+//!
+//! - `specs/BothNext`: next hops, paths, and what it is that there is no loop
+//! - `specs/Changing`: the stretch, the links, and for which edge a packet is bound
+//! - `specs/MicroLoop`, `specs/MicroLoopRun`: two networks, one with a loop, and a run of each
 #![tactic(auto)]
 
 ghost use Rattle.std.specs.Prelude.{ℕ, List, ◌≡◌, ◌<◌, [], ◌∷◌, ◌++◌, length, slice_index_or, Some, true, false};
@@ -10,12 +23,18 @@ ghost use Rattle.mn_settled_laws.specs.Arrival.{left_after};
 ghost use Rattle.mn_changing_laws.specs.Changing.{OneLinkChanges, old_and_new_next, links_with, bound_for, MeetsNoNodeTwice};
 ghost use Rattle.mn_changing_laws.specs.MicroLoop.{OneHasALoop};
 ghost use Rattle.mn_changing_laws.specs.MicroLoopRun.{TheLawIsMet};
-ghost use Rattle.mn_changing_laws.specs.BothNext.{both_next, GoesBy, HasNoneTwice, HasNoLoop};
+ghost use Rattle.mn_changing_laws.specs.BothNext.{both_next, GoesBy, HasNoneTwice, HasNoLoop, HasNoCycle};
 
-/// Where no set of nodes that have learned of a change makes a loop, a path by old and new next hops meets no node twice.
+/// Where no set of nodes that take the link for up makes a loop, a path by old and new next hops meets no node twice.
 pub fn no_loop_no_node_twice()
     ensures { (wiring : Wiring) (down up : View) (edge : ℕ) → HasNoLoop wiring down up edge →
         (path : List ℕ) → GoesBy (both_next wiring down up edge) path → HasNoneTwice path }
+{}
+
+/// No set of nodes makes a loop exactly where no walk by old and new next hops leads from a node back to it that meets no other one twice.
+pub fn a_loop_is_a_cycle_of_both_hops()
+    ensures { (wiring : Wiring) (down up : View) (edge : ℕ) →
+        (HasNoCycle wiring down up edge → HasNoLoop wiring down up edge) × (HasNoLoop wiring down up edge → HasNoCycle wiring down up edge) }
 {}
 
 /// In a stretch in which one link changes each node sends by its next hop with that link down, or by that with it up.
