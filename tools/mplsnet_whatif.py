@@ -9,16 +9,18 @@ import shutil
 import signal
 import subprocess
 import tempfile
-from dataclasses import dataclass, field
+from bisect import bisect_left
+from dataclasses import dataclass, field, replace
 from itertools import combinations
 from pathlib import Path
 
 from mplsnet_files import Fault, Run, bgp_lives, ldp_lives, read_labels
-from mplsnet_knowledge import Net, prefix_text
+from mplsnet_knowledge import Net, prefix_of, prefix_text
 from mplsnet_pcap import capture_of, udp_packet
-from mplsnet_why import Explainer, short
+from mplsnet_why import Explainer, path_facts, short, unheard
 
 KINDS = ("links", "nodes", "ldp", "bgp")
+WORST = "what LDP alone cuts is the worst case: routers with LDP-IGP synchronization (RFC 5443) go round a link without LDP"
 MOST_STEPS, MOST_RECORDS = 4_000_000, 100_000
 REFUSED = (3, 4, 5, 9)  # statuses that a line of the report goes with
 
@@ -39,7 +41,10 @@ class Failure:
 
 @dataclass(frozen=True)
 class Probe:
-    """A packet from a site to an address of a prefix, and the sites that have the prefix."""
+    """A packet from a site to an address of a prefix, and the sites that it is meant for.
+
+    These have the prefix, in VRFs that import and export the same targets: one customer's site behind several edges.
+    """
 
     site: str
     prefix: str
@@ -79,23 +84,41 @@ class Job:
 
 @dataclass(frozen=True)
 class Loss:
-    """A probe that didn't arrive: its number from 0, the rule and the node that dropped it, and why."""
+    """A probe that reached no site that it was meant for: its number from 0, the rule and the node that dropped it, and why.
+
+    Where it was delivered elsewhere the rule is Astray, the node is the last of its path, and `astray_to` is the site.
+    """
 
     probe: int
     rule: str
     node: str
     reason: str
+    astray_to: str | None = None
+
+    def words(self):
+        """What became of it."""
+        return f"{self.rule} at {self.node}" if self.astray_to is None else f"astray to {self.astray_to}"
 
 
 @dataclass
 class Outcome:
-    """What a failure did: the probes lost of those that arrived without it, how many took another way, the steps it took."""
+    """What a failure did: the probes lost of those that reached their site without it, how many took another way, its steps.
+
+    Of the run without a failure, `lost` are the probes that don't reach their site.
+    """
 
     failure: Failure | None
     lost: list = field(default_factory=list)
     moved: int = 0
     steps: int = 0
     paths: list | None = None
+
+
+def resolves(said, resolve=False, no_resolve=False, keep_bgp=False):
+    """Whether routes to whose edge no label path leads stand aside: by what the topology says (none where it doesn't), and by options."""
+    if resolve or no_resolve:
+        return resolve
+    return said if said is not None else not keep_bgp
 
 
 # Failures.
@@ -178,35 +201,58 @@ def bring_up(net, keep_bgp):
 # Probes.
 
 
-def is_unicast(address):
-    return address >> 24 not in (0, 127) and address >> 28 not in (14, 15)
+NO_UNICAST = ((0, 8), (0x7F000000, 8), (0xE0000000, 3))  # prefixes to which no packet may go
 
 
-def first_address(of):
-    """The first address of the prefix that a packet may go to, behind the network's own; none where there is none."""
+def first_address(of, longer=()):
+    """The first address of the prefix, behind the network's own, that a packet may go to and none of the longer ones in it has."""
     first, length = of
-    size = 1 << 32 - length
-    for at in [first + 1 if length < 31 else first, *range((first >> 24) + 1 << 24, first + size, 1 << 24)]:
-        at = at + 1 if at & 0xFFFFFF == 0 and length < 31 else at
-        if first <= at < first + size and is_unicast(at):
-            return at
+    end = first + (1 << 32 - length)
+    spans = ((at, at + (1 << 32 - size)) for at, size in (*NO_UNICAST, *longer))
+    at = first + (length < 31)
+    for below, above in [*sorted(span for span in spans if span[0] < end and first < span[1]), (end, end)]:
+        if at < below:
+            return at + 1 if length < 31 and at & 0xFF == 0 and at + 1 < below else at
+        at = max(at, above)
     return None
 
 
+class Reach:
+    """What a VRF's sites may send to: the sites of the VRF, and of those that export a target that it imports."""
+
+    def __init__(self, net, vrf):
+        self.sites = [site for site, other in enumerate(net.vrf_of) if other == vrf or net.vrfs[vrf].imports & net.vrfs[other].exports]
+        self.prefixes = sorted({of for site in self.sites for of in net.prefixes[site]})
+        self.known = {}
+
+    def address(self, of):
+        """An address of the prefix for which no longer one is known here; its first where all are known by longer ones."""
+        if of not in self.known:
+            within = self.prefixes[bisect_left(self.prefixes, (of[0], 0)) : bisect_left(self.prefixes, (of[0] + (1 << 32 - of[1]), 0))]
+            free = first_address(of, [one for one in within if one[1] > of[1]])
+            self.known[of] = first_address(of) if free is None else free
+        return self.known[of]
+
+
 def probes_of(net, sites=None):
-    """From each site a packet to each prefix of other sites of which its VRF imports a target, or that are of its VRF."""
-    found = {}
+    """From each site a packet to each prefix of other sites of which its VRF imports a target, or that are of its VRF.
+
+    Sites with one prefix are meant by one probe where their VRFs import and export the same targets.
+    """
+    found, reaches = {}, {}
     for site, name in enumerate(net.sites):
         vrf = net.vrf_of[site]
+        reach = reaches[vrf] = reaches.get(vrf) or Reach(net, vrf)
         source = next(filter(None, map(first_address, net.prefixes[site])), 0xC0000201)
-        for other, to in enumerate(net.sites):
-            shares = net.vrf_of[other] == vrf or net.vrfs[vrf].imports & net.vrfs[net.vrf_of[other]].exports
-            if other == site or not shares or sites and not {name, to} <= sites:
+        for other in reach.sites:
+            to, behind = net.sites[other], net.vrfs[net.vrf_of[other]]
+            if other == site or sites and not {name, to} <= sites:
                 continue
             for of in net.prefixes[other]:
-                if of not in net.prefixes[site] and first_address(of) is not None:
-                    found.setdefault((name, of), (first_address(of), source, []))[2].append(to)
-    return [Probe(name, prefix_text(of), at.to_bytes(4, "big"), source.to_bytes(4, "big"), tuple(to)) for (name, of), (at, source, to) in found.items()]
+                at = reach.address(of)
+                if of not in net.prefixes[site] and at is not None:
+                    found.setdefault((name, of, behind.imports, behind.exports), (at, source, []))[2].append(to)
+    return [Probe(name, prefix_text(of), at.to_bytes(4, "big"), source.to_bytes(4, "big"), tuple(to)) for (name, of, *_), (at, source, to) in found.items()]
 
 
 # A run.
@@ -293,19 +339,20 @@ class Reading:
 
     def outcomes(self):
         """What became of the probes of each failure, told against those without one."""
-        job, outcomes, base = self.job, [], None
+        job, outcomes, base, kept = self.job, [], None, None
         for number, ends in enumerate(self.blocks()):
             failure = job.failures[number - 1] if number else None
-            outcome = Outcome(failure, paths=[ending_words(*end) for end in ends] if job.paths or not number else None)
-            for probe, (verdict, what, path) in enumerate(ends):
-                is_down = failure is not None and failure.node is not None and path.split(" ", 1)[0] == failure.node
-                if verdict == "delivered" and not is_down:
-                    outcome.moved += base is not None and base[probe] != (verdict, what, path)
-                elif base is None or base[probe][0] == "delivered":
-                    rule, _, node = what.partition(" ") if verdict == "dropped" and not is_down else ("NodeDown", "", failure.node if is_down else path)
-                    outcome.lost.append(Loss(probe, rule, node, f"node {node} is down" if is_down else ""))
+            outcome = Outcome(failure)
+            losses = [loss_of(failure, probe, job.probes[probe], end) for probe, end in enumerate(ends)]
+            if job.paths or not number:
+                outcome.paths = [loss.words() if loss else path for loss, (_, _, path) in zip(losses, ends)]
+            if base is None:
+                base, kept = ends, [loss is None for loss in losses]
+                outcome.lost = [loss for loss in losses if loss]
+            else:
+                outcome.lost = [loss for loss, is_kept in zip(losses, kept) if loss and is_kept]
+                outcome.moved = sum(is_kept and not loss and end != before for loss, is_kept, end, before in zip(losses, kept, ends, base))
             outcomes.append(outcome)
-            base = base or ends
         self.with_reasons(outcomes)
         return outcomes
 
@@ -367,13 +414,44 @@ class Reading:
         probe, net = self.job.probes[loss.probe], explainer.net
         address = int.from_bytes(probe.address, "big")
         vrf = net.vrf_of[net.site_number[probe.site]]
+        if loss.astray_to is not None:
+            return replace(loss, reason=astray_reason(explainer.known, probe, vrf, address))
         if net.nodes[net.vrfs[vrf].node] == loss.node:
             facts = explainer.entry(loss.rule, probe.site, address)
         elif loss.rule == "NoEntry":
             facts = explainer.transit(loss.node, net.nodes[explainer.known.best(vrf, address).edge])
         else:
             return loss
-        return Loss(loss.probe, loss.rule, loss.node, ended(explainer.known, facts[-1]) or short(loss.rule, loss.node, facts))
+        return replace(loss, reason=ended(explainer.known, facts[-1]) or short(loss.rule, loss.node, facts))
+
+
+def loss_of(failure, number, probe, end):
+    """What a failure did to the probe, none where it reached a site that it was meant for; its own edge may be the node that is down."""
+    verdict, what, path = end
+    edge, _, last = path.split(" ", 1)[0], *path.rpartition(" ")[1:]
+    if failure is not None and failure.node == edge:
+        return Loss(number, "NodeDown", edge, f"node {edge} is down")
+    if verdict == "delivered":
+        return None if what in probe.to else Loss(number, "Astray", last, "", what)
+    rule, _, node = what.partition(" ") if verdict == "dropped" else ("Flying", "", last)
+    return Loss(number, rule, node, "")
+
+
+def astray_reason(known, probe, vrf, address):
+    """Why a packet went to another site than the one that was meant: the first of the reasons that keep its routes from being taken."""
+    net, of = known.net, prefix_of(probe.prefix)
+    edge = net.vrfs[vrf].node
+    held = {(route.vrf, route.site): route for route in known.held(vrf, address) if route.prefix == of}
+    for site in map(net.site_number.get, probe.to):
+        other = net.vrf_of[site]
+        route = held.get((other, site))
+        if route is None and net.vrfs[other].node != edge:
+            fact = unheard(known, edge, net.vrfs[other].node, other, of)
+            return ended(known, fact) or fact.words()
+        if route is not None and not known.offers(edge, route.edge):
+            return short("NoLsp", net.nodes[edge], path_facts(known, edge, route.edge, False))
+    best = known.best(vrf, address)
+    return f"its {prefix_text(best.prefix)} goes before {probe.prefix} of {' and '.join(probe.to)}"
 
 
 def ended(known, fact):
@@ -381,11 +459,6 @@ def ended(known, fact):
     if fact.kind != "no session" or known.next_hop(*map(known.net.number.get, fact.names), known.up) is not None:
         return None
     return f"no links lead from {fact.names[0]} to {fact.names[1]}, and their BGP session ended"
-
-
-def ending_words(verdict, what, path):
-    """How a probe ended, for a matrix: its path, or the rule that dropped it."""
-    return path if verdict == "delivered" else f"{what.partition(' ')[0]} at {what.partition(' ')[2]}"
 
 
 # Many runs.

@@ -2,6 +2,7 @@
 
 import csv
 import io
+import ipaddress
 import json
 import os
 import random
@@ -13,6 +14,7 @@ import tempfile
 import time
 import tomllib
 import unittest
+from collections import Counter
 from pathlib import Path
 
 from runs import ROOT, random_runs, reference, stand_in
@@ -102,6 +104,75 @@ def told(outcome):
     return outcome.failure, outcome.lost, outcome.moved, outcome.paths
 
 
+# A second telling, by plain sets: which sites' prefixes are left to a packet where these links are down, or this session ended.
+
+
+def random_with_defaults(rng):
+    """A network with default routes, short prefixes, and prefixes behind several edges and in several VPNs; each VRF has a prefix once."""
+    names = [f"n{at}" for at in range(rng.randint(4, 7))]
+    links = [{"a": names[at], "b": names[rng.randrange(at)], "cost": rng.randint(1, 4)} for at in range(1, len(names))]
+    for a, b in rng.sample([(a, b) for a in names for b in names if a < b], rng.randint(0, 4)):
+        if not any({a, b} == {link["a"], link["b"]} for link in links):
+            links.append({"a": a, "b": b, "cost": rng.randint(1, 4)})
+    vrfs, sites = [], []
+    for node in rng.sample(names, rng.randint(2, min(4, len(names)))):
+        for vpn in rng.sample((1, 2), rng.randint(1, 2)):
+            imports = [f"65000:{vpn}"] + ["65000:3"] * (rng.random() < 0.3)
+            exports = [f"65000:{vpn}"] + ["65000:3"] * (rng.random() < 0.3)
+            vrfs.append({"name": f"{node}-{vpn}", "node": node, "rd": f"65000:{len(vrfs) + 1}", "import": imports, "export": exports})
+    for vrf in vrfs:
+        prefixes = ["0.0.0.0/0", "10.0.0.0/8", "10.0.0.0/24", f"10.{len(sites)}.0.0/16", f"10.{len(sites)}.1.0/24"]
+        for prefix in rng.sample(prefixes, rng.randint(1, 2)):
+            sites.append({"name": f"s{len(sites)}", "vrf": vrf["name"], "prefixes": [prefix]})
+    nodes = [{"name": name, "loopback": f"192.0.2.{at + 1}"} for at, name in enumerate(names)]
+    return {"as": 65000, "resolve": rng.random() < 0.5, "node": nodes, "link": links, "vrf": vrfs, "site": sites}
+
+
+def distances(tables, source, without):
+    """The least costs from a node by the links that aren't among these, by adding links until nothing changes."""
+    found, before = {source: 0}, None
+    while before != found:
+        before = dict(found)
+        for link in tables["link"]:
+            for near, far in ((link["a"], link["b"]), (link["b"], link["a"])):
+                if near in before and {near, far} not in without:
+                    found[far] = min(found.get(far, 1 << 30), found[near] + link["cost"])
+    return found
+
+
+def by_sets(tables, probe, down, ended, off):
+    """The verdict of a probe: 'reached', 'lost' or the sites to which it goes astray; none where this telling doesn't know it.
+
+    down: links that are down, off: those without LDP, each a set of its two ends; ended: the two edges of a session that ended.
+    """
+    vrf_of = {vrf["name"]: vrf for vrf in tables["vrf"]}
+    site_of = {site["name"]: site for site in tables["site"]}
+    mine, address = vrf_of[site_of[probe.site]["vrf"]], ipaddress.IPv4Address(probe.address)
+    costs, without_it, left, unsure = distances(tables, mine["node"], down), distances(tables, mine["node"], down + off), {}, {}
+    for site in tables["site"]:
+        other = vrf_of[site["vrf"]]
+        if other is not mine and not {*mine["import"]} & {*other["export"]} or {mine["node"], other["node"]} == ended:
+            continue
+        there, is_sure = other["node"], True
+        if there not in costs:
+            continue
+        if there != mine["node"] and off:
+            (a, b), cost = sorted(off[0]), next(link["cost"] for link in tables["link"] if {link["a"], link["b"]} == off[0])
+            to_there = distances(tables, there, down)
+            if without_it.get(there) != costs[there]:
+                continue  # each shortest path has the link without LDP
+            is_sure = costs[there] not in (costs[a] + cost + to_there[b], costs[b] + cost + to_there[a])
+        for prefix in map(ipaddress.IPv4Network, site["prefixes"]):
+            if address in prefix:
+                (left if is_sure else unsure).setdefault(prefix.prefixlen, set()).add(site["name"])
+    best = max(left, default=-1)
+    if max(unsure, default=-1) >= best and unsure:
+        return None
+    if not left:
+        return "lost"
+    return "reached" if left[best] <= {*probe.to} else left[best] if not left[best] & {*probe.to} else None
+
+
 class Runs(unittest.TestCase):
     def test_one_run_of_all_equals_a_run_for_each(self):
         compared = lost = 0
@@ -127,6 +198,56 @@ class Runs(unittest.TestCase):
         self.assertGreater(compared, len(SEEDS))
         self.assertGreater(lost, 0)
 
+    def test_a_second_telling_by_sets(self):
+        """Reached, dropped or astray: in networks with default routes, of each failure and of none; with `resolve` and without."""
+        seen = Counter()
+        for seed in SEEDS:
+            tables = random_with_defaults(random.Random(seed))
+            net, keep_bgp = Net("net", tables), tables["resolve"]
+            probes, pairs = whatif.probes_of(net), [{link["a"], link["b"]} for link in tables["link"]]
+            failures = whatif.failures_of(net, whatif.KINDS if keep_bgp else ("links", "nodes", "bgp"), keep_bgp)
+            if not probes:
+                continue
+            base, *outcomes_ = outcomes(net, tables, probes, failures, keep_bgp)
+            kept = {at for at in range(len(probes))} - {loss.probe for loss in base.lost}
+            for outcome in [base, *outcomes_]:
+                failure, lost = outcome.failure, {loss.probe: loss for loss in outcome.lost}
+                ends = [{*line.split()[-2:]} for line in failure.down] if failure else []
+                kind = failure.kind if failure else "none"
+                down, off = ([] if kind in ("ldp", "bgp") else [one for one in ends if one in pairs]), ends if kind == "ldp" else []
+                for at, probe in enumerate(probes):
+                    if failure and at not in kept:
+                        continue
+                    due = by_sets(tables, probe, down, ends[0] if kind == "bgp" else None, off)
+                    if kind == "node" and net.nodes[net.edge_of(net.site_number[probe.site])] == failure.node:
+                        due = "lost"
+                    if due is None:
+                        seen["not known"] += 1
+                        continue
+                    loss = lost.get(at)
+                    said = "reached" if loss is None else {loss.astray_to} if loss.astray_to else "lost"
+                    with self.subTest(seed=seed, failure=str(failure), probe=str(probe)):
+                        self.assertTrue(said <= due if isinstance(due, set) and isinstance(said, set) else said == due, (said, due, loss))
+                    seen[kind if failure is None else loss.rule if loss else "reached"] += 1
+                    self.assertTrue(loss is None or loss.reason, loss)
+        self.assertLess(seen["not known"], sum(seen.values()) // 5)
+        for rule in ("reached", "Astray", "NoRoute", "NoLsp", "NodeDown", "none"):
+            self.assertGreater(seen[rule], 0, seen)
+
+    def test_sites_behind_several_edges(self):
+        """One probe is meant for sites of one prefix whose VRFs have the same targets; another VPN's has its own, and is hidden."""
+        tables = tomllib.loads(DUAL)
+        self.assertEqual([("a", ("b", "b-too")), ("b", ("a",)), ("b-too", ("a",))], [(probe.site, probe.to) for probe in whatif.probes_of(Net("net", tables))])
+        tables["vrf"][2]["export"] = ["65000:1", "65000:9"]
+        del tables["link"][0]["loss"]
+        net = Net("net", tables)
+        probes = whatif.probes_of(net)
+        self.assertEqual([("a", ("b",)), ("a", ("b-too",))], [(probe.site, probe.to) for probe in probes[:2]])
+        base, *rest = outcomes(net, tables, probes, whatif.failures_of(net, ("links",), False))
+        self.assertEqual([(1, "astray to b", "its 10.2.0.0/16 goes before 10.2.0.0/16 of b-too")], [(loss.probe, loss.words(), loss.reason) for loss in base.lost])
+        cut = {str(outcome.failure): [(loss.probe, loss.words()) for loss in outcome.lost] for outcome in rest}
+        self.assertIn((0, "astray to b-too"), cut["link p-pe2"])
+
     def test_shares_fit_the_budget(self):
         costs = [random.Random(7).randrange(10, 400) for _ in range(300)]
         work = whatif.shares(list(range(300)), costs, 500, 3_000, 4)
@@ -140,6 +261,11 @@ class Runs(unittest.TestCase):
             ((0x0A010000, 16), 0x0A010001), ((0x0A010000, 32), 0x0A010000), ((0x0A010002, 31), 0x0A010002), ((0, 0), 0x01000001), ((0x7F000000, 8), None), ((0xE0000000, 4), None),
         ):  # fmt: skip
             self.assertEqual(due, whatif.first_address(prefix))
+        for longer, due in (
+            ([(0x0A000000, 16)], 0x0A010001), ([(0x0A000000, 9)], 0x0A800001), ([(0x0A000001, 32)], 0x0A000002), ([(0x0A000000, 9), (0x0A800000, 9)], None),
+            ([(0x0A000000, 31), (0x0A000002, 32), (0x0A000004, 30)], 0x0A000003),
+        ):  # fmt: skip
+            self.assertEqual(due, whatif.first_address((0x0A000000, 8), longer))
 
 
 class Tool(unittest.TestCase):
@@ -169,8 +295,28 @@ class Tool(unittest.TestCase):
         said = self.answer(1, LINKS)
         for line in (
             "link pe1-p: 2 pairs lost",
+            "  1 NoLsp at pe1: link pe1-p is down: a -> b",
+            "ldp p-pe2: 2 pairs lost at worst",
+            "  1 NoLsp at pe1: LDP is off on p-pe2, 2 hops from pe1: a -> b",
+            "  1 NodeDown at pe1: node pe1 is down: a -> b",
+            "  1 NoRoute at pe1: there is no BGP session between pe1 and pe2: a -> b",
+            f"at worst: {whatif.WORST}",
+            "8 failures of 2 pairs: 16 verdicts",
+            "8 failures cut 2 pairs; 0 cut none",
+        ):
+            self.assertIn(line + "\n", said)
+
+    def test_two_links_whose_routes_stay_best(self):
+        """Where the topology says so in so many words, or by an option."""
+        plain = self.folder / "plain.toml"
+        plain.write_text("resolve = false\n" + LINKS.read_text())
+        said = self.answer(1, plain)
+        self.assertEqual(said, self.answer(1, "--no-resolve", LINKS))
+        self.assertNotEqual(said, self.answer(1, "--resolve", plain))
+        for line in (
+            "link pe1-p: 2 pairs lost",
             "  1 NoRoute at pe1: no links lead from pe1 to pe2, and their BGP session ended: a -> b",
-            "ldp p-pe2: 2 pairs lost",
+            "ldp p-pe2: 2 pairs lost at worst",
             "  1 NoLsp at pe1: LDP is off on p-pe2, 2 hops from pe1: a -> b",
             "  1 NoLsp at pe2: LDP is off on p-pe2: b -> a",
             "  1 NodeDown at pe1: node pe1 is down: a -> b",
@@ -182,16 +328,34 @@ class Tool(unittest.TestCase):
 
     def test_a_site_behind_two_edges(self):
         """Its other edge serves it where the session of the first one ends, and doesn't where it stays."""
-        said = self.answer(1, "--only", "link p-pe2", self.dual)
+        said = self.answer(1, "--no-resolve", "--only", "link p-pe2", self.dual)
         self.assertIn("link p-pe2: 1 pair lost, 1 by another way\n  1 NoRoute at pe2: no links lead from pe2 to pe1, and their BGP session ended: b -> a\n", said)
         said = self.answer(1, "--keep-bgp", "--only", "pe2-p", "--of", "links", self.dual)
         self.assertIn("link p-pe2: 2 pairs lost\n  1 NoLsp at pe1: link p-pe2 is down: a -> b|b-too\n", said)
 
     def test_a_route_that_is_not_resolved(self):
         """It stands aside for that of the other edge, where a link fails and where LDP alone does."""
-        said = self.answer(1, "--resolve", "--only", "p-pe2", "--of", "links,ldp", self.dual)
+        said = self.answer(1, "--only", "p-pe2", "--of", "links,ldp", self.dual)
         self.assertIn("link p-pe2: 1 pair lost, 1 by another way\n  1 NoLsp at pe2: link p-pe2 is down: b -> a\n", said)
-        self.assertIn("ldp p-pe2: 1 pair lost, 1 by another way\n  1 NoLsp at pe2: LDP is off on p-pe2: b -> a\n", said)
+        self.assertIn("ldp p-pe2: 1 pair lost at worst, 1 by another way\n  1 NoLsp at pe2: LDP is off on p-pe2: b -> a\n", said)
+
+    def test_a_default_route_that_takes_what_is_lost(self):
+        """Three nodes, a hub with a default route and a branch: cut off, the hub's packets to the branch stay at the hub, and that is told in every form."""
+        net = self.folder / "default.toml"
+        net.write_text(DUAL.replace("loss = 2", "").replace("10.1.0.0/16", "0.0.0.0/0").replace("[[site]]\nname = \"b-too\"\nvrf = \"red3\"\nprefixes = [\"10.2.0.0/16\"]\n", ""))
+        words = ("--of", "links", "--only", "p-pe2")
+        for options, why in (((), "link p-pe2 is down"), (("--no-resolve",), "no links lead from pe1 to pe2, and their BGP session ended")):
+            said = self.answer(1, *words, *options, net)
+            self.assertIn(f"link p-pe2: 2 pairs lost\n  1 astray to a: {why}: a -> b\n", said)
+        lost = json.loads(self.answer(1, "--json", *words, net))["failures"][0]["lost"]
+        self.assertEqual({"from": "a", "to": ["b"], "prefix": "10.2.0.0/16", "rule": "Astray", "node": "pe1", "astray_to": "a", "why": "link p-pe2 is down"}, lost[0])
+        rows = list(csv.DictReader(io.StringIO(self.answer(1, "--csv", *words, net))))
+        self.assertEqual([("a", "Astray", "a"), ("b", "NoLsp", "")], [(row["from"], row["rule"], row["astray_to"]) for row in rows])
+        matrix = list(csv.reader(io.StringIO(self.answer(1, "--matrix", *words, net))))
+        self.assertEqual(["a", "pe1 p pe2 => astray to a", ""], matrix[1])
+        page = self.folder / "page.html"
+        self.answer(1, "--html", page, *words, net)
+        self.assertIn("<td>astray to a<td>link p-pe2 is down<td>a -&gt; b", page.read_text())
 
     def test_losses_of_links_are_left_out(self):
         self.assertEqual([], json.loads(self.answer(0, "--json", "--only", "bgp pe2-pe3", self.dual))["unreached"])
@@ -203,7 +367,7 @@ class Tool(unittest.TestCase):
         self.assertEqual(lost, [(row["kind"], row["name"], row["from"], row["rule"]) for row in rows])
         matrix = list(csv.reader(io.StringIO(self.answer(1, "--matrix", "--only", "pe1-p", "--of", "links", self.dual))))
         self.assertEqual(["from \\ to", "b|b-too", "a"], matrix[0])
-        self.assertEqual("pe1 p pe2 => NoRoute at pe1", matrix[1][1])
+        self.assertEqual("pe1 p pe2 => NoLsp at pe1", matrix[1][1])
         page = self.folder / "page.html"
         self.answer(1, "--html", page, self.dual)
         text = page.read_text()
