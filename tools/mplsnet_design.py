@@ -6,24 +6,47 @@ import re
 from dataclasses import dataclass, field
 
 from mplsnet_files import NAME, Fault
+from mplsnet_left import NUMBERS, PARTS, Left
+from mplsnet_rules import address, pair
 
 LIMITS = {"node": 256, "link": 1024, "vrf": 512, "site": 4096}
 MOST_EDGES = 64
+MOST_OF = {"cost": 65_535, "delay": 1000}
 FAMILIES = ("ring", "mesh", "waxman", "fat-tree")
 
 
 @dataclass
 class Design:
-    """A network as it is gathered; `left` says what of a source was left out."""
+    """A network as it is gathered; `left` says what it has otherwise than its source."""
 
     source: str
     asn: int = 65_000
-    resolve: bool = False
+    resolve: bool = True
     nodes: dict = field(default_factory=dict)  # of each name its loopback, none where it is to be given
     links: list = field(default_factory=list)
     vrfs: list = field(default_factory=list)
     sites: list = field(default_factory=list)
-    left: list = field(default_factory=list)
+    left: Left = field(default_factory=Left)
+    off: list = field(default_factory=list)  # the ends of links on which LDP is off as the network comes up
+    lawful: dict = field(default_factory=dict)  # of each kind and name of a source the name here
+
+    def tell(self, group, text, where="", line=None):
+        self.left.tell(group, text, where, line)
+
+    def name(self, kind, wanted, key=None):
+        """A name of its form for what the source names so, or by the key; no other of the kind has it."""
+        key = (kind, wanted if key is None else key)
+        if key not in self.lawful:
+            taken = {name for (other, _), name in self.lawful.items() if other == kind}
+            text = re.sub(r"[^A-Za-z0-9._-]", "-", wanted)[:32] or kind
+            name, number = text, 1
+            while name in taken:
+                number += 1
+                name = f"{text[: 31 - len(str(number))]}-{number}"
+            if name != wanted:
+                self.tell(NUMBERS, f"{kind} {wanted!r} is '{name}' here")
+            self.lawful[key] = name
+        return self.lawful[key]
 
     def node(self, place, name, loopback=None):
         if not NAME.match(name):
@@ -43,14 +66,51 @@ class Design:
         self.links.append({"a": a, "b": b} | {key: value for key, value in keys.items() if value is not None})
         return True
 
+    def merged(self, a, b, what, **keys):
+        """A link that joins the same two nodes as one before is one with it, of the least cost; `what` names the source's link."""
+        if a == b:
+            self.tell(PARTS, f"{what} joins {a} with itself: left out")
+        elif not self.link(what, a, b, **keys):
+            before = next(link for link in self.links if {link["a"], link["b"]} == {a, b})
+            costs = [link.get("cost") for link in (before, keys)]
+            if costs != [None, None]:
+                before["cost"] = min(10 if cost is None else cost for cost in costs)
+            self.tell(PARTS, f"links side by side are one link of the least cost, which fails only whole: {what}", f"{a}-{b}")
+
+    def site(self, name, vrf, prefixes):
+        """A site with those of the prefixes that its VRF hasn't yet."""
+        taken = {prefix for site in self.sites if site["vrf"] == vrf for prefix in site["prefixes"]}
+        twice = [prefix for prefix in dict.fromkeys(prefixes) if prefix in taken]
+        if twice:
+            self.tell(PARTS, f"{', '.join(twice)}: another site of VRF {vrf} has it already: left out", name)
+        self.sites.append({"name": name, "vrf": vrf, "prefixes": [prefix for prefix in dict.fromkeys(prefixes) if prefix not in taken]})
+
+    def fresh_rd(self, rds):
+        """A route distinguisher that isn't among these."""
+        number = 1
+        while f"{self.asn}:{number}" in rds:
+            number += 1
+        return f"{self.asn}:{number}"
+
     def vrf(self, place, name, node, rd, imports, exports):
         if not NAME.match(name):
             raise Fault(f"{place}: {name!r} is no name for a VRF (1 to 32 letters, digits, '-', '.', '_')")
-        self.vrfs.append({"name": name, "node": node, "rd": rd, "import": list(imports), "export": list(exports)})
+        self.vrfs.append({"name": name, "node": node, "rd": rd, "import": list(dict.fromkeys(imports)), "export": list(dict.fromkeys(exports))})
         return self.vrfs[-1]
+
+    def own_loopbacks(self):
+        """Loopbacks that no node can have, or that stand twice, are given anew."""
+        seen = set()
+        for name, loopback in self.nodes.items():
+            at = address(loopback) if loopback is not None else None
+            if loopback is not None and (at is None or at >> 24 in (0, 127) or at >> 28 in (14, 15) or loopback in seen):
+                self.tell(NUMBERS, f"loopback {loopback}: {'another node has it' if loopback in seen else 'no node can have it here'}: one is given", name)
+                self.nodes[name] = None
+            seen.add(loopback)
 
     def tables(self):
         """The topology's tables, within its limits."""
+        self.own_loopbacks()
         used, loopbacks, given = set(self.nodes.values()), {}, 0
         for name, loopback in self.nodes.items():
             while loopback is None:
@@ -58,7 +118,7 @@ class Design:
                 given += 1
                 loopback = None if text in used else text
             loopbacks[name] = loopback
-        tables = {"as": self.asn} | ({"resolve": True} if self.resolve else {})
+        tables = {"as": self.asn, "resolve": self.resolve}
         tables |= {"node": [{"name": name, "loopback": at} for name, at in loopbacks.items()], "link": self.links}
         tables |= {"vrf": self.vrfs, "site": self.sites}
         for kind, most in LIMITS.items():
@@ -71,6 +131,37 @@ class Design:
             if max(len(vrf["import"]), len(vrf["export"])) > 16:
                 raise Fault(f"{self.source}: VRF {vrf['name']} has more than 16 targets")
         return tables
+
+
+class Numbers:
+    """AS numbers, and the pairs of targets and distinguishers, of a source; those of four bytes get one of two bytes that it hasn't, one to one."""
+
+    def __init__(self, design, texts):
+        self.design, self.given = design, {}
+        self.used = {int(word) for text in texts for word in re.findall(r"\d+", text) if len(word) < 6}
+
+    def asn(self, word):
+        """The number of an AS, also in the form N.N; none where it isn't one."""
+        found = re.fullmatch(r"(\d{1,5})\.(\d{1,5})", str(word))
+        number = int(found[1]) << 16 | int(found[2]) if found and max(map(int, found.groups())) < 65_536 else int(word) if str(word).isdecimal() else 0
+        if not 0 < number < 1 << 32:
+            return None
+        if number < 65_536:
+            return number
+        if number not in self.given:
+            taken = {*self.used, *self.given.values()}
+            self.given[number] = next((one for one in [*range(64_512, 65_535), *range(1, 64_512)] if one not in taken), None)
+            self.design.tell(NUMBERS, f"AS {word} has four bytes: it is AS {self.given[number]} here, in targets and distinguishers too")
+        return self.given[number]
+
+    def pair(self, word):
+        """AS:N or ADDRESS:N as a topology has it; none where it is neither."""
+        first, _, last = str(word).partition(":")
+        if pair(str(word)):
+            return str(word)
+        number = self.asn(first) if last.isdecimal() and re.fullmatch(r"\d{6,10}|\d{1,5}\.\d{1,5}", first) else None
+        text = f"{number}:{last}" if number and int(last) < 65_536 else ""
+        return text if pair(text) else None
 
 
 # The short form.
@@ -111,7 +202,7 @@ class Short:
         key, colon, rest = line.partition(":")
         words = key.split()
         if not colon or not words:
-            raise Fault(f"{place}: isn't of the form 'nodes: ..', 'links: ..', 'vpn NAME: ..', 'share: .. with ..', 'as: N' or 'resolve: true'")
+            raise Fault(f"{place}: isn't of the form 'nodes: ..', 'links: ..', 'vpn NAME: ..', 'share: .. with ..', 'as: N' or 'resolve: false'")
         items = [item.split() for item in rest.split(";") if item.split()]
         if words == ["nodes"]:
             for name in (name for item in items for word in item for name in expanded(place, word)):
@@ -148,8 +239,9 @@ class Short:
     def links(self, place, words):
         keys = {}
         while len(words) > 2 and words[-2] in ("cost", "delay"):
-            if not words[-1].isdecimal() or int(words[-1]) < 1:
-                raise Fault(f"{place}: {words[-2]} {words[-1]!r} isn't a number from 1")
+            most = MOST_OF[words[-2]]
+            if not words[-1].isdecimal() or not 1 <= int(words[-1]) <= most:
+                raise Fault(f"{place}: {words[-2]} {words[-1]!r} isn't a number from 1 to {most}")
             keys[words[-2]] = int(words[-1])
             words = words[:-2]
         pairs = self.pairs(place, words)

@@ -1,13 +1,13 @@
-"""Networks of other tools: netlab's and containerlab's YAML, and FRR's configuration. Each tells what it left out."""
+"""Networks of other tools: netlab's and containerlab's YAML. Each tells what it left out."""
 
 import ipaddress
+import json
 import re
-from collections import Counter
 from pathlib import Path
 
-from mplsnet_design import Design
-from mplsnet_files import NAME, Fault, bytes_of
-from mplsnet_knowledge import distinguisher
+from mplsnet_design import Design, Numbers
+from mplsnet_files import Fault, bytes_of
+from mplsnet_left import LABELS, NUMBERS, PARTS, REACH, UNKNOWN, UNREAD, WAYS
 
 HOSTS = ("linux", "host", "bridge", "ovs-bridge")  # kinds of nodes that are no routers
 
@@ -35,62 +35,118 @@ def yaml_of(path):
     return found
 
 
-def target_of(word):
-    """A target or a distinguisher of its form; none else."""
-    text = str(word)
-    return text if distinguisher(text) and re.fullmatch(r"(0|[1-9][\d.]*):(0|[1-9]\d*)", text) else None
-
-
-def left_keys(design, place, table, known):
-    """Says which keys aren't read."""
-    others = sorted(str(key) for key in table if str(key).partition(".")[0] not in known)
-    if others:
-        design.left.append(f"{place}: {', '.join(others)}")
-
-
 # containerlab (https://containerlab.dev/manual/topo-def-file/).
 
 
-def containerlab(path):
+OUTER = ("host", "macvlan", "mgmt-net", "vxlan", "vxlan-stitch", "dummy")  # ends that are no nodes
+BRIDGES = ("bridge", "ovs-bridge")
+
+
+class Containerlab:
     """Nodes and links; it has no VPNs of its own."""
-    found = yaml_of(path)
-    topology = found.get("topology")
-    if not isinstance(topology, dict) or not isinstance(topology.get("nodes"), dict):
-        raise Fault(f"{path}: has no topology with nodes: isn't containerlab's")
-    design, hosts = Design(str(path)), set()
-    kinds = topology.get("kinds") if isinstance(topology.get("kinds"), dict) else {}
-    default = topology.get("defaults", {}).get("kind") if isinstance(topology.get("defaults"), dict) else None
-    for name, node in topology["nodes"].items():
-        kind = (node or {}).get("kind", default) if isinstance(node, dict) or node is None else None
-        if kind in HOSTS and "frr" not in str((node or {}).get("image", kinds.get(kind, {}).get("image", ""))):
-            hosts.add(str(name))
+
+    def __init__(self, path):
+        self.path, found = path, yaml_of(path)
+        topology = found.get("topology")
+        if not isinstance(topology, dict) or not isinstance(topology.get("nodes"), dict):
+            raise Fault(f"{path}: has no topology with nodes: isn't containerlab's")
+        self.found, self.topology, self.design = found, topology, Design(str(path))
+        self.routers, self.hosts, self.bridges = {}, [], {}
+
+    def read(self):
+        for name, node in self.topology["nodes"].items():
+            self.node(str(name), node if isinstance(node, dict) else {})
+        if self.hosts:
+            self.design.tell(PARTS, f"nodes that are no routers, left out with their links: {', '.join(self.hosts)}")
+        links = self.topology.get("links") or []
+        for at, link in enumerate(links if isinstance(links, list) else []):
+            self.link(f"link {at}", link if isinstance(link, dict) else {})
+        for bridge, ends in self.bridges.items():
+            self.bridge(bridge, ends)
+        keys = sorted(str(key) for key in self.found if key not in ("name", "topology"))
+        if keys:
+            self.design.tell(UNREAD, f"keys of the top: {', '.join(keys)}")
+        return self.design
+
+    def node(self, name, node):
+        kinds, groups = ({str(key): one for key, one in (self.topology.get(part) or {}).items() if isinstance(one, dict)} if isinstance(self.topology.get(part), dict) else {} for part in ("kinds", "groups"))
+        defaults = self.topology.get("defaults") if isinstance(self.topology.get("defaults"), dict) else {}
+        node = {**defaults, **groups.get(str(node.get("group")), {}), **node}
+        kind = node.get("kind")
+        image = node.get("image", kinds.get(str(kind), {}).get("image", ""))
+        if kind in BRIDGES:
+            self.bridges[name] = []
+        elif kind in HOSTS and "frr" not in str(image):
+            self.hosts.append(name)
         else:
-            design.node(f"{path}: node {name}", str(name))
-    if hosts:
-        design.left.append(f"nodes that are no routers: {', '.join(sorted(hosts))}")
-    for at, link in enumerate(topology.get("links") or []):
-        place = f"{path}: link {at}"
-        ends = link.get("endpoints") if isinstance(link, dict) else None
-        if isinstance(ends, list) and all(isinstance(end, dict) for end in ends):
-            names = [str(end.get("node")) for end in ends]
-        elif isinstance(ends, list) and all(isinstance(end, str) for end in ends):
-            names = [end.partition(":")[0] for end in ends]
+            self.routers[name] = self.design.name("node", name)
+            self.design.node(f"{self.path}: node {name}", self.routers[name])
+            config = node.get("startup-config")
+            if isinstance(config, str):
+                self.design.tell(REACH, "its 'startup-config' isn't read: costs, LDP and VPNs stand there (FRR's goes in by --form frr)", name)
+
+    def ends(self, place, link):
+        """The names of a link's ends; none where an end is no node."""
+        found = link.get("endpoints")
+        if found is None and "endpoint" in link:
+            return [str(link["endpoint"].get("node") if isinstance(link["endpoint"], dict) else link["endpoint"]).partition(":")[0], str(link.get("type"))]
+        if isinstance(found, list) and len(found) == 2 and all(isinstance(end, dict) for end in found):
+            return [str(end.get("node")) for end in found]
+        if isinstance(found, list) and len(found) == 2 and all(isinstance(end, str) for end in found):
+            return [end.partition(":")[0] for end in found]
+        raise Fault(f"{self.path}: {place}: 'endpoints' isn't a list of two, as [\"pe1:eth1\", \"p1:eth1\"]")
+
+    def link(self, place, link):
+        names = self.ends(place, link)
+        for name in names:
+            if name not in self.routers and name not in self.hosts and name not in self.bridges and name not in OUTER:
+                raise Fault(f"{self.path}: {place}: there is no node {name!r}")
+        outer = [name for name in names if name not in self.routers and name not in self.bridges]
+        if outer:
+            self.design.tell(PARTS, f"{place} of {', '.join(names)}: {'not between two routers' if outer[0] in self.hosts else f'leads out by {outer[0]}'}: left out")
+        elif any(name in self.bridges for name in names):
+            for name, other in (names, names[::-1]):
+                if name in self.bridges:
+                    self.bridges[name].append(other)
         else:
-            raise Fault(f"{place}: 'endpoints' isn't a list of two, as [\"pe1:eth1\", \"p1:eth1\"]")
-        take_link(design, place, names, hosts)
-    left_keys(design, "top", found, {"name", "topology"})
-    return design
+            self.design.merged(*map(self.routers.get, names), place)
+
+    def bridge(self, bridge, ends):
+        """A bridge is a link where two routers meet there."""
+        routers = [name for name in ends if name in self.routers]
+        if len(ends) == len(routers) == 2:
+            a, b = map(self.routers.get, routers)
+            self.design.tell(PARTS, f"bridge {bridge}, where two routers meet: it is their link", f"{a}-{b}")
+            self.design.merged(a, b, f"bridge {bridge}")
+        else:
+            self.design.tell(PARTS, f"bridge {bridge} of {', '.join(ends) or 'nothing'}: left out, since a link joins two routers")
 
 
-def take_link(design, place, names, hosts, **keys):
-    """A link of two routers; others are told as left out."""
-    if len(names) != 2 or any(name in hosts for name in names):
-        design.left.append(f"{place.rpartition(': ')[2]} of {', '.join(names)}: not between two routers")
-    elif names[0] == names[1] or not design.link(place, *names, **keys):
-        design.left.append(f"{place.rpartition(': ')[2]} of {', '.join(names)}: another joins the same two, or it joins one with itself")
+def containerlab(path):
+    return Containerlab(path).read()
 
 
 # netlab (https://netlab.tools/topology-overview/).
+
+
+KNOWN = {
+    "top": {"nodes", "links", "vrfs", "bgp", "name", "provider", "defaults", "module", "groups"},
+    "node": {"module", "device", "role", "vrfs", "loopback", "bgp", "group", "id", "name"},
+    "link": {"vrf", "prefix", "ospf", "isis", "link", "group", "members", "interfaces", "linkindex", "name"},
+}
+MEANT = {  # keys that change something: the group, and what is said
+    "bandwidth": (WAYS, "'bandwidth': no cost is taken from it"),
+    "mpls": (LABELS, "'mpls': LDP is on on all links, and labels are those of loopbacks"),
+    "role": (UNREAD, "'role'"), "type": (UNREAD, "'type'"), "mtu": (UNREAD, "'mtu'"),
+    "addressing": (NUMBERS, "'addressing': addresses of loopbacks and of sites are others here"),
+    "plugin": (UNKNOWN, "'plugin'"), "ospf": (UNREAD, "'ospf'"), "isis": (UNREAD, "'isis'"),
+    "config": (UNKNOWN, "'config'"), "static": (UNKNOWN, "'static'"), "routing": (REACH, "'routing': policies and static routes aren't taken"),
+    "evpn": (UNKNOWN, "'evpn'"), "vlans": (UNKNOWN, "'vlans'"), "vlan": (UNKNOWN, "'vlan'"), "sr": (LABELS, "'sr': labels are LDP's here"),
+}  # fmt: skip
+
+
+def table(value):
+    return value if isinstance(value, dict) else {}
 
 
 class Netlab:
@@ -99,59 +155,94 @@ class Netlab:
     def __init__(self, path):
         self.path, self.found = path, yaml_of(path)
         self.design = Design(str(path))
+        self.numbers = Numbers(self.design, [json.dumps(self.found, default=str)])
         self.attached = []  # (node, VRF, prefix, name of what is attached)
         self.prefixes = 0
 
     def read(self):
         nodes = self.found.get("nodes")
         if isinstance(nodes, list):
-            nodes = {str(name): {} for name in nodes}
+            nodes = {str(name): {} for name in nodes if not isinstance(name, (dict, list))}
         if not isinstance(nodes, dict):
             raise Fault(f"{self.path}: has no nodes: isn't netlab's")
-        self.nodes = {str(name): node or {} for name, node in nodes.items()}
-        self.vrfs = {str(name): vrf or {} for name, vrf in (self.found.get("vrfs") or {}).items()}
-        asn = self.value(self.found, "bgp", "as")
-        if isinstance(asn, int) and 1 <= asn <= 65_535:
-            self.design.asn = asn
-        links = [*(self.found.get("links") or [])]
-        for name, vrf in self.vrfs.items():
-            links += [self.with_vrf(link, name) for link in vrf.get("links") or []]
-        entries = [self.ends(f"{self.path}: link {at}", link) for at, link in enumerate(links)]
+        self.nodes = {str(name): self.with_groups(str(name), table(node)) for name, node in nodes.items()}
+        self.vrfs = {str(name): table(vrf) for name, vrf in table(self.found.get("vrfs")).items()}
+        self.design.asn = self.numbers.asn(self.value(self.found, "bgp", "as")) or self.design.asn
+        entries = list(self.entries())
         self.customers = self.outside(entries)
         for name in self.nodes:
             if name not in self.customers:
-                self.design.node(f"{self.path}: node {name}", name)
-        for at, (ends, keys) in enumerate(entries):
-            self.link(f"{self.path}: link {at}", ends, keys)
+                self.node(name)
+        for place, ends, keys in entries:
+            self.link(place, ends, keys)
         self.attach()
-        left_keys(self.design, "top", self.found, {"nodes", "links", "vrfs", "bgp", "name", "provider", "defaults", "module"})
+        self.keys("top", self.found, "")
         return self.design
 
-    def value(self, table, *keys):
-        """A value under keys, which netlab also takes joined by dots."""
-        if ".".join(keys) in table:
-            return table[".".join(keys)]
-        inner = table.get(keys[0])
-        return inner if len(keys) == 1 else self.value(inner, *keys[1:]) if isinstance(inner, dict) else None
+    def with_groups(self, name, node):
+        """A node with what its groups say of their members."""
+        found = {}
+        for group, said in table(self.found.get("groups")).items():
+            members = said if isinstance(said, list) else table(said).get("members")
+            if name in map(str, members if isinstance(members, list) else []) or str(node.get("group")) == str(group):
+                said = table(said)
+                found |= {key: value for key, value in said.items() if key not in ("members", "node_data", "vars", "config")} | table(said.get("node_data"))
+        return {**found, **node}
 
-    def with_vrf(self, link, vrf):
-        return {"link": link, "vrf": vrf}
+    def entries(self):
+        """The links, each with its place, its ends and what it says of itself."""
+        links = [(f"link {at}", link, {}) for at, link in enumerate(self.found.get("links") or [])]
+        for name, vrf in self.vrfs.items():
+            links += [(f"VRF {name}: link {at}", link, {"vrf": name}) for at, link in enumerate(vrf.get("links") or [])]
+        while links:
+            place, link, keys = links.pop(0)
+            if isinstance(link, dict) and isinstance(link.get("members"), list):
+                own = {key: value for key, value in link.items() if key not in ("group", "members")}
+                links = [(f"{place}, member {at}", member, {**keys, **own}) for at, member in enumerate(link["members"])] + links
+                continue
+            ends, own = self.ends(f"{self.path}: {place}", link)
+            yield place, ends, {**keys, **own}
+
+    def node(self, name):
+        loopback = self.value(self.nodes[name], "loopback", "ipv4")
+        loopback = str(loopback).partition("/")[0] if isinstance(loopback, str) else None
+        self.design.node(f"{self.path}: node {name}", self.design.name("node", name), loopback)
+        if self.value(self.nodes[name], "bgp", "rr"):
+            self.design.tell(WAYS, "a route reflector: here each edge has a session with each other, so no route is hidden by another (docs/REFLECT.md)", name)
+        self.keys("node", self.nodes[name], name)
+
+    def keys(self, kind, said, where):
+        """Tells the keys that aren't read."""
+        for key in map(str, said):
+            first = key.partition(".")[0]
+            if first not in KNOWN[kind]:
+                group, text = MEANT.get(first, (UNKNOWN, f"'{key}'"))
+                self.design.tell(group, f"key {text}" if text.startswith("'") else text, where)
+
+    def value(self, said, *keys):
+        """A value under keys, which netlab also takes joined by dots."""
+        if ".".join(keys) in said:
+            return said[".".join(keys)]
+        inner = said.get(keys[0])
+        return inner if len(keys) == 1 else self.value(inner, *keys[1:]) if isinstance(inner, dict) else None
 
     def ends(self, place, link):
         """The nodes of a link with what it says of each, and what it says of itself."""
-        if isinstance(link, dict) and set(link) == {"link", "vrf"}:
-            ends, keys = self.ends(place, link["link"])
-            return ends, {"vrf": link["vrf"], **keys}
         if isinstance(link, str):
             return {name: {} for name in self.names(place, link)}, {}
+        if isinstance(link, list):
+            link = {"interfaces": link}
         if not isinstance(link, dict):
-            raise Fault(f"{place}: is neither a text as 'pe1-p1' nor a mapping")
-        if "interfaces" in link:
+            raise Fault(f"{place}: is neither a text as 'pe1-p1', nor a list, nor a mapping")
+        if isinstance(link.get("interfaces"), list):
             ends = {}
             for one in link["interfaces"]:
-                ends |= {str(one): {}} if isinstance(one, str) else {str(one["node"]): one} if isinstance(one, dict) and "node" in one else {}
+                ends |= {str(one.get("node")): one} if isinstance(one, dict) else {str(one): {}}
         else:
-            ends = {str(name): value if isinstance(value, dict) else {} for name, value in link.items() if str(name) in self.nodes}
+            ends = {str(name): table(value) for name, value in link.items() if str(name) in self.nodes}
+        for name in ends:
+            if name not in self.nodes:
+                raise Fault(f"{place}: there is no node {name!r}")
         if not ends:
             raise Fault(f"{place}: names no node")
         return ends, {str(key): value for key, value in link.items() if str(key) not in self.nodes and key != "interfaces"}
@@ -175,7 +266,7 @@ class Netlab:
     def outside(self, entries):
         """What isn't the provider's: hosts, and nodes all of whose links lead into VRFs of other nodes."""
         inner, outer = set(), set()
-        for ends, keys in entries:
+        for _, ends, keys in entries:
             vrfs = {name: self.vrf_of(end, keys) for name, end in ends.items()}
             has_vrfs = any(vrfs.values())
             for name in ends:
@@ -191,9 +282,11 @@ class Netlab:
     def has_vrfs(self, name):
         """The node is one with VRFs of its own, or one that the modules say to have them."""
         node = self.nodes[name]
-        return bool(node.get("vrfs")) or "vrf" in (node.get("module") or []) or "mpls" in (node.get("module") or [])
+        module = node.get("module") if isinstance(node.get("module"), list) else []
+        return bool(node.get("vrfs")) or "vrf" in module or "mpls" in module
 
     def link(self, place, ends, keys):
+        self.keys("link", keys, place)
         routers = [name for name in ends if name not in self.customers]
         for name in routers:
             vrf = self.vrf_of(ends[name], keys)
@@ -202,10 +295,18 @@ class Netlab:
                 self.attached.append((name, str(vrf), self.prefix(place, keys), others[0] if others else None))
         core = [name for name in routers if not self.vrf_of(ends[name], keys)]
         if len(core) == 2 and len(ends) == 2:
-            cost = next((value for value in (self.value(keys, "ospf", "cost"), self.value(keys, "isis", "metric"), *(self.value(end, "ospf", "cost") for end in ends.values())) if value), None)
-            take_link(self.design, place, core, set(), cost=cost if isinstance(cost, int) and 1 <= cost <= 65_535 else None)
+            self.core_link(place, core, ends, keys)
         elif core:
-            self.design.left.append(f"{place.rpartition(': ')[2]} of {', '.join(ends)}: not between two routers")
+            self.design.tell(PARTS, f"{place} of {', '.join(ends)}: not between two routers: left out")
+
+    def core_link(self, place, core, ends, keys):
+        costs = [self.value(keys, "ospf", "cost"), self.value(keys, "isis", "metric")]
+        costs += [self.value(ends[name], *key) for name in core for key in (("ospf", "cost"), ("isis", "metric"))]
+        found = [cost for cost in costs if cost is not None]
+        lawful = [cost for cost in found if isinstance(cost, int) and not isinstance(cost, bool) and 1 <= cost <= 65_535]
+        if len(lawful) < len(found) or len({*lawful}) > 1:
+            self.design.tell(WAYS, f"costs {', '.join(map(str, found))}: a link has one cost here, {lawful[0] if lawful else 10}", place)
+        self.design.merged(*(self.design.name("node", name) for name in core), place, cost=lawful[0] if lawful else None)
 
     def prefix(self, place, keys):
         """The link's prefix, or one of the pool from which netlab takes those of LANs."""
@@ -213,47 +314,51 @@ class Netlab:
         given = given.get("ipv4") if isinstance(given, dict) else given
         if isinstance(given, str):
             try:
-                return str(ipaddress.ip_network(given, strict=False))
+                return str(ipaddress.IPv4Network(given, strict=False))
             except ValueError:
-                raise Fault(f"{place}: prefix {given!r} isn't one of IPv4")
+                raise Fault(f"{self.path}: {place}: prefix {given!r} isn't one of IPv4")
         self.prefixes += 1
         return f"172.{16 + self.prefixes // 256}.{self.prefixes % 256}.0/24"
 
     def attach(self):
         """A VRF for each edge and name, a site for each attachment; their targets are those given, or the VRF's number."""
-        numbers = {name: at for at, name in enumerate(self.vrfs, 1)}
-        made, named = {}, Counter()
+        self.order = {name: at for at, name in enumerate(self.vrfs, 1)}
+        made = {}
         for node, vrf, prefix, other in self.attached:
-            if vrf not in numbers:
-                numbers[vrf] = len(numbers) + 1
+            self.order.setdefault(vrf, len(self.order) + 1)
             if (node, vrf) not in made:
-                made[node, vrf] = self.vrf(node, vrf, numbers[vrf])
-            name = other or f"{vrf}-{node}"
-            named[name] += 1
-            name = name if named[name] == 1 else f"{name}-{named[name]}"
-            if not NAME.match(name):
-                raise Fault(f"{self.path}: {name!r} is no name for a site")
-            self.design.sites.append({"name": name, "vrf": made[node, vrf], "prefixes": [prefix]})
+                made[node, vrf] = self.vrf(node, vrf)
+            if other and self.value(self.nodes[other], "bgp", "as"):
+                self.design.tell(REACH, f"a CE of AS {self.value(self.nodes[other], 'bgp', 'as')}: the prefixes that it announces by BGP aren't known here; its site has those of its links", other)
+            name = self.design.name("site", other or f"{vrf}-{node}", len(self.design.sites))
+            self.design.site(name, made[node, vrf], [prefix])
 
-    def vrf(self, node, name, number):
-        said = {**self.vrfs.get(name, {}), **((self.nodes[node].get("vrfs") or {}).get(name) or {})}
-        default = target_of(said.get("rd")) or f"{self.design.asn}:{number}"
+    def vrf(self, node, name):
+        said = {**self.vrfs.get(name, {}), **table(table(self.nodes[node].get("vrfs")).get(name))}
+        default = self.own_target(name, said)
         imports, exports = (self.targets(said, key, default) for key in ("import", "export"))
-        self.design.vrf(f"{self.path}: VRF {name}", f"{name}-{node}", node, f"{self.design.asn}:{1000 + len(self.design.vrfs) + 1}", imports, exports)
-        return f"{name}-{node}"
+        rd = f"{self.design.asn}:{1000 + len(self.design.vrfs) + 1}"
+        if said.get("rd") is not None:
+            self.design.tell(NUMBERS, f"VRF {name}: rd {said['rd']} is that of all its edges: each has one of its own here", node)
+        made = self.design.vrf(f"{self.path}: VRF {name}", self.design.name("vrf", f"{name}-{node}"), self.design.name("node", node), rd, imports, exports)
+        return made["name"]
+
+    def own_target(self, name, said):
+        """The target that a VRF has where none is given: its distinguisher, or AS:N of its number."""
+        rd = said.get("rd")
+        if isinstance(rd, int) and not isinstance(rd, bool) and 0 <= rd < 1 << 32:
+            return f"{self.design.asn}:{rd}"
+        return self.numbers.pair(rd) or f"{self.design.asn}:{self.order.get(name, len(self.order) + 1)}"
 
     def targets(self, said, key, default):
         """The targets of a list; a VRF's name stands for its own."""
-        given = said.get(key)
-        found = []
+        given, found = said.get(key), []
         for one in given if isinstance(given, list) else [given] if given else [default]:
-            if str(one) in self.vrfs:
-                at = list(self.vrfs).index(str(one)) + 1
-                one = target_of(self.vrfs[str(one)].get("rd")) or f"{self.design.asn}:{at}"
-            if target_of(one) is None:
-                self.design.left.append(f"{key} target {one}: not of the form AS:N or ADDRESS:N")
-            elif target_of(one) not in found:
-                found.append(target_of(one))
+            target = self.own_target(str(one), self.vrfs[str(one)]) if str(one) in self.vrfs else self.numbers.pair(one)
+            if target is None:
+                self.design.tell(REACH, f"{key} target {one}: not of the form AS:N or ADDRESS:N: left out")
+            elif target not in found:
+                found.append(target)
         return found
 
 
@@ -261,188 +366,7 @@ def netlab(path):
     return Netlab(path).read()
 
 
-# FRR (https://docs.frrouting.org).
-
-
-class Router:
-    """What a router's configuration says of what is modelled; the rest is counted."""
-
-    def __init__(self, path, name):
-        self.path, self.name, self.loopback = path, name, None
-        self.asn, self.interfaces, self.vrfs, self.ldp, self.left = None, {}, {}, set(), Counter()
-        self.block, self.inner = None, None
-
-    def vrf(self, name):
-        return self.vrfs.setdefault(name, {"rd": None, "import": [], "export": [], "networks": [], "static": [], "connected": False, "redistributes static": False})
-
-    def line(self, place, text):
-        words = text.split()
-        if not words or words[0][0] in "!#" or words[0] in ("exit", "end", "exit-vrf", "exit-address-family", "frr", "log", "service", "no"):
-            self.inner = None if words and words[0] == "exit-address-family" else self.inner
-            return
-        if not text.startswith((" ", "\t")):
-            self.begin(place, words)
-        elif not self.take(place, words):
-            self.left[" ".join(words[:2])] += 1
-
-    def begin(self, place, words):
-        self.inner = None
-        if words[0] == "hostname" and len(words) == 2:
-            self.name, self.block = words[1], None
-        elif words[0] == "interface":
-            self.block = ("interface", words[1])
-            self.interfaces.setdefault(words[1], {"vrf": words[3] if words[2:3] == ["vrf"] else None, "addresses": [], "cost": None})
-        elif words[:2] == ["router", "bgp"]:
-            self.block = ("bgp", words[4] if words[3:4] == ["vrf"] else None)
-            self.asn = int(words[2]) if words[2:] and words[2].isdecimal() else self.asn
-        elif words[0] == "vrf" and len(words) > 1:
-            self.block = ("vrf", words[1])
-        elif words[:2] == ["mpls", "ldp"]:
-            self.block = ("ldp", None)
-        elif words[:2] == ["ip", "route"] and "vrf" in words:
-            self.vrf(words[words.index("vrf") + 1])["static"].append(self.network(place, words[2]))
-            self.block = None
-        else:
-            self.block = None
-            self.left[" ".join(words[:2])] += 1
-
-    def take(self, place, words):
-        """A line within a block; whether it is read."""
-        kind, name = self.block or (None, None)
-        if kind == "interface":
-            return self.interface_line(place, self.interfaces[name], words)
-        if kind == "ldp":
-            if words[0] == "interface":
-                self.ldp.add(words[1])
-            return words[0] in ("interface", "router-id", "address-family", "discovery")
-        if kind == "vrf" and words[:2] == ["ip", "route"] and len(words) > 2:
-            self.vrf(name)["static"].append(self.network(place, words[2]))
-            return True
-        return kind == "bgp" and self.bgp_line(place, name, words)
-
-    def interface_line(self, place, interface, words):
-        if words[:2] == ["ip", "address"] and len(words) > 2:
-            interface["addresses"].append(self.interface_address(place, words[2]))
-        elif words[:3] == ["ip", "ospf", "cost"] or words[:2] == ["isis", "metric"]:
-            interface["cost"] = int(words[-1]) if words[-1].isdecimal() else None
-        elif words[0] == "vrf" and len(words) == 2:
-            interface["vrf"] = words[1]
-        else:
-            return words[0] in ("description", "mpls", "ip", "isis")
-        return True
-
-    def bgp_line(self, place, name, words):
-        if words[0] == "address-family":
-            self.inner = words[1:]
-            return True
-        if name is None:
-            return words[0] in ("bgp", "neighbor") and self.inner is None or self.inner == ["ipv4", "vpn"]
-        vrf = self.vrf(name)
-        if words[:3] == ["rd", "vpn", "export"]:
-            vrf["rd"] = words[3]
-        elif words[:2] == ["rt", "vpn"] and words[2:3] and words[2] in ("import", "export", "both"):
-            for key in ("import", "export") if words[2] == "both" else (words[2],):
-                vrf[key] += [one for one in words[3:] if one not in vrf[key]]
-        elif words[0] == "network" and len(words) > 1:
-            vrf["networks"].append(self.network(place, words[1]))
-        elif words[0] == "redistribute" and len(words) > 1 and words[1] in ("connected", "static"):
-            vrf["connected" if words[1] == "connected" else "redistributes static"] = True
-        else:
-            return words[:1] == ["label"] or words[:2] in (["import", "vpn"], ["export", "vpn"], ["bgp", "router-id"])
-        return True
-
-    def network(self, place, word):
-        try:
-            return str(ipaddress.IPv4Network(word, strict=False))
-        except ValueError:
-            raise Fault(f"{place}: {word!r} isn't a prefix of IPv4")
-
-    def interface_address(self, place, word):
-        try:
-            return ipaddress.IPv4Interface(word)
-        except ValueError:
-            raise Fault(f"{place}: {word!r} isn't an address of IPv4 with a length")
-
-
-def configuration_files(path):
-    """The files of routers: the file itself, or of a folder each *.conf, and frr.conf in each folder of it."""
-    path = Path(path)
-    if path.is_file():
-        return [(path, path.stem)]
-    if not path.is_dir():
-        raise Fault(f"{path}: No such file or directory")
-    found = [(file, file.stem) for file in sorted(path.glob("*.conf"))]
-    found += [(file, file.parent.name) for file in sorted(path.glob("*/frr.conf"))]
-    if not found:
-        raise Fault(f"{path}: has neither *.conf nor */frr.conf")
-    return found
-
-
-def frr(path):
-    """Routers, links where two of them have an address in one net, and VRFs with their targets and prefixes."""
-    design, routers = Design(str(path)), []
-    for file, name in configuration_files(path):
-        router = Router(file, name)
-        for number, line in enumerate(bytes_of(file).decode("latin-1").split("\n"), 1):
-            router.line(f"{file}: line {number}", line.rstrip("\r"))
-        routers.append(router)
-    for router in routers:
-        for name, interface in router.interfaces.items():
-            if name == "lo" and interface["addresses"]:
-                router.loopback = str(interface["addresses"][0].ip)
-    # A customer's own router has neither LDP nor VRFs, where others have.
-    has_mpls = any(router.ldp or router.vrfs for router in routers)
-    customers = [router for router in routers if has_mpls and not router.ldp and not router.vrfs]
-    routers = [router for router in routers if router not in customers]
-    if customers:
-        design.left.append(f"routers without LDP and VRFs: {', '.join(router.name for router in customers)}")
-    for router in routers:
-        design.node(router.path, router.name, router.loopback)
-        if router.asn and 1 <= router.asn <= 65_535:
-            design.asn = router.asn
-    frr_links(design, routers)
-    for router in routers:
-        frr_vrfs(design, router)
-        for what, count in sorted(router.left.items()):
-            design.left.append(f"{router.path.name if router.path.stem != 'frr' else router.path.parent.name}: {count} of '{what} ..'")
-    return design
-
-
-def frr_links(design, routers):
-    """The links: nets that two routers share outside VRFs."""
-    nets = {}
-    for router in routers:
-        for name, interface in router.interfaces.items():
-            for address in interface["addresses"]:
-                if name != "lo" and interface["vrf"] is None:
-                    nets.setdefault(address.network, []).append((router, name, interface))
-    for net, ends in nets.items():
-        names = [router.name for router, _, _ in ends]
-        if len(ends) != 2:
-            design.left.append(f"net {net} of {', '.join(names)}: not between two routers")
-            continue
-        costs = [interface["cost"] for _, _, interface in ends]
-        if costs[0] != costs[1]:
-            design.left.append(f"net {net}: the cost at {names[1]}, {costs[1]}, since a link has one cost")
-        without = [router.name for router, name, _ in ends if router.ldp and name not in router.ldp]
-        if without:
-            design.left.append(f"net {net}: LDP isn't on at {', '.join(without)}; the script has it on ('ldp off {' '.join(names)}')")
-        take_link(design, f"net {net}", names, set(), cost=costs[0])
-
-
-def frr_vrfs(design, router):
-    """The router's VRFs: what they announce are their sites' prefixes."""
-    for name, vrf in router.vrfs.items():
-        place = f"{router.path}: VRF {name}"
-        rd = target_of(vrf["rd"]) or f"{design.asn}:{1000 + len(design.vrfs) + 1}"
-        if vrf["rd"] is None:
-            design.left.append(f"{router.name}: VRF {name} has no 'rd vpn export': {rd} is taken")
-        made = design.vrf(place, f"{name}-{router.name}", router.name, rd, filter(target_of, vrf["import"]), filter(target_of, vrf["export"]))
-        connected = [str(address.network) for one in router.interfaces.values() if one["vrf"] == name for address in one["addresses"]]
-        prefixes = vrf["networks"] + (connected if vrf["connected"] else []) + (vrf["static"] if vrf["redistributes static"] else [])
-        design.sites.append({"name": made["name"], "vrf": made["name"], "prefixes": list(dict.fromkeys(prefixes))})
-        if not prefixes:
-            design.left.append(f"{router.name}: VRF {name} announces nothing that is read here (no 'network', no 'redistribute' of what it has)")
+# Forms.
 
 
 def form_of(path):

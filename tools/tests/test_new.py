@@ -12,6 +12,7 @@ from runs import ROOT, reference
 
 import mplsnet_whatif as whatif
 from mplsnet_knowledge import Net
+from mplsnet_rules import TopologyRules
 
 TOOL = ROOT / "tools/mplsnet-new"
 SHORT = """\
@@ -176,9 +177,11 @@ class New(unittest.TestCase):
         ran = self.run_tool(*words, "--topology", self.out[0], "--script", self.out[1], "--capture", self.out[2])
         self.assertEqual((0, ""), (ran.returncode, ran.stdout), ran.stderr)
         report, _ = reference.run_of(*(path.read_bytes() for path in self.out))
+        self.assertEqual([], TopologyRules(self.out[0].read_bytes()).broken)
         lines = ran.stderr.splitlines()
-        self.assertTrue(all(line.startswith("mplsnet-new: left out: ") for line in lines), lines)
-        return report.decode().splitlines(), tomllib.loads(self.out[0].read_text()), [line.removeprefix("mplsnet-new: left out: ") for line in lines]
+        self.assertTrue(not lines or lines[0].startswith("mplsnet-new: what isn't as in "), lines)
+        self.assertLessEqual(len(lines), 24)
+        return report.decode().splitlines(), tomllib.loads(self.out[0].read_text()), [line.strip() for line in lines]
 
     def all_arrive(self, report):
         *packets, total = report
@@ -213,8 +216,10 @@ class New(unittest.TestCase):
         sites = {site["name"]: (site["vrf"], site["prefixes"]) for site in net["site"]}
         self.assertEqual(sites["c1-pe02"][1], sites["c1-pe03"][1], "a site behind two edges has one prefix")
         self.assertEqual(("c1-pe02", ["10.1.3.0/24"]), sites["c1-pe02-2"])
-        self.assertNotIn("resolve", net)
-        self.assertTrue(self.made("--from", self.file("net.txt", SHORT + "resolve: true\n"))[1]["resolve"])
+        self.assertTrue(net["resolve"])
+        self.assertIn("# resolve: a route to whose edge no label path leads stands aside", self.out[0].read_text())
+        self.assertIs(False, self.made("--from", self.file("net.txt", SHORT + "resolve: false\n"))[1]["resolve"])
+        self.assertNotIn("#  resolve", self.out[0].read_text())
 
     def test_families(self):
         for family in ("ring", "mesh", "waxman", "fat-tree"):
@@ -222,6 +227,7 @@ class New(unittest.TestCase):
                 words = ("--random", 5, "--family", family, "--size", 4, "--edges", 4, "--vpns", 2)
                 report, net, _ = self.made(*words)
                 self.all_arrive(report)
+                self.assertTrue(net["resolve"])
                 self.assertEqual(self.run_tool(*words).stdout, self.out[0].read_text(), "the same seed gives the same")
                 self.assertNotEqual(self.run_tool("--random", 6, *words[2:]).stdout, self.out[0].read_text())
 
@@ -240,15 +246,19 @@ class New(unittest.TestCase):
                          {vrf["name"]: (vrf["import"], vrf["export"]) for vrf in net["vrf"]})  # fmt: skip
         self.assertEqual({"h1": "red-pe1", "ce3": "red-pe2", "srv": "shared-pe1", "h2": "blue-pe2"}, {site["name"]: site["vrf"] for site in net["site"]})
         self.assertIn(["192.168.1.0/24"], [site["prefixes"] for site in net["site"]])
-        self.assertIn("top: mpls.ldp, tools", left)
+        self.assertIn("key 'mpls': LDP is on on all links, and labels are those of loopbacks", left)
+        self.assertIn("pe1, pe2: VRF red: rd 65001:7 is that of all its edges: each has one of its own here", left)
+        self.assertIn("key 'tools'", left)
 
     def test_containerlab(self):
         report, net, left = self.made("--from", self.file("lab.clab.yml", CLAB), "--vpn", "red: pe1 pe2")
         self.all_arrive(report)
         self.assertEqual(["pe1", "p1", "pe2"], [node["name"] for node in net["node"]])
         self.assertEqual(2, len(net["link"]))
-        self.assertEqual(["nodes that are no routers: host1", "link 2 of p1, pe2: another joins the same two, or it joins one with itself",
-                          "link 3 of pe1, host1: not between two routers"], left)  # fmt: skip
+        self.assertEqual(["mplsnet-new: what isn't as in " + str(self.folder / "lab.clab.yml") + ", most important first:", "nodes and links differ:",
+                          "nodes that are no routers, left out with their links: host1",
+                          "p1-pe2: links side by side are one link of the least cost, which fails only whole: link 2",
+                          "link 3 of pe1, host1: not between two routers: left out"], left)  # fmt: skip
         self.assertIn("no VPN is there", self.run_tool("--from", self.folder / "lab.clab.yml").stderr)
 
     def test_frr(self):
@@ -261,12 +271,12 @@ class New(unittest.TestCase):
         report, net, left = self.made("--from", lab)
         self.all_arrive(report)
         self.assertEqual({"pe1": "10.255.0.1", "p": "10.255.0.2", "pe2": "10.255.0.3"}, {node["name"]: node["loopback"] for node in net["node"]})
-        self.assertEqual([("p", "pe1", 15), ("p", "pe2", None)], [(*sorted((link["a"], link["b"])), link.get("cost")) for link in net["link"]])
+        self.assertEqual([("p", "pe1", 15), ("p", "pe2", 1)], [(*sorted((link["a"], link["b"])), link.get("cost")) for link in net["link"]])  # FRR's cost at 10 Gbit/s and a reference of 100 Mbit/s is 1
         self.assertEqual({"RED-pe1": ("65002:1", ["65002:10"], ["65002:10"]), "RED-pe2": ("65002:2", ["65002:10"], ["65002:10"])},
                          {vrf["name"]: (vrf["rd"], vrf["import"], vrf["export"]) for vrf in net["vrf"]})  # fmt: skip
         self.assertEqual({"RED-pe1": ["192.168.1.0/24", "10.1.5.0/24"], "RED-pe2": ["10.2.0.0/16"]}, {site["name"]: site["prefixes"] for site in net["site"]})
-        self.assertIn("routers without LDP and VRFs: ce1", left)
-        self.assertIn("pe1: 1 of 'router ospf ..'", left)
+        self.assertIn("ce1: a router without LDP and VRFs, left out", left)
+        self.assertIn("p-pe2: no 'ip ospf cost' or 'bandwidth' at p and pe2: the cost is FRR's for a speed that it doesn't know", left)
 
     def test_the_network_of_the_document(self):
         """docs/WHATIF.md tells of its network what it has."""
@@ -299,7 +309,8 @@ class New(unittest.TestCase):
             ("nodes: p/1", "'p/1' is no name"),
             ("links: p -> x of p", "isn't of the form 'pe -> 2 of p'"),
             ("links: p1 - p1", "a link from 'p1' to itself"),
-            ("links: p1 - p2 cost 0", "cost '0' isn't a number from 1"),
+            ("links: p1 - p2 cost 0", "cost '0' isn't a number from 1 to 65535"),
+            ("links: p1 - p2 delay 1001", "delay '1001' isn't a number from 1 to 1000"),
             ("links: web p", "is none of 'ring ..'"),
             ("vpn a: p1 p9", "there is no node 'p9'"),
             ("share: a with b", "there is no VPN 'a' above"),
