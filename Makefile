@@ -1,5 +1,5 @@
 # make test       the whole gate: proofs, must-fail edits, tests, programs
-# make trial      compiles the program without proofs, once, and prints where it is: minutes
+# make trial      compiles the program without proofs, once, and prints where it is: minutes; CHECKS=yes makes one with run-time checks
 # make build      proves and builds the program, and prints where it is: hours the first time
 # make install    puts the proved program, else the trial build, with tools, man page, completions and schema below PREFIX, which is
 #                 /usr/local where none is named; DESTDIR=FOLDER puts FOLDER before it
@@ -20,7 +20,7 @@ test:
 	rt ci
 
 trial:
-	@python3 -B scripts/trial
+	@python3 -B scripts/trial $(if $(filter yes,$(CHECKS)),--checks)
 
 build:
 	@python3 -B scripts/build

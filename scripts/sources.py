@@ -10,8 +10,9 @@ from pathlib import Path
 ROOT = Path(__file__).resolve().parents[1]
 CRATES = ROOT / "crates"
 PROGRAM = CRATES / "mplsnet/out/mplsnet"  # proved
+STAMP = PROGRAM.with_name("mplsnet.stamp")  # rt's, beside what it proved and built; it ends with the executable's checksum
 TRIAL = ROOT / "trial/mplsnet-trial"  # not proved
-SUM = ROOT / "trial/mplsnet-trial.sources"
+CHECKED = ROOT / "trial/mplsnet-checked"  # not proved either, with run-time checks
 MAIN = CRATES / "mplsnet/src/main.rt"
 
 
@@ -46,27 +47,43 @@ def files(*endings):
     return sorted(found)
 
 
-def checksum():
-    """The checksum of the code: all .rt files of these crates, with their names."""
+def sums_of(program):
+    """The file beside an executable that says of which sources it is."""
+    return program.with_name(f"{program.name}.sources")
+
+
+def checksum(*endings):
+    """The checksum of the code: all .rt files of these crates, with their names; or all files that end so."""
     sum_ = hashlib.sha256()
-    for path in files(".rt"):
+    for path in files(*(endings or (".rt",))):
         content = path.read_bytes()
         sum_.update(f"{path.relative_to(CRATES)} {len(content)}\n".encode())
         sum_.update(content)
     return sum_.hexdigest()
 
 
+def proved_sums():
+    """The checksums of the program's code, statements and proofs, and of the executable: scripts/build leaves them beside it."""
+    return f"{checksum('.rt', '.antt')} {hashlib.sha256(PROGRAM.read_bytes()).hexdigest()}"
+
+
 def is_proved():
-    """Whether the proved program is there, and no source has changed since."""
-    if not PROGRAM.exists():
+    """Whether the proved program is there, and is of these sources: by the checksums beside it, or by rt's stamp, where no source has changed since."""
+    if not PROGRAM.is_file():
         return False
-    made = PROGRAM.stat().st_mtime
+    sums, said = proved_sums(), sums_of(PROGRAM)
+    if said.is_file() and said.read_text().strip() == sums:
+        return True
+    if not (STAMP.is_file() and STAMP.read_text().endswith(sums.split()[1])):
+        return False
+    made = STAMP.stat().st_mtime
     return all(path.stat().st_mtime <= made for path in [ROOT / "crates.txt", *files(".rt", ".antt")])
 
 
-def is_tried():
+def is_tried(program=TRIAL):
     """Whether the trial build is there, and is of these sources."""
-    return TRIAL.exists() and SUM.exists() and SUM.read_text().strip() == checksum()
+    said = sums_of(program)
+    return program.exists() and said.exists() and said.read_text().partition(" ")[0] == checksum()
 
 
 def need_rt(who):
