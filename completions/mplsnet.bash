@@ -159,7 +159,7 @@ _mplsnet_whatif() {
         --only | --site | --budget | --jobs | --dask) return ;;
     esac
     if [[ $word == -* ]]; then
-        _mplsnet_words '--help --of --double --only --site --keep-bgp --resolve --json --csv --matrix --all --html --budget --jobs --dask --program --quiet' "$word"
+        _mplsnet_words '--help --of --double --only --site --keep-bgp --resolve --no-resolve --json --csv --matrix --all --html --budget --jobs --dask --program --quiet' "$word"
     else
         _mplsnet_files "$word" .toml
     fi
@@ -239,7 +239,7 @@ _mplsnet_new() {
         --family) _mplsnet_words 'ring mesh waxman fat-tree' "$word"; return ;;
         --random | --generated | --size | --edges | --vpns | --vpn) return ;;
     esac
-    _mplsnet_words '--help --from --random --generated --form --family --size --edges --vpns --vpn --topology --script --capture' "$word"
+    _mplsnet_words '--help --from --random --generated --form --family --size --edges --vpns --vpn --all --topology --script --capture' "$word"
 }
 
 _mplsnet_read() {
