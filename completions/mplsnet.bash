@@ -155,11 +155,11 @@ _mplsnet_whatif() {
     case ${COMP_WORDS[COMP_CWORD - 1]} in
         --of) _mplsnet_words 'links nodes ldp bgp' "$word"; return ;;
         --html) _mplsnet_files "$word" .html; return ;;
-        --program) _mplsnet_files "$word"; return ;;
+        --program | --resume) _mplsnet_files "$word"; return ;;
         --only | --site | --budget | --jobs | --dask) return ;;
     esac
     if [[ $word == -* ]]; then
-        _mplsnet_words '--help --of --double --only --site --keep-bgp --resolve --no-resolve --json --csv --matrix --all --html --budget --jobs --dask --program --quiet' "$word"
+        _mplsnet_words '--help --of --double --only --site --keep-bgp --resolve --no-resolve --json --csv --matrix --all --html --resume --budget --jobs --dask --program --quiet' "$word"
     else
         _mplsnet_files "$word" .toml
     fi

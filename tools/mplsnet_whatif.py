@@ -4,6 +4,8 @@
 called in any process, and on any machine that has the program.
 """
 
+import contextlib
+import ctypes
 import os
 import shutil
 import signal
@@ -115,10 +117,8 @@ class Outcome:
 
 
 def resolves(said, resolve=False, no_resolve=False, keep_bgp=False):
-    """Whether routes to whose edge no label path leads stand aside: by what the topology says (none where it doesn't), and by options."""
-    if resolve or no_resolve:
-        return resolve
-    return said if said is not None else not keep_bgp
+    """Whether routes to whose edge no label path leads stand aside: unless the topology says that they don't, or an option does."""
+    return resolve or not (no_resolve or keep_bgp or said is False)
 
 
 # Failures.
@@ -258,7 +258,8 @@ def probes_of(net, sites=None):
 # A run.
 
 
-WORKING = {}  # the program that runs in this process and its folder, for the case that it is told to stop
+WORKING = {}  # the program that runs in this process, its folder and the one around it, for the case that it is told to stop
+ENDING = {signal.SIGINT, signal.SIGTERM, signal.SIGHUP}
 
 
 def stop(*_):
@@ -271,23 +272,51 @@ def stop(*_):
         except (ProcessLookupError, ChildProcessError):
             pass  # it has ended
     shutil.rmtree(WORKING.get("folder", ""), ignore_errors=True)
+    try:
+        os.rmdir(WORKING.get("room") or "")  # where who began this process is gone, the last one removes it
+    except OSError:
+        pass
     os._exit(143)
 
 
+def end_with_parent(number):
+    """Has the kernel send this process a signal as the one that began it ends (prctl(2), PR_SET_PDEATHSIG), where it knows how."""
+    try:
+        ctypes.CDLL(None).prctl(1, int(number))
+    except (OSError, AttributeError):
+        pass
+
+
 def begin_worker():
-    """A process that works for another one: that one alone hears of an interrupt, and tells it to stop."""
+    """A process that works for another one: that one alone hears of an interrupt, and tells it to stop, or ends."""
     signal.signal(signal.SIGINT, signal.SIG_IGN)
+    signal.signal(signal.SIGHUP, signal.SIG_IGN)
     signal.signal(signal.SIGTERM, stop)
+    end_with_parent(signal.SIGTERM)
+    signal.pthread_sigmask(signal.SIG_UNBLOCK, ENDING)
+
+
+@contextlib.contextmanager
+def deaf():
+    """Signals that end this process wait until it is over."""
+    mask = signal.pthread_sigmask(signal.SIG_BLOCK, ENDING)
+    try:
+        yield
+    finally:
+        signal.pthread_sigmask(signal.SIG_SETMASK, mask)
+
+
+def before_program():
+    """In the process that is to be the program: it ends with this one, and hears signals."""
+    end_with_parent(signal.SIGKILL)
+    signal.pthread_sigmask(signal.SIG_UNBLOCK, ENDING)
 
 
 def begun(words, report):
     """The program; it can't be missed by what tells this process to stop."""
-    mask = signal.pthread_sigmask(signal.SIG_BLOCK, {signal.SIGTERM})
-    try:
-        WORKING["program"] = subprocess.Popen(words, stdin=subprocess.DEVNULL, stdout=report, stderr=subprocess.PIPE)
+    with deaf():
+        WORKING["program"] = subprocess.Popen(words, stdin=subprocess.DEVNULL, stdout=report, stderr=subprocess.PIPE, preexec_fn=before_program)
         return WORKING["program"]
-    finally:
-        signal.pthread_sigmask(signal.SIG_SETMASK, mask)
 
 
 class TooLarge(Exception):
@@ -296,7 +325,9 @@ class TooLarge(Exception):
 
 def run_job(job):
     """The outcome without a failure, and then that of each failure; none where the run takes too many steps."""
-    folder = WORKING["folder"] = tempfile.mkdtemp(prefix="mplsnet-whatif-", dir=job.room)
+    with deaf():
+        WORKING["room"] = job.room
+        folder = WORKING["folder"] = tempfile.mkdtemp(prefix="mplsnet-whatif-", dir=job.room)
     try:
         return Reading(job, Path(folder)).outcomes()
     except TooLarge:
@@ -475,12 +506,13 @@ def memory_folder():
 def shares(failures, costs, bring_up_cost, budget, workers):
     """The failures cut into runs, each of at most the budget of steps with its bring-up, as far as one failure allows.
 
-    There are two runs for each worker, since costs are only guessed; but none is much shorter than its bring-up.
+    There are two runs for each worker, since costs are only guessed; but none is much shorter than its bring-up. The first
+    ones are shorter, a quarter of a bring-up, and then twice as long for each further one of a worker: results come early.
     """
     most = max(1, min(budget - bring_up_cost, max(-(-sum(costs) // (2 * workers)), 2 * bring_up_cost)))
     cut, share, cost = [], [], 0
     for failure, its in zip(failures, costs):
-        if share and cost + its > most:
+        if share and cost + its > min(most, bring_up_cost // 4 << len(cut) // workers):
             cut.append(share)
             share, cost = [], 0
         share.append(failure)

@@ -313,6 +313,8 @@ class Tool(unittest.TestCase):
         said = self.answer(1, plain)
         self.assertEqual(said, self.answer(1, "--no-resolve", LINKS))
         self.assertNotEqual(said, self.answer(1, "--resolve", plain))
+        for said_, options, due in ((None, (), True), (True, (), True), (False, (), False), (False, ("resolve",), True), (True, ("no_resolve",), False), (True, ("keep_bgp",), False), (True, ("resolve", "keep_bgp"), True)):
+            self.assertIs(due, whatif.resolves(said_, **dict.fromkeys(options, True)), (said_, options))
         for line in (
             "link pe1-p: 2 pairs lost",
             "  1 NoRoute at pe1: no links lead from pe1 to pe2, and their BGP session ended: a -> b",
@@ -407,31 +409,89 @@ class Tool(unittest.TestCase):
         self.program.write_text("#!/bin/sh\necho out of luck >&2\nexit 8\n")
         self.refused(3, "out of luck", LINKS)
 
-    def test_an_interrupted_run_leaves_nothing(self):
-        self.program.write_text(f"#!/bin/sh\necho $$ >{self.folder}/pid\nexec sleep 60\n")
-        room = whatif.memory_folder() or tempfile.gettempdir()
-        before = set(Path(room).glob("mplsnet-whatif-*"))
-        tool = subprocess.Popen([sys.executable, TOOL, "--program", self.program, LINKS], stderr=subprocess.PIPE, text=True, start_new_session=True)
-        for _ in range(600):
-            if (self.folder / "pid").exists() and (self.folder / "pid").read_text():
-                break
+    # Ends.
+
+    def begun(self, *words, ignored=True, **more):
+        """The tool at work as a shell begins it in the background, where an interrupt is ignored: its run waits, and says its number."""
+        self.waiting = self.folder / "pid"
+        before = (lambda: signal.signal(signal.SIGINT, signal.SIG_IGN)) if ignored else None
+        words = [sys.executable, TOOL, "--program", self.program, *map(str, words)]
+        tool = subprocess.Popen(words, stdout=subprocess.PIPE, stderr=subprocess.PIPE, text=True, start_new_session=True, preexec_fn=before, **more)
+        self.until(lambda: self.waiting.exists() and self.waiting.read_text().strip())
+        return tool
+
+    def until(self, holds):
+        for _ in range(1200):
+            if holds():
+                return
             time.sleep(0.1)
-        os.killpg(tool.pid, signal.SIGINT)
-        said = tool.communicate(timeout=60)[1]
-        self.assertEqual(130, tool.returncode)
-        self.assertIn("interrupted after 0 of 8 failures", said)
-        self.assertNotIn("Traceback", said)
-        for _ in range(100):
-            if not set(Path(room).glob("mplsnet-whatif-*")) - before:
-                break
-            time.sleep(0.1)
-        self.assertEqual(set(), set(Path(room).glob("mplsnet-whatif-*")) - before)
-        process = Path(f"/proc/{(self.folder / 'pid').read_text().strip()}")
-        for _ in range(300):
-            if not process.exists():
-                break
-            time.sleep(0.1)
-        self.assertFalse(process.exists())
+        self.fail("it didn't come about in two minutes")
+
+    def rooms(self):
+        return set(Path(whatif.memory_folder() or tempfile.gettempdir()).glob("mplsnet-whatif-*"))
+
+    def nothing_is_left(self, before):
+        self.until(lambda: not self.rooms() - before and not Path(f"/proc/{self.waiting.read_text().strip()}").exists())
+
+    def test_signals_end_it_and_nothing_is_left(self):
+        """Whatever began it; where it is killed, its processes hear of that and end too."""
+        self.program.write_text(f"#!/bin/sh\necho $$ >{self.folder}/pid\nexec sleep 600\n")
+        for number, ignored, status, said in (
+            (signal.SIGINT, False, 130, "interrupted after 0 of 8 failures"), (signal.SIGINT, True, 130, "interrupted after 0 of 8 failures"),
+            (signal.SIGTERM, True, 143, "ended by SIGTERM after 0 of 8 failures"), (signal.SIGKILL, True, -9, ""),
+        ):  # fmt: skip
+            with self.subTest(signal=number, ignored=ignored):
+                before = self.rooms()
+                tool = self.begun(LINKS, ignored=ignored)
+                (os.killpg if not ignored else os.kill)(tool.pid, number)
+                out, err = tool.communicate(timeout=120)
+                self.assertEqual((status, ""), (tool.returncode, out))
+                self.assertIn(said, err)
+                self.assertNotIn("Traceback", err)
+                self.nothing_is_left(before)
+                self.waiting.unlink()
+
+    def test_what_is_known_is_told_and_is_gone_on_from(self):
+        whole, kept = self.answer(1, LINKS), self.folder / "known.jsonl"
+        real = self.program
+        self.program = self.folder / "slow"
+        self.program.write_text(f'#!/bin/sh\necho x >>{self.folder}/runs\n[ $(wc -l <{self.folder}/runs) -le 2 ] || {{ echo $$ >{self.folder}/pid; exec sleep 600; }}\nexec {real} "$@"\n')
+        self.program.chmod(0o755)
+        page = self.folder / "page.html"
+        tool = self.begun("--quiet", "--jobs", "1", "--resume", kept, "--html", page, LINKS)
+        tool.terminate()
+        out, err = tool.communicate(timeout=120)
+        self.assertEqual((143, "mplsnet-whatif: ended by SIGTERM after 2 of 8 failures\n"), (tool.returncode, err))
+        self.assertEqual(["link pe1-p: 2 pairs lost", "node pe1: 2 pairs lost", "ended early: 6 of 8 failures aren't known", "2 failures of 2 pairs: 4 verdicts", "2 failures cut 2 pairs; 0 cut none"],
+                         [line for line in out.splitlines() if not line.startswith(" ")])  # fmt: skip
+        self.assertIn("ended early", page.read_text())
+        with open(kept, "a") as file:
+            file.write('{"failure": "link p')  # as where it is cut off while it writes
+        self.program = real
+        self.assertEqual(whole, self.answer(1, "--resume", kept, LINKS))
+        self.assertEqual(9, len(kept.read_text().splitlines()))
+        self.program = Path(shutil.which("false"))
+        self.assertEqual(whole, self.answer(1, "--resume", kept, LINKS), "nothing is run where all is known")
+        self.assertIn("2 failures of 2 pairs", self.answer(1, "--resume", kept, "--of", "links", LINKS))
+
+    def test_a_file_of_another_question_is_left_alone(self):
+        kept = self.folder / "known.jsonl"
+        self.answer(1, "--resume", kept, "--of", "links", LINKS)
+        for text, words, said in (
+            (kept.read_text(), ("--no-resolve", LINKS), "its results are of another question"), ("dear\n", (LINKS,), "line 1: no result that mplsnet-whatif --resume left"),
+            ("dear", (LINKS,), "line 1: no result"), (kept.read_text() + '{"failure": 1}\n', (LINKS,), "line 4: no result"),
+        ):  # fmt: skip
+            kept.write_text(text)
+            self.refused(3, said, "--quiet", "--resume", kept, *words)
+            self.assertEqual(text, kept.read_text())
+        self.refused(3, "known.jsonl: Not a directory" if kept.is_dir() else "No such file", "--quiet", "--resume", self.folder / "no/known.jsonl", LINKS)
+
+    def test_results_come_in_order(self):
+        """Each line stands as soon as those before it are known, whichever run is done first."""
+        said = self.answer(1, "--jobs", "3", "--budget", "300", LINKS)
+        rows = [line.split(":")[0] for line in said.splitlines() if not line.startswith(" ") and ": " in line and "lost" in line]
+        net = Net("net", read_topology(LINKS))
+        self.assertEqual([str(failure) for failure in whatif.failures_of(net, whatif.KINDS, True)], rows)
 
 
 def dask_python():
