@@ -427,28 +427,27 @@ class Tool(unittest.TestCase):
             time.sleep(0.1)
         self.fail("it didn't come about in two minutes")
 
-    def rooms(self):
-        return set(Path(whatif.memory_folder() or tempfile.gettempdir()).glob("mplsnet-whatif-*"))
-
-    def nothing_is_left(self, before):
-        self.until(lambda: not self.rooms() - before and not Path(f"/proc/{self.waiting.read_text().strip()}").exists())
+    def nothing_is_left(self, said):
+        """Neither the program that ran, by its number, nor the folder around that of its topology."""
+        number, topology = said.split()
+        self.assertIn("mplsnet-whatif-", Path(topology).parents[1].name)
+        self.until(lambda: not Path(f"/proc/{number}").exists() and not Path(topology).parents[1].exists())
 
     def test_signals_end_it_and_nothing_is_left(self):
         """Whatever began it; where it is killed, its processes hear of that and end too."""
-        self.program.write_text(f"#!/bin/sh\necho $$ >{self.folder}/pid\nexec sleep 600\n")
+        self.program.write_text(f'#!/bin/sh\necho $$ "$2" >{self.folder}/pid\nexec sleep 600\n')
         for number, ignored, status, said in (
             (signal.SIGINT, False, 130, "interrupted after 0 of 8 failures"), (signal.SIGINT, True, 130, "interrupted after 0 of 8 failures"),
             (signal.SIGTERM, True, 143, "ended by SIGTERM after 0 of 8 failures"), (signal.SIGKILL, True, -9, ""),
         ):  # fmt: skip
             with self.subTest(signal=number, ignored=ignored):
-                before = self.rooms()
-                tool = self.begun(LINKS, ignored=ignored)
+                tool = self.begun("--jobs", "1", LINKS, ignored=ignored)
                 (os.killpg if not ignored else os.kill)(tool.pid, number)
                 out, err = tool.communicate(timeout=120)
                 self.assertEqual((status, ""), (tool.returncode, out))
                 self.assertIn(said, err)
                 self.assertNotIn("Traceback", err)
-                self.nothing_is_left(before)
+                self.nothing_is_left(self.waiting.read_text())
                 self.waiting.unlink()
 
     def test_what_is_known_is_told_and_is_gone_on_from(self):
