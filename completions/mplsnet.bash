@@ -183,6 +183,24 @@ _mplsnet_orders() {
     fi
 }
 
+_mplsnet_expect() {
+    local word=${COMP_WORDS[COMP_CWORD]}
+    COMPREPLY=()
+    case ${COMP_WORDS[COMP_CWORD - 1]} in
+        --junit) _mplsnet_files "$word" .xml; return ;;
+        --program) _mplsnet_files "$word"; return ;;
+        --budget | --jobs) return ;;
+    esac
+    if [[ $word == -* ]]; then
+        _mplsnet_words '--help --json --all --junit --budget --jobs --program --quiet' "$word"
+        return
+    fi
+    case $(_mplsnet_place --junit --budget --jobs --program) in
+        0) _mplsnet_files "$word" .toml ;;
+        1) _mplsnet_files "$word" ;;
+    esac
+}
+
 _mplsnet_why() {
     local word=${COMP_WORDS[COMP_CWORD]}
     COMPREPLY=()
@@ -232,14 +250,14 @@ _mplsnet_new() {
     local word=${COMP_WORDS[COMP_CWORD]}
     COMPREPLY=()
     case ${COMP_WORDS[COMP_CWORD - 1]} in
-        --from | --script) _mplsnet_files "$word"; return ;;
+        --from | --script | --expect) _mplsnet_files "$word"; return ;;
         --topology) _mplsnet_files "$word" .toml; return ;;
         --capture) _mplsnet_files "$word" .pcap; return ;;
-        --form) _mplsnet_words 'short netlab containerlab frr' "$word"; return ;;
+        --form) _mplsnet_words 'topology short netlab containerlab frr' "$word"; return ;;
         --family) _mplsnet_words 'ring mesh waxman fat-tree' "$word"; return ;;
-        --random | --generated | --size | --edges | --vpns | --vpn) return ;;
+        --random | --generated | --size | --edges | --vpns | --vpn | --maintain) return ;;
     esac
-    _mplsnet_words '--help --from --random --generated --form --family --size --edges --vpns --vpn --all --topology --script --capture' "$word"
+    _mplsnet_words '--help --from --random --generated --form --family --size --edges --vpns --vpn --all --topology --script --capture --expect --maintain' "$word"
 }
 
 _mplsnet_read() {
@@ -264,6 +282,7 @@ complete -F _mplsnet_play mplsnet-play
 complete -F _mplsnet_decode mplsnet-decode
 complete -F _mplsnet_whatif mplsnet-whatif
 complete -F _mplsnet_orders mplsnet-orders
+complete -F _mplsnet_expect mplsnet-expect
 complete -F _mplsnet_why mplsnet-why
 complete -F _mplsnet_report mplsnet-report
 complete -F _mplsnet_diff mplsnet-diff

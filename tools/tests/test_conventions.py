@@ -15,6 +15,7 @@ FORMATS = (ROOT / "docs/FORMATS.md").read_text()
 
 TOOLS = ["mplsnet-draw", "mplsnet-wireshark", "mplsnet-play", "mplsnet-decode", "mplsnet-read", "mplsnet-lint", "mplsnet-run"]
 TOOLS += ["mplsnet-whatif", "mplsnet-orders", "mplsnet-why", "mplsnet-report", "mplsnet-diff", "mplsnet-new"]
+TOOLS += ["mplsnet-expect"]
 
 # What bash would do at the end of the line, in a folder.
 COMPLETE = """
@@ -112,6 +113,8 @@ class Bash(unittest.TestCase):
         self.assertEqual({"topology.toml", "expected"}, self.completed(first, "mplsnet-why", "expected", ""))
         self.assertEqual({"packets"}, self.completed(first, "mplsnet-report", "expected", "--csv", "p"))
         self.assertEqual({"waxman"}, self.completed(first, "mplsnet-new", "--family", "w"))
+        self.assertEqual({"topology.toml", "expected"}, self.completed(first, "mplsnet-expect", "--jobs", "2", ""))
+        self.assertIn("script.txt", self.completed(first, "mplsnet-expect", "topology.toml", ""))
 
 
 class Tools(unittest.TestCase):

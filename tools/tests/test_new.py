@@ -278,6 +278,41 @@ class New(unittest.TestCase):
         self.assertIn("ce1: a router without LDP and VRFs, left out", left)
         self.assertIn("p-pe2: no 'ip ospf cost' or 'bandwidth' at p and pe2: the cost is FRR's for a speed that it doesn't know", left)
 
+    def test_a_topology_of_ones_own(self):
+        """Links, LDP and BGP come up one behind the other; every probe arrives."""
+        topology = ROOT / "examples/ring/topology.toml"
+        ran = self.run_tool("--from", topology, "--script", self.out[1], "--capture", self.out[2])
+        self.assertEqual((0, "", ""), (ran.returncode, ran.stdout, ran.stderr))
+        report, files = reference.run_of(topology.read_bytes(), *(path.read_bytes() for path in self.out[1:]))
+        self.all_arrive(report.decode().splitlines())
+        steps = [line.split()[1:3] for line in files["journal.txt"].decode().splitlines()]
+        last = [max(at for at, step in enumerate(steps) if step == words) for words in (["link", "up"], ["ldp", "on"], ["bgp", "up"])]
+        first = [steps.index(words) for words in (["hear", "ldp"], ["hear", "bgp"])]
+        self.assertTrue(last[0] < last[1] < first[0] < last[2] < first[1], (last, first))
+
+    def test_a_link_that_is_taken_out(self):
+        """By hand: the ring goes on the other way; what comes before anyone has learned of it is dropped at the link."""
+        topology = self.file("net.toml", self.run_tool("--from", self.file("net.txt", "nodes: pe1 pe2 p\nlinks: ring pe1 pe2 p\nvpn red: pe1 pe2\n")).stdout)
+        ran = self.run_tool("--from", topology, "--maintain", "pe2-pe1", "--script", self.out[1], "--capture", self.out[2])
+        self.assertEqual((0, "", ""), (ran.returncode, ran.stdout, ran.stderr))
+        report = reference.run_of(topology.read_bytes(), *(path.read_bytes() for path in self.out[1:]))[0].decode().splitlines()
+        ends = [line.split(" record ")[1].split(" ", 1)[1] for line in report[:-1]]
+        there, back, by_p = "delivered red-pe2 ttl 62 copy {} path pe1 pe2", "delivered red-pe1 ttl 62 copy {} path pe2 pe1", "delivered red-pe2 ttl 61 copy {} path pe1 p pe2"
+        self.assertEqual([there.format(1), back.format(2), "dropped NoLsp at pe1 path pe1", "dropped NoLsp at pe2 path pe2", by_p.format(3)], ends[:5])
+        self.assertEqual([there.format(7), back.format(8)], ends[8:], "it is back, and all have learned of it")
+        self.assertIn("# The link pe1-pe2 goes out. At once, while no node has learned of it: packets 3 to 4.\n", self.out[1].read_text())
+
+    def test_first_expectations(self):
+        net = self.file("net.txt", SHORT)
+        ran = self.run_tool("--from", net, "--topology", self.out[0], "--expect", self.folder / "expect.txt")
+        self.assertEqual((0, ""), (ran.returncode, ran.stderr))
+        text = (self.folder / "expect.txt").read_text()
+        for line in ("all of vpn c1 reach each other after any failure", "c2-pe05-hub reaches all of vpn c2 after any failure", "all of vpn c2 reach none but c2-pe05-hub, svc-pe03"):
+            self.assertIn(f"\n{line}\n", text)
+        again = self.run_tool("--from", self.out[0], "--expect", self.folder / "again.txt")
+        self.assertEqual((0, "", ""), (again.returncode, again.stdout, again.stderr))
+        self.assertEqual(text.splitlines()[1:], (self.folder / "again.txt").read_text().splitlines()[1:])
+
     def test_the_network_of_the_document(self):
         """docs/WHATIF.md tells of its network what it has."""
         page = (ROOT / "docs/WHATIF.md").read_text()
@@ -298,6 +333,9 @@ class New(unittest.TestCase):
         self.refused(2, "'100' isn't a number from 0 to 99", "--generated", 100)
         self.refused(2, "a fat tree has an even number of pods", "--random", 1, "--family", "fat-tree", "--size", 5)
         self.refused(2, "--form is of --from", "--random", 1, "--form", "frr")
+        self.refused(2, "neither --vpn nor --topology goes with it", "--from", "net.toml", "--topology", self.out[0])
+        self.refused(2, "name one", "--from", "net.toml")
+        self.refused(2, "--maintain doesn't go with --generated", "--generated", 1, "--maintain", "n0-n1")
 
     def test_wrong_files(self):
         self.refused(1, "nothing.txt: No such file", "--from", self.folder / "nothing.txt")
@@ -322,6 +360,9 @@ class New(unittest.TestCase):
                 net = self.file("net.txt", f"nodes: p[1-2]\n{line}\n")
                 self.refused(1, "net.txt: line 2: ", "--from", net)
                 self.refused(1, said, "--from", net)
+        wrong = self.file("net.toml", '[[node]]\nname = "a"\n')
+        self.refused(1, "net.toml:1:1: T3 MissingKey at node 0 'a': the key 'loopback' is missing", "--from", wrong, "--script", self.out[1])
+        self.refused(1, "there is no link 'pe1-p9'", "--from", ROOT / "examples/two-links/topology.toml", "--script", self.out[1], "--maintain", "pe1-p9")
         self.refused(1, "has at most 256", "--from", self.file("net.txt", "nodes: p[1-300]\n"))
         self.refused(1, "lab.yml: line 3: not YAML", "--from", self.file("lab.yml", "nodes:\n a: [\n"))
         self.refused(1, "has no nodes: isn't netlab's", "--from", self.file("lab.yml", "links: []\n"))
