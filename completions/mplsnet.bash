@@ -121,12 +121,13 @@ _mplsnet_lint() {
     local word=${COMP_WORDS[COMP_CWORD]}
     COMPREPLY=()
     if [[ $word == -* ]]; then
-        _mplsnet_words '--help' "$word"
+        _mplsnet_words '--help --strict' "$word"
         return
     fi
     case $(_mplsnet_place) in
         0) _mplsnet_files "$word" .toml ;;
         1) _mplsnet_files "$word" ;;
+        2) _mplsnet_files "$word" .pcap ;;
     esac
 }
 

@@ -44,13 +44,15 @@ class Network:
         lines = ["# Links: LDP waits, and each node learns of each link.", *self.links("ldp off"), *self.links("link up"), "drain"]
         lines += ["", "# LDP: sessions over the links, and labels.", *self.links("ldp on"), "drain"]
         lines += ["", "# BGP: sessions between edges, and routes.", *self.sessions(), "drain"]
-        return lines + (["", f"# From each site a packet to each prefix that its VRF imports: {self.packets(1)}.", *self.inject(), "flush"] if self.probes else [])
+        probes = ["", f"# From each site a packet to each prefix that its VRF imports: {self.packets(1)}.", *self.inject(), "flush"]
+        return lines + (probes if self.probes else [])
 
     def maintained(self, name):
         """The link goes out and comes back: packets go before, as soon as it went, once all is settled, and the same as it comes back."""
         failure, count, lines = self.link(name), len(self.probes), []
         for at, (what, changes) in enumerate([("goes out", failure.down), ("comes back", failure.up)]):
-            lines += ["", f"# The link {failure.name} {what}. At once, while no node has learned of it: {self.packets(1 + count * (2 * at + 1))}.", *changes, *self.inject(), "flush"]
+            sent = self.packets(1 + count * (2 * at + 1))
+            lines += ["", f"# The link {failure.name} {what}. At once, while no node has learned of it: {sent}.", *changes, *self.inject(), "flush"]
             lines += ["", f"# Once all have learned of it: {self.packets(1 + count * (2 * at + 2))}.", "drain", *self.inject(), "flush"]
         return lines
 

@@ -11,7 +11,7 @@ from mplsnet_rules import address, meant_name, prefix, why_no_prefix
 WORDS = re.compile(r'"([^"]*)"|[^\s,"]+')
 ENDS_OF_SITES = ("reaches", "reach", "never", "after", "via", "not", "within", "but", "each", "none")
 KINDS = {"link": "links", "node": "nodes", "ldp": "ldp", "bgp": "bgp"}  # as mplsnet-whatif names them
-FORM = "a line is 'SITES reach SITES', '.. never reach ..', '.. reach PREFIX', '.. reach none' or '.. reach each other', with 'after', 'via' and 'within' behind"
+FORM = "a line is 'SITES reach SITES', '.. never reach ..', '.. reach PREFIX', '.. reach none' or '.. reach each other', with 'after', 'via', 'within' behind"
 
 
 @dataclass(frozen=True)

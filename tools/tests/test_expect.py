@@ -78,7 +78,8 @@ class Asked(unittest.TestCase):
     def run_tool(self, topology, text, *words):
         if text is not None:
             self.file.write_text(text)
-        return subprocess.run([sys.executable, TOOL, "--quiet", "--program", self.program, *map(str, words), topology, self.file], capture_output=True, text=True)
+        words = ["--quiet", "--program", self.program, *map(str, words), topology, self.file]
+        return subprocess.run([sys.executable, TOOL, *words], capture_output=True, text=True)
 
     def check(self, topology, due):
         """Of each line why it falls short; nothing where it holds."""
@@ -91,14 +92,16 @@ class Asked(unittest.TestCase):
 
     def test_hub_and_spoke(self):
         self.check(HUB, {
-            "west reaches headquarters": (), "west reaches none but headquarters": (), "headquarters reaches west east via hub p within 3 nodes": (),
-            "west reaches headquarters not via pe2": (), "west reaches 10.0.0.7": (), "all reach headquarters": (), "all of vpn spoke never reach each other": (),
+            "west reaches headquarters": (), "west reaches none but headquarters": (), "west reaches headquarters not via pe2": (), "west reaches 10.0.0.7": (),
+            "headquarters reaches west east via hub p within 3 nodes": (), "all reach headquarters": (), "all of vpn spoke never reach each other": (),
             "west reaches headquarters after link p pe2 or node pe2 or ldp p-pe2": (),
             "west reaches headquarters after any 2 links or any node": (
                 "link pe1-p: west to 10.0.0.1: dropped NoLsp at pe1: link pe1-p is down",
                 "and by 5 failures more: link hub-p, node p, links pe1-p and pe2-p, links pe1-p and hub-p and 1 more",
             ),
-            "west reaches headquarters after bgp hub-pe1": ("bgp pe1-hub: west to 10.0.0.1: dropped NoRoute at pe1: there is no BGP session between pe1 and hub",),
+            "west reaches headquarters after bgp hub-pe1": (
+                "bgp pe1-hub: west to 10.0.0.1: dropped NoRoute at pe1: there is no BGP session between pe1 and hub",
+            ),
             "west reaches headquarters after links p pe1 and hub p": ("links pe1-p and hub-p: west to 10.0.0.1: dropped NoLsp at pe1: link pe1-p is down",),
             "west reaches east after any link": (
                 "without a failure: west to 10.2.0.1: dropped NoRoute at pe1: VRF spoke1 imports no target of spoke2",
@@ -112,7 +115,8 @@ class Asked(unittest.TestCase):
 
     def test_what_is_never_to_arrive(self):
         leak = "without a failure: west to 10.0.0.1: arrives at headquarters, by pe1 p hub: VRF spoke1 imports 65000:1, which VRF centre exports"
-        self.check(HUB, {"west never reaches east": (), "west never reaches 10.0.0.0/8": (leak,), "west reaches none": (leak,), "headquarters reaches none but west, east": ()})
+        lines = {"west never reaches east": (), "west never reaches 10.0.0.0/8": (leak,), "west reaches none": (leak,)}
+        self.check(HUB, lines | {"headquarters reaches none but west, east": ()})
 
     def test_a_site_behind_two_edges(self):
         """10.2.0.0/16 is behind pe2 and pe3; 10.3.1.0/24 is at b alone, and without pe2 its packets come out at c, which has 10.3.0.0/16."""
@@ -129,7 +133,8 @@ class Asked(unittest.TestCase):
             "head reaches branch after link p-spoke": ("link p-spoke: head to 10.7.0.1: astray to head, by hub: it has 0.0.0.0/0",),
         })  # fmt: skip
         topology.write_text("resolve = false\n" + DEFAULT)
-        self.check(topology, {"head reaches branch after ldp p-spoke": ("ldp p-spoke: head to 10.7.0.1: dropped NoLsp at hub: LDP is off on p-spoke, 2 hops from hub",)})
+        why = "ldp p-spoke: head to 10.7.0.1: dropped NoLsp at hub: LDP is off on p-spoke, 2 hops from hub"
+        self.check(topology, {"head reaches branch after ldp p-spoke": (why,)})
 
     def test_never_is_asked_of_each_failure(self):
         """The branch's packets to the head come out at the head; those of the head to the branch come out at itself as the session ends."""
@@ -158,12 +163,14 @@ class Asked(unittest.TestCase):
 
     def test_wrong_lines_are_told_all_at_once_with_their_places(self):
         wrong = (
-            ("a reaches", 10, "a site is missing"), ("a reach bb", 9, "there is no site 'bb'; did you mean 'b'?"), ("a b", 4, "'reaches' or 'reach' is missing"),
-            ("a reaches b after any 3 links", 23, "'3': behind 'any' stands"), ("a reaches b after link p-pp", 24, "there is no link 'p-pp'"), ('a reaches "b', 11, "a quote isn't closed"),
-            ("a never reaches none", 17, "'never reaches none' says nothing"), ("a reaches each other", 11, "one site alone has no other"), ("a reaches none via p", 16, "'via' is asked of what arrives"),
+            ("a reaches", 10, "a site is missing"), ("a reach bb", 9, "there is no site 'bb'; did you mean 'b'?"),
+            ("a b", 4, "'reaches' or 'reach' is missing"), ("a reaches b after any 3 links", 23, "'3': behind 'any' stands"),
+            ("a reaches b after link p-pp", 24, "there is no link 'p-pp'"), ('a reaches "b', 11, "a quote isn't closed"),
+            ("a never reaches none", 17, "'never reaches none' says nothing"), ("a reaches each other", 11, "one site alone has no other"),
             ("a reaches 10.2.0.1/16", 11, "'10.2.0.1/16' is no site and no prefix: the bits past the length aren't zero; did you mean '10.2.0.0/16'?"),
-            ("a reaches 99.0.0.0/8", 11, "no other site has a prefix that contains 99.0.0.0/8"), ("a reaches b within x", 20, "'x' isn't a number of nodes"), ("a reaches b via q", 17, "there is no node 'q'"),
-            ("all of vpn blue reach each other", 12, "no VPN with sites is named 'blue'; there is red"), ("a reaches a", 11, "there is nothing to send"), ("a reaches 127.0.0.1", 11, "no packet may go to"),
+            ("a reaches 99.0.0.0/8", 11, "no other site has a prefix that contains 99.0.0.0/8"), ("a reaches b within x", 20, "'x' isn't a number of nodes"),
+            ("all of vpn blue reach each other", 12, "no VPN with sites is named 'blue'; there is red"), ("a reaches a", 11, "there is nothing to send"),
+            ("a reaches b via q", 17, "there is no node 'q'"), ("a reaches 127.0.0.1", 11, "no packet may go to"), ("a reaches none via p", 16, "'via' is asked"),
         )  # fmt: skip
         ran = self.run_tool(DUAL, "# first\n" + "".join(f"{line}\n" for line, _, _ in wrong))
         self.assertEqual((3, "", len(wrong)), (ran.returncode, ran.stdout, len(ran.stderr.splitlines())))
@@ -225,8 +232,8 @@ class Random(unittest.TestCase):
             path.write_text(topology_text(tables))
             read = read_topology(path)
             first = expect.First(Net(path, read), read, True)
-            lines = [line.removeprefix("# not so as it is: ") + (" after any failure" if " none" not in line else "") for line in first.lines() if " after " not in line]
-            lines = [line for line in lines if line][:8]
+            said = [line.removeprefix("# not so as it is: ") for line in first.lines() if " after " not in line]
+            lines = [line if " none" in line else f"{line} after any failure" for line in said][:8]
             if not lines or not first.reader.packets.found:
                 continue
             with self.subTest(seed=seed):
