@@ -120,7 +120,7 @@ class Sites:
 def next_address(of, at):
     """The first address of the prefix from this one on to which a packet may go; none where there is none."""
     last = of[0] + (1 << 32 - of[1])
-    while at < last and not whatif.is_unicast(at):
+    while at < last and (at >> 24 in (0, 127) or at >> 29 == 7):
         at = (at >> 24) + 1 << 24
     return at if at < last else None
 
