@@ -158,7 +158,7 @@ class Asked(unittest.TestCase):
         self.assertEqual("NoLsp", answer["expectations"][1]["short"][0]["what"])
 
     def test_budget_and_jobs_change_nothing(self):
-        text = "west reaches headquarters after any 2 links or any node\nwest never reaches east\n"
+        text = "west reaches headquarters after any link\nwest never reaches east\n"
         self.assertEqual(self.run_tool(HUB, text).stdout, self.run_tool(HUB, text, "--budget", "100", "--jobs", "3").stdout)
 
     def test_wrong_lines_are_told_all_at_once_with_their_places(self):
