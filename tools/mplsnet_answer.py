@@ -94,7 +94,9 @@ def reason_of(end):
 
 def run_job(job):
     """The outcome without a failure, and then that of each failure; none where the run takes too many steps."""
-    folder = whatif.WORKING["folder"] = tempfile.mkdtemp(prefix="mplsnet-expect-", dir=job.room)
+    with whatif.deaf():
+        whatif.WORKING["room"] = job.room
+        folder = whatif.WORKING["folder"] = tempfile.mkdtemp(prefix="mplsnet-expect-", dir=job.room)
     try:
         return Reading(job, Path(folder)).outcomes()
     except whatif.TooLarge:
