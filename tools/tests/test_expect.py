@@ -23,7 +23,7 @@ from mplsnet_topology import topology_text
 TOOL = ROOT / "tools/mplsnet-expect"
 HUB = ROOT / "examples/hub-and-spoke/topology.toml"
 DUAL = ROOT / "examples/dual-homing/topology.toml"
-SEEDS = range(int(os.environ.get("MPLSNET_RANDOM", "40")) // 10)
+SEEDS = range(max(4, int(os.environ.get("MPLSNET_RANDOM", "40")) // 10))
 # A head office with all the rest of the addresses, and a branch: without the branch's edge its packets come out at the head itself.
 DEFAULT = """
 [[node]]
