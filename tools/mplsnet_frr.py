@@ -38,7 +38,7 @@ class Router:
         return f"{self.path}: line {self.number}"
 
     def vrf(self, name):
-        empty = {"rd": None, "import": [], "export": [], "networks": [], "static": [], "connected": False, "redistributes static": False, "flags": set(), "bgp": False}
+        empty = {"rd": None, "import": [], "export": [], "networks": [], "static": [], "connected": False, "redistributes static": False, "flags": set()}
         return self.vrfs.setdefault(name, empty)
 
     def read(self, text):
@@ -77,7 +77,7 @@ class Router:
             self.block = ("bgp", words[4] if words[3:4] == ["vrf"] and len(words) > 4 else None)
             self.asn = self.numbers.asn(words[2]) or self.asn
             if self.block[1]:
-                self.vrf(self.block[1])["bgp"] = True
+                self.vrf(self.block[1])
         elif words[0] == "vrf" and len(words) > 1:
             self.block = ("vrf", words[1])
         elif pair == "mpls ldp":
@@ -163,8 +163,9 @@ class Router:
         elif words[0] == "ordered-control":
             self.tell(LABELS, "'ordered-control': so it is here at every node")
         elif words[0] == "label":
-            what = "the labels are those of loopbacks alone, as here" if words[1:4] == ["local", "allocate", "host-routes"] else "here each node gives a label to each loopback, and the last router but one pops"
-            self.tell(LABELS, f"'{' '.join(words)}': {what}")
+            is_same = words[1:4] == ["local", "allocate", "host-routes"]
+            other = "here each node gives a label to each loopback, and the last router but one pops"
+            self.tell(LABELS, f"'{' '.join(words)}': {'the labels are those of loopbacks alone, as here' if is_same else other}")
         else:
             return False
         return True
@@ -172,7 +173,8 @@ class Router:
     # BGP.
 
     def family(self, words):
-        self.inner = "ipv6" if words[1:2] and words[1].startswith("ipv6") else "vpn" if "vpn" in words or words[1:2] == ["vpnv4"] else words[1] if len(words) > 1 else None
+        name = words[1] if len(words) > 1 else ""
+        self.inner = "ipv6" if name.startswith("ipv6") else "vpn" if "vpn" in words or name == "vpnv4" else name
         return True
 
     def core_line(self, words):
@@ -397,7 +399,8 @@ def frr_link(design, net, ends, where, apart):
     if apart and costs[0] != costs[1]:
         design.tell(WAYS, f"link {net}: cost {costs[1]} at {names[1]}; a link has one cost here, {costs[0]}", where)
     if apart and not all(given):
-        design.tell(WAYS, f"no 'ip ospf cost' or 'bandwidth' at {' and '.join(name for name, one in zip(names, given) if not one)}: the cost is FRR's for a speed that it doesn't know", where)
+        without = " and ".join(name for name, one in zip(names, given) if not one)
+        design.tell(WAYS, f"no 'ip ospf cost' or 'bandwidth' at {without}: the cost is FRR's for a speed that it doesn't know", where)
     for router, name, interface, address in ends:
         if router.igp and not router.is_in_igp(name, interface, address) or interface["passive"] or name in router.passive:
             design.tell(PARTS, f"no adjacency of the IGP at {router.name}'s {name}: here the link has one", where)
@@ -430,7 +433,9 @@ def frr_vrfs(design, routers, numbers):
             if rd is None or rd in rds:
                 new = design.fresh_rd(taken)
                 taken.add(new)
-                why = f"rd {vrf['rd']} stands on {len(spread[rd])} VRFs, and each has one of its own here" if rd else f"{'rd ' + vrf['rd'] + ' is not of the form AS:N or ADDRESS:N' if vrf['rd'] else 'no rd vpn export'}: one is given"
+                why = f"rd {vrf['rd']} isn't of the form AS:N or ADDRESS:N: one is given" if vrf["rd"] else "no 'rd vpn export': one is given"
+                if rd:
+                    why = f"rd {vrf['rd']} stands on {len(spread[rd])} VRFs, and each has one of its own here"
                 design.tell(NUMBERS, f"VRF {name}: {why}", router.name)
                 rd = new
             rds[rd] = name
@@ -457,4 +462,5 @@ def frr_vrf(design, router, name, vrf, rd, numbers):
     prefixes = vrf["networks"] + (connected if vrf["connected"] else []) + (vrf["static"] if vrf["redistributes static"] else [])
     design.site(design.name("site", made["name"]), made["name"], prefixes)
     if not prefixes:
-        design.tell(REACH, f"VRF {name} announces nothing that is known here (no 'network', no 'redistribute' of what it has): nothing can be sent to its site", router.name)
+        what = f"VRF {name} announces nothing that is known here (no 'network', no 'redistribute' of what it has)"
+        design.tell(REACH, f"{what}: nothing can be sent to its site", router.name)

@@ -35,6 +35,11 @@ def yaml_of(path):
     return found
 
 
+def table(value):
+    """A mapping, where the value is one."""
+    return value if isinstance(value, dict) else {}
+
+
 # containerlab (https://containerlab.dev/manual/topo-def-file/).
 
 
@@ -69,11 +74,10 @@ class Containerlab:
         return self.design
 
     def node(self, name, node):
-        kinds, groups = ({str(key): one for key, one in (self.topology.get(part) or {}).items() if isinstance(one, dict)} if isinstance(self.topology.get(part), dict) else {} for part in ("kinds", "groups"))
-        defaults = self.topology.get("defaults") if isinstance(self.topology.get("defaults"), dict) else {}
-        node = {**defaults, **groups.get(str(node.get("group")), {}), **node}
+        kinds, groups, defaults = (table(self.topology.get(part)) for part in ("kinds", "groups", "defaults"))
+        node = {**defaults, **table(groups.get(str(node.get("group")))), **node}
         kind = node.get("kind")
-        image = node.get("image", kinds.get(str(kind), {}).get("image", ""))
+        image = node.get("image", table(kinds.get(str(kind))).get("image", ""))
         if kind in BRIDGES:
             self.bridges[name] = []
         elif kind in HOSTS and "frr" not in str(image):
@@ -103,7 +107,8 @@ class Containerlab:
                 raise Fault(f"{self.path}: {place}: there is no node {name!r}")
         outer = [name for name in names if name not in self.routers and name not in self.bridges]
         if outer:
-            self.design.tell(PARTS, f"{place} of {', '.join(names)}: {'not between two routers' if outer[0] in self.hosts else f'leads out by {outer[0]}'}: left out")
+            why = "not between two routers" if outer[0] in self.hosts else f"leads out by {outer[0]}"
+            self.design.tell(PARTS, f"{place} of {', '.join(names)}: {why}: left out")
         elif any(name in self.bridges for name in names):
             for name, other in (names, names[::-1]):
                 if name in self.bridges:
@@ -143,10 +148,6 @@ MEANT = {  # keys that change something: the group, and what is said
     "config": (UNKNOWN, "'config'"), "static": (UNKNOWN, "'static'"), "routing": (REACH, "'routing': policies and static routes aren't taken"),
     "evpn": (UNKNOWN, "'evpn'"), "vlans": (UNKNOWN, "'vlans'"), "vlan": (UNKNOWN, "'vlan'"), "sr": (LABELS, "'sr': labels are LDP's here"),
 }  # fmt: skip
-
-
-def table(value):
-    return value if isinstance(value, dict) else {}
 
 
 class Netlab:
@@ -328,8 +329,9 @@ class Netlab:
             self.order.setdefault(vrf, len(self.order) + 1)
             if (node, vrf) not in made:
                 made[node, vrf] = self.vrf(node, vrf)
-            if other and self.value(self.nodes[other], "bgp", "as"):
-                self.design.tell(REACH, f"a CE of AS {self.value(self.nodes[other], 'bgp', 'as')}: the prefixes that it announces by BGP aren't known here; its site has those of its links", other)
+            asn = self.value(self.nodes[other], "bgp", "as") if other else None
+            if asn:
+                self.design.tell(REACH, f"a CE of AS {asn}: the prefixes that it announces by BGP aren't known here; its site has those of its links", other)
             name = self.design.name("site", other or f"{vrf}-{node}", len(self.design.sites))
             self.design.site(name, made[node, vrf], [prefix])
 
