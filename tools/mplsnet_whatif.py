@@ -512,7 +512,7 @@ def shares(failures, costs, bring_up_cost, budget, workers):
     most = max(1, min(budget - bring_up_cost, max(-(-sum(costs) // (2 * workers)), 2 * bring_up_cost)))
     cut, share, cost = [], [], 0
     for failure, its in zip(failures, costs):
-        if share and cost + its > min(most, bring_up_cost // 4 << len(cut) // workers):
+        if share and cost + its > min(most, max(1, bring_up_cost // 4) << len(cut) // workers):
             cut.append(share)
             share, cost = [], 0
         share.append(failure)

@@ -7,6 +7,7 @@ import shutil
 import subprocess
 import sys
 import tempfile
+import tomllib
 import unittest
 from pathlib import Path
 
@@ -131,6 +132,17 @@ class Imports(unittest.TestCase):
         report = reference.run_of(*(path.read_bytes() for path in out))[0].decode()
         self.assertNotIn(" refused 1", report)
         self.assertIn("NoLsp", report)
+
+    def test_a_vpn_more_of_a_name_that_is_there(self):
+        texts, _ = provider(3, 3)
+        out = self.folder / "t.toml"
+        words = [sys.executable, TOOL, "--from", self.routers(texts), "--vpn", "RED: pe1 pe3", "--topology", out]
+        ran = subprocess.run(words, capture_output=True, text=True)
+        self.assertEqual(0, ran.returncode, ran.stderr)
+        self.assertEqual([], TopologyRules(out.read_bytes()).broken)
+        self.assertIn("    vrf 'RED-pe1' is 'RED-pe1-2' here\n", ran.stderr)
+        tables = tomllib.loads(out.read_text())
+        self.assertEqual(["RED-pe1-2", "RED-pe3-2"], [site["vrf"] for site in tables["site"][-2:]])
 
     def test_numbers_of_four_bytes(self):
         """AS and targets: each has one of two bytes in its place that nothing else has, and is told."""
