@@ -30,8 +30,8 @@ class Design:
     off: list = field(default_factory=list)  # the ends of links on which LDP is off as the network comes up
     lawful: dict = field(default_factory=dict)  # of each kind and name of a source the name here
 
-    def tell(self, group, text, where="", line=None):
-        self.left.tell(group, text, where, line)
+    def tell(self, group, text, where="", line=None, whole=""):
+        self.left.tell(group, text, where, line, whole)
 
     def name(self, kind, wanted, key=None):
         """A name of its form for what the source names so, or by the key; no other of the kind has it."""

@@ -31,8 +31,8 @@ class Router:
         self.ldp, self.reflects, self.igp, self.networks, self.reference, self.passive = None, False, None, [], REFERENCE, set()
         self.block, self.inner, self.said = None, None, []
 
-    def tell(self, group, text, line=0):
-        self.said.append((group, text, line or self.number))
+    def tell(self, group, text, whole=""):
+        self.said.append((group, text, self.number, whole))
 
     def place(self):
         return f"{self.path}: line {self.number}"
@@ -59,7 +59,7 @@ class Router:
         text = " ".join(words)
         known = any(text == one or text.startswith(f"{one} ") for one in DECORATION.get(kind, ()))
         count = 2 if len(words) > 1 and re.fullmatch("[a-z-]+", words[1]) else 1
-        self.tell(UNREAD if known else UNKNOWN, f"'{' '.join(words[:count])}{' ..' if len(words) > count else ''}'")
+        self.tell(UNREAD if known else UNKNOWN, f"'{' '.join(words[:count])}{' ..' if len(words) > count else ''}'", f"'{text}'")
 
     # Blocks.
 
@@ -314,7 +314,7 @@ def frr(path):
     for router in kept:
         design.node(router.path, router.name, router.loopback())
         for entry in router.said:
-            design.tell(entry[0], entry[1], router.name, entry[2])
+            design.tell(*entry[:2], router.name, *entry[2:])
     own_as(design, kept)
     frr_links(design, routers, kept)
     general(design, kept)
@@ -409,7 +409,7 @@ def frr_link(design, net, ends, where, apart):
 
 def general(design, routers):
     """What FRR does by default otherwise."""
-    plain = [router.name for router in routers if router.ldp and not any("'ordered-control'" in text for _, text, _ in router.said)]
+    plain = [router.name for router in routers if router.ldp and not any("'ordered-control'" in entry[1] for entry in router.said)]
     for name in plain:
         design.tell(LABELS, "no 'ordered-control': FRR maps labels before the next hop has; here a node waits for it", name)
     if not any(router.ldp for router in routers):

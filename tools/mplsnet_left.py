@@ -18,16 +18,17 @@ NAMED = 3  # places that a line names
 
 @dataclass(frozen=True)
 class Entry:
-    """A thing that differs: its group, where it stands (a router or a link, and a line of a file), and what is said of it."""
+    """A thing that differs: its group, what is said of it, where it stands (a router or a link, and a line of a file), and the whole of that line."""
 
     group: int
     text: str
     where: str = ""
     line: int | None = None
+    whole: str = ""
 
     def words(self):
         at = f"{self.where}{f' line {self.line}' if self.line else ''}"
-        return f"{at}: {self.text}" if at else self.text
+        return f"{at}: {self.whole or self.text}" if at else self.whole or self.text
 
 
 @dataclass
@@ -36,8 +37,8 @@ class Left:
 
     entries: list = field(default_factory=list)
 
-    def tell(self, group, text, where="", line=None):
-        self.entries.append(Entry(group, text, where, line))
+    def tell(self, group, text, where="", line=None, whole=""):
+        self.entries.append(Entry(group, text, where, line, whole))
 
     def lines(self, source, whole=False, most=SCREEN):
         """The lines that tell it: each entry, or no more lines than `most`, in which equal entries are one."""
