@@ -333,13 +333,14 @@ def nets_of(routers):
 
 def kept_routers(design, routers):
     """The provider's routers: those with LDP or VRFs, and those of the IGP between two of which packets may pass; where none has them, all."""
-    if not any(router.ldp or router.vrfs for router in routers):
+    has_mpls = {id(router) for router in routers if router.ldp is not None or router.vrfs}
+    if not has_mpls:
         return routers
     joined = {id(router): 0 for router in routers}
     for ends in nets_of(routers).values():
         for router, name, interface, address in ends if len(ends) == 2 else ():
             joined[id(router)] += router.is_in_igp(name, interface, address)
-    kept = [router for router in routers if router.ldp or router.vrfs or joined[id(router)] > 1]
+    kept = [router for router in routers if id(router) in has_mpls or joined[id(router)] > 1]
     for router in routers:
         what = "a route reflector" if router.reflects else "a router without LDP and VRFs"
         if router not in kept:

@@ -136,7 +136,7 @@ def containerlab(path):
 
 KNOWN = {
     "top": {"nodes", "links", "vrfs", "bgp", "name", "provider", "defaults", "module", "groups"},
-    "node": {"module", "device", "role", "vrfs", "loopback", "bgp", "group", "id", "name"},
+    "node": {"module", "device", "role", "vrfs", "loopback", "bgp", "group", "id", "name", "routing"},
     "link": {"vrf", "prefix", "ospf", "isis", "link", "group", "members", "interfaces", "linkindex", "name"},
 }
 MEANT = {  # keys that change something: the group, and what is said
@@ -145,7 +145,7 @@ MEANT = {  # keys that change something: the group, and what is said
     "role": (UNREAD, "'role'"), "type": (UNREAD, "'type'"), "mtu": (UNREAD, "'mtu'"),
     "addressing": (NUMBERS, "'addressing': addresses of loopbacks and of sites are others here"),
     "plugin": (UNKNOWN, "'plugin'"), "ospf": (UNREAD, "'ospf'"), "isis": (UNREAD, "'isis'"),
-    "config": (UNKNOWN, "'config'"), "static": (UNKNOWN, "'static'"), "routing": (REACH, "'routing': policies and static routes aren't taken"),
+    "config": (UNKNOWN, "'config'"), "static": (UNKNOWN, "'static'"), "routing": (REACH, "'routing': policies aren't taken"),
     "evpn": (UNKNOWN, "'evpn'"), "vlans": (UNKNOWN, "'vlans'"), "vlan": (UNKNOWN, "'vlan'"), "sr": (LABELS, "'sr': labels are LDP's here"),
 }  # fmt: skip
 
@@ -157,7 +157,8 @@ class Netlab:
         self.path, self.found = path, yaml_of(path)
         self.design = Design(str(path))
         self.numbers = Numbers(self.design, [json.dumps(self.found, default=str)])
-        self.attached = []  # (node, VRF, prefix, name of what is attached)
+        self.attached = []  # (node, VRF, prefixes, name of what is attached)
+        self.routes = set()  # (node, number) of the static routes that are taken
         self.prefixes = 0
 
     def read(self):
@@ -177,6 +178,8 @@ class Netlab:
         for place, ends, keys in entries:
             self.link(place, ends, keys)
         self.attach()
+        for name in self.nodes:
+            self.routing(name)
         self.keys("top", self.found, "")
         return self.design
 
@@ -293,7 +296,8 @@ class Netlab:
             vrf = self.vrf_of(ends[name], keys)
             if vrf:
                 others = [other for other in ends if other != name and other in self.customers]
-                self.attached.append((name, str(vrf), self.prefix(place, keys), others[0] if others else None))
+                prefixes = self.statics(place, name, str(vrf), ends[others[0]] if others else {}) or self.connected(place, str(vrf), keys)
+                self.attached.append((name, str(vrf), prefixes, others[0] if others else None))
         core = [name for name in routers if not self.vrf_of(ends[name], keys)]
         if len(core) == 2 and len(ends) == 2:
             self.core_link(place, core, ends, keys)
@@ -308,6 +312,34 @@ class Netlab:
         if len(lawful) < len(found) or len({*lawful}) > 1:
             self.design.tell(WAYS, f"costs {', '.join(map(str, found))}: a link has one cost here, {lawful[0] if lawful else 10}", place)
         self.design.merged(*(self.design.name("node", name) for name in core), place, cost=lawful[0] if lawful else None)
+
+    def static_routes(self, name):
+        found = self.value(self.nodes[name], "routing", "static")
+        return [table(one) for one in found] if isinstance(found, list) else []
+
+    def statics(self, place, name, vrf, end):
+        """The prefixes of the node's static routes in the VRF whose next hop is the other end of the link."""
+        found, gateway = [], str(end.get("ipv4")).partition("/")[0]
+        for at, one in enumerate(self.static_routes(name)):
+            if str(one.get("vrf")) == vrf and isinstance(one.get("ipv4"), str) and self.value(one, "nexthop", "ipv4") == gateway:
+                found.append(self.prefix(place, {"prefix": one["ipv4"]}))
+                self.routes.add((name, at))
+        return found
+
+    def connected(self, place, vrf, keys):
+        """The link's prefix, where BGP in the VRF takes what is connected, as it does by default."""
+        taken = self.value(self.vrfs.get(vrf, {}), "bgp", "import")
+        return [self.prefix(place, keys)] if not isinstance(taken, list) or "connected" in taken else []
+
+    def routing(self, name):
+        """Tells what of a node's 'routing' isn't taken: all but static routes in VRFs to what is attached there."""
+        said = self.nodes[name]
+        keys = [*table(said.get("routing")), *(str(key).partition(".")[2] for key in said if str(key).startswith("routing."))]
+        if any(key != "static" for key in keys):
+            self.design.tell(REACH, "key 'routing': policies aren't taken", name)
+        for at, one in enumerate(self.static_routes(name)):
+            if (name, at) not in self.routes:
+                self.design.tell(REACH, f"static route {one.get('ipv4')}: not in a VRF to what is attached there: left out", name)
 
     def prefix(self, place, keys):
         """The link's prefix, or one of the pool from which netlab takes those of LANs."""
@@ -325,7 +357,7 @@ class Netlab:
         """A VRF for each edge and name, a site for each attachment; their targets are those given, or the VRF's number."""
         self.order = {name: at for at, name in enumerate(self.vrfs, 1)}
         made = {}
-        for node, vrf, prefix, other in self.attached:
+        for node, vrf, prefixes, other in self.attached:
             self.order.setdefault(vrf, len(self.order) + 1)
             if (node, vrf) not in made:
                 made[node, vrf] = self.vrf(node, vrf)
@@ -333,24 +365,42 @@ class Netlab:
             if asn:
                 self.design.tell(REACH, f"a CE of AS {asn}: the prefixes that it announces by BGP aren't known here; its site has those of its links", other)
             name = self.design.name("site", other or f"{vrf}-{node}", len(self.design.sites))
-            self.design.site(name, made[node, vrf], [prefix])
+            self.design.site(name, made[node, vrf], prefixes)
 
     def vrf(self, node, name):
         said = {**self.vrfs.get(name, {}), **table(table(self.nodes[node].get("vrfs")).get(name))}
         default = self.own_target(name, said)
         imports, exports = (self.targets(said, key, default) for key in ("import", "export"))
-        rd = f"{self.design.asn}:{1000 + len(self.design.vrfs) + 1}"
-        if said.get("rd") is not None:
-            self.design.tell(NUMBERS, f"VRF {name}: rd {said['rd']} is that of all its edges: each has one of its own here", node)
+        rd = self.distinguisher(node, name, said)
         made = self.design.vrf(f"{self.path}: VRF {name}", self.design.name("vrf", f"{name}-{node}"), self.design.name("node", node), rd, imports, exports)
         return made["name"]
 
-    def own_target(self, name, said):
-        """The target that a VRF has where none is given: its distinguisher, or AS:N of its number."""
+    def distinguisher(self, node, name, said):
+        """The VRF's own, where no other edge has the VRF and no other VRF the distinguisher; else one that nothing has."""
+        own, taken = self.given_rd(said), {vrf["rd"] for vrf in self.design.vrfs}
+        is_alone = {edge for edge, vrf, _, _ in self.attached if vrf == name} == {node}
+        if own and is_alone and own not in taken:
+            return own
+        if said.get("rd") is not None:
+            shared = "is another VRF's: one is given" if is_alone else "is that of all its edges: each has one of its own here"
+            why = shared if own else "isn't of the form AS:N or ADDRESS:N: one is given"
+            self.design.tell(NUMBERS, f"VRF {name}: rd {said['rd']} {why}", node)
+        taken |= {self.given_rd(vrf) for vrf in self.vrfs.values()}
+        number = 1000 + len(self.design.vrfs) + 1
+        while f"{self.design.asn}:{number}" in taken:
+            number += 1
+        return f"{self.design.asn}:{number}"
+
+    def given_rd(self, said):
+        """The distinguisher that a VRF is given, as a topology has it; none where it has none."""
         rd = said.get("rd")
         if isinstance(rd, int) and not isinstance(rd, bool) and 0 <= rd < 1 << 32:
             return f"{self.design.asn}:{rd}"
-        return self.numbers.pair(rd) or f"{self.design.asn}:{self.order.get(name, len(self.order) + 1)}"
+        return self.numbers.pair(rd)
+
+    def own_target(self, name, said):
+        """The target that a VRF has where none is given: its distinguisher, or AS:N of its number."""
+        return self.given_rd(said) or f"{self.design.asn}:{self.order.get(name, len(self.order) + 1)}"
 
     def targets(self, said, key, default):
         """The targets of a list; a VRF's name stands for its own."""

@@ -250,6 +250,26 @@ class New(unittest.TestCase):
         self.assertIn("pe1, pe2: VRF red: rd 65001:7 is that of all its edges: each has one of its own here", left)
         self.assertIn("key 'tools'", left)
 
+    def test_netlab_of_static_routes(self):
+        """Loopbacks, a distinguisher that one node alone has, and static routes in VRFs in place of the links' nets."""
+        text = NETLAB.replace("  pe1:\n  p-1", "  pe1:\n    loopback.ipv4: 192.0.2.9/32\n    routing.static:\n    - { ipv4: 10.9.0.0/16, nexthop.ipv4: 198.18.0.2, vrf: shared }\n  p-1")
+        text = text.replace("  shared:\n", "  shared:\n    rd: 65001:77\n    bgp.import: [ static ]\n")
+        text = text.replace("srv, { node: pe1, vrf: shared }", "{ node: srv, ipv4: 198.18.0.2/30 }, { node: pe1, vrf: shared, ipv4: 198.18.0.1/30 }")
+        _, net, _ = self.made("--from", self.file("lab.yml", text))
+        self.assertEqual(("pe1", "192.0.2.9"), (net["node"][0]["name"], net["node"][0]["loopback"]))
+        self.assertEqual({"shared-pe1": "65001:77"}, {vrf["name"]: vrf["rd"] for vrf in net["vrf"] if vrf["name"].startswith("shared")})
+        self.assertEqual(["10.9.0.0/16"], next(site["prefixes"] for site in net["site"] if site["name"] == "srv"))
+        self.assertNotIn("65001:7", [vrf["rd"] for vrf in net["vrf"]], "two nodes have red's")
+
+    def test_frr_of_a_router_without_links(self):
+        """One with LDP is the provider's, and a VRF's name stays within 32 characters."""
+        long = "a-router-of-a-rather-long-name"
+        self.file("lab/rr.conf", "hostname rr\ninterface lo\n ip address 10.255.0.9/32\nmpls ldp\n router-id 10.255.0.9\n")
+        self.file("lab/pe1.conf", FRR["pe1"].replace("hostname pe1", f"hostname {long}"))
+        tables = tomllib.loads(self.run_tool("--from", self.folder / "lab").stdout)
+        self.assertEqual([long, "rr"], [node["name"] for node in tables["node"]])
+        self.assertEqual(["RED-a-router-of-a-rather-long-na"], [vrf["name"] for vrf in tables["vrf"]])
+
     def test_containerlab(self):
         report, net, left = self.made("--from", self.file("lab.clab.yml", CLAB), "--vpn", "red: pe1 pe2")
         self.all_arrive(report)
