@@ -36,14 +36,15 @@ KINDS = {
     "section 3.11: the procedures for choosing an element from the set are beyond its scope); mplsnet takes the one of least number",
     "multipath": "BGP's decision ends with one route (RFC 4271, section 9.1.2.2); several that differ in their edge alone may be used side by side, "
     "a local matter of routers; mplsnet takes one",
-    "label per VRF": "whether or not each route has a different label is an implementation matter (RFC 4364, section 4.3.2): one label may stand for an entire VRF, "
-    "whose table is then asked again; mplsnet gives one to each attachment",
+    "label per VRF": "whether or not each route has a different label is an implementation matter (RFC 4364, section 4.3.2): one label may stand for an "
+    "entire VRF, whose table is then asked again; mplsnet gives one to each attachment",
     "interior cost": "routes of less-preferred interior cost are removed from consideration (RFC 4271, section 9.1.2.2, e); mplsnet doesn't compare it, "
     "and takes the edge of least address",
-    "unresolved": "a route whose next hop isn't resolvable is excluded (RFC 4271, section 9.1.2); mplsnet leaves it in the choice unless the topology says resolve = true",
+    "unresolved": "a route whose next hop isn't resolvable is excluded (RFC 4271, section 9.1.2); mplsnet leaves it in the choice unless the topology says "
+    "resolve = true",
     "independent control": "LDP's control is independent or ordered, as is configured (RFC 5036, section 2.6.1); mplsnet's is ordered",
-    "upstream alone": "with ordered control labels pass to upstream LSRs (RFC 5036, section 2.6.1.2): a router may give its own next hop none; mplsnet gives one to each "
-    "neighbour",
+    "upstream alone": "with ordered control labels pass to upstream LSRs (RFC 5036, section 2.6.1.2): a router may give its own next hop none; mplsnet gives "
+    "one to each neighbour",
     "explicit null": "the last router may ask for a frame without or with a label (RFC 3031, section 3.16; RFC 3032, section 2.1); mplsnet's asks for none",
     "speaker's flaw": "a flaw that is known of FRR 8.4.4",
     FOLLOWS: "it comes of another difference, which is named",
@@ -76,7 +77,8 @@ class Difference:
 def down_lines(path, net, words):
     """The lines that bring failures about, each named as 'p1-p2', 'link p1-p2', 'ldp p1-p2', 'bgp pe1-pe2' or 'node p1'."""
     links, rest = [], []
-    names = {f"{a}-{b}": at for at, (one, other, _) in enumerate(net.links) for a, b in ((net.nodes[one], net.nodes[other]), (net.nodes[other], net.nodes[one]))}
+    ends = [(net.nodes[one], net.nodes[other]) for one, other, _ in net.links]
+    names = {f"{a}-{b}": at for at, (one, other) in enumerate(ends) for a, b in ((one, other), (other, one))}
     edges = {f"{net.nodes[a]}-{net.nodes[b]}": (a, b) for a in net.edges for b in net.edges if a != b}
     for word in words:
         kind, blank, name = word.partition(" ")
@@ -119,7 +121,8 @@ def run_program(program, path, inputs, folder):
         (folder / name).write_bytes(content)
     try:
         with open(out / "report.txt", "wb") as report:
-            ran = subprocess.run([program, "run", *(str(folder / name) for name in inputs), str(out)], stdin=subprocess.DEVNULL, stdout=report, stderr=subprocess.PIPE)
+            words = [program, "run", *(str(folder / name) for name in inputs), str(out)]
+            ran = subprocess.run(words, stdin=subprocess.DEVNULL, stdout=report, stderr=subprocess.PIPE)
     except OSError as error:
         raise Fault(f"{program}: {error.strerror}", 3)
     said = (out / "report.txt").read_text(errors="replace").splitlines()
@@ -182,7 +185,8 @@ class Rest:
         """The nodes that offer a label for the loopback, whichever of equally good next hops they take."""
         found, grows = {to}, True
         while grows:
-            more = {node for node in range(len(self.net.nodes)) if node not in found and any((node, near) in self.ldp and near in found for near in self.equal(node, to))}
+            others = [node for node in range(len(self.net.nodes)) if node not in found]
+            more = {node for node in others if any((node, near) in self.ldp and near in found for near in self.equal(node, to))}
             found, grows = found | more, bool(more)
         return found
 
@@ -407,8 +411,8 @@ class Comparison:
         self.net, self.rest, self.lab, self.reflectors = rest.net, rest, of_lab, reflectors
         self.found, self.compared, self.at, self.pairs = [], {}, {}, []
         self.statics = {(rest.net.vrf_of[site], prefix_text(of)): rest.net.sites[site] for site, found in enumerate(rest.net.prefixes) for of in found}
-        made = {"adjacencies": self.adjacencies, "trees": self.trees, "ldp": self.ldp, "bindings": self.bindings, "labels": self.labels, "sessions": self.sessions}
-        made |= {"vpn": self.vpn, "paths": self.paths, "routes": self.routes, "vpn labels": self.vpn_labels, "pairs": self.reach}
+        made = {"adjacencies": self.adjacencies, "trees": self.trees, "ldp": self.ldp, "bindings": self.bindings, "labels": self.labels}
+        made |= {"sessions": self.sessions, "vpn": self.vpn, "paths": self.paths, "routes": self.routes, "vpn labels": self.vpn_labels, "pairs": self.reach}
         for table, compare in made.items():
             if not only or table in only:
                 self.compared[table] = 0
@@ -488,7 +492,7 @@ class Comparison:
         kind, why = UNEXPLAINED, ""
         if theirs is None and len(self.rest.equal(near, to)) > 1 and not self.leads(near, to):
             kind = "equal cost"
-        elif theirs is None and near != to and node in self.rest.equal(near, to) and node in (self.lab.hops(near, to) or (0, ()))[1] and (node, near) in self.rest.ldp:
+        elif theirs is None and near != to and (node, near) in self.rest.ldp and self.is_next_hop(node, near, to):
             kind = "upstream alone"
         elif ours is None and theirs not in (IMPLICIT_NULL, EXPLICIT_NULL) and (node, near) in self.rest.ldp:
             if near in offering:
@@ -502,6 +506,11 @@ class Comparison:
         words = (label_word(ours), label_word(theirs))
         causes = [("ldp", node, near), ("ldp", near, node), ("adjacencies", node, near), ("trees", near, to)]
         self.differ(("bindings", node, near, to), f"{self.name(node)} of {self.name(near)} for {self.name(to)}", *words, kind, why, causes)
+
+    def is_next_hop(self, node, near, to):
+        """The node is a next hop of the other towards the loopback, by costs and in the lab."""
+        hops = self.lab.hops(near, to)
+        return hops is not None and node in hops[1] and node in self.rest.equal(near, to)
 
     def has_flaws(self, node):
         """The router is of the version of which flaws are known, or doesn't tell its version."""
@@ -537,13 +546,14 @@ class Comparison:
                 self.differ(("labels", node, to), f"{self.name(node)}'s label for {self.name(to)}", *words, of=[("labels", node, to, "on"), *causes])
 
     def label_text(self, found):
-        said = [f"{'no label' if label is None else 'implicit null' if label == IMPLICIT_NULL else f'label {label}'} to {self.name(near)}" for near, label in found]
-        return " and ".join(sorted(said)) or "none"
+        words = {None: "no label", IMPLICIT_NULL: "implicit null"}
+        return " and ".join(sorted(f"{words.get(label, f'label {label}')} to {self.name(near)}" for near, label in found)) or "none"
 
     # BGP and VRFs.
 
     def sessions(self):
-        apart = {tuple(sorted(map(self.net.number.get, pair))) for pair in whatif.sessions_apart(self.net, {link for link in range(len(self.net.links)) if not self.rest.view >> link & 1})}
+        down = {link for link in range(len(self.net.links)) if not self.rest.view >> link & 1}
+        apart = {tuple(sorted(map(self.net.number.get, pair))) for pair in whatif.sessions_apart(self.net, down)}
         ours = self.rest.sessions if not self.reflectors else {pair for pair in lab.bgp_pairs(self.net, self.reflectors) if pair not in apart}
         theirs = {(node, self.lab.loopback.get(name, name)) for node, router in enumerate(self.lab.routers) for name in router.sessions()}
         wanted = ours | {(b, a) for a, b in ours}
@@ -551,7 +561,8 @@ class Comparison:
             self.count("sessions")
             if ((node, peer) in theirs) != ((node, peer) in wanted):
                 words = ("established", "none") if (node, peer) in wanted else ("none", "established")
-                self.differ(("sessions", node, peer), f"{self.name(node)} with {self.name(peer)}", *words, of=[("sessions", peer, node), ("trees", node, peer), ("trees", peer, node)])
+                causes = [("sessions", peer, node), ("trees", node, peer), ("trees", peer, node)]
+                self.differ(("sessions", node, peer), f"{self.name(node)} with {self.name(peer)}", *words, of=causes)
 
     def session_causes(self, node, edge):
         """The sessions by which routes of an edge come."""

@@ -443,7 +443,8 @@ Made by `mplsnet-lab export` of {source}: {routers} routers of FRR, {hosts} host
 
 ## What it needs
 
-The kernel of the machine, with these modules (`modprobe mpls_router mpls_iptunnel vrf`), and labels (`sysctl net.mpls.platform_labels`, which `kernel.sh` sets):
+The kernel of the machine, with these modules (`modprobe -a mpls_router mpls_iptunnel vrf`), and labels (`sysctl net.mpls.platform_labels`, which
+`kernel.sh` sets):
 
 - `mpls_router`, `mpls_iptunnel`: frames with labels, and packets that get them
 - `vrf`: the VRFs' tables
@@ -458,11 +459,12 @@ Then `./ping.sh`, and
 Back to a topology: `mplsnet-new --from {back}`.
 """
 HOW = {
-    "containerlab": "`containerlab deploy -t lab.clab.yml` starts it, `containerlab destroy -t lab.clab.yml` ends it ([containerlab](https://containerlab.dev)). FRR's "
-    "image is that of `--image` and `--tag`.",
-    "netlab": "`netlab up` starts it, `netlab down` ends it ([netlab](https://netlab.tools), 1.9.1 or later for static routes in VRFs). netlab writes the routers'\nconfigurations "
-    "itself and chooses the links' addresses; LDP then advertises labels as its templates say.",
-    "frr": "FRR (Debian's package `frr`) and `ip`. As root, `./lab.sh up` makes a network namespace for each router and host and starts FRR's daemons there;\n`./lab.sh down` ends them.",
+    "containerlab": "`containerlab deploy -t lab.clab.yml` starts it, `containerlab destroy -t lab.clab.yml` ends it\n"
+    "([containerlab](https://containerlab.dev)). FRR's image is that of `--image` and `--tag`.",
+    "netlab": "`netlab up` starts it, `netlab down` ends it ([netlab](https://netlab.tools), 1.9.1 or later for static routes in VRFs).\n"
+    "netlab writes the routers' configurations itself and chooses the links' addresses; LDP then advertises labels as its templates say.",
+    "frr": "FRR (Debian's package `frr`) and `ip`. As root, `./lab.sh up` makes a network namespace for each router and host and starts\n"
+    "FRR's daemons there; `./lab.sh down` ends them.",
 }
 
 
@@ -480,7 +482,7 @@ def lab_text(plan):
 
 def readme_text(plan, form, source, folder):
     """README.md of the lab."""
-    files = {"containerlab": "| `lab.clab.yml` | the lab for containerlab |\n", "netlab": "", "frr": "| `lab.sh` | runs the lab in network namespaces |\n"}[form]
+    files = {"containerlab": "| `lab.clab.yml` | the lab for containerlab |\n", "frr": "| `lab.sh` | runs the lab in network namespaces |\n"}.get(form)
     text = README if form != "netlab" else re.sub(r"(?m)^\| `NODE/.*\n", "", README).replace("{files}", "| `topology.yml` | the lab for netlab |\n")
     back = f"{folder}/topology.yml" if form == "netlab" else folder
     return text.format(

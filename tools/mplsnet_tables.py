@@ -60,12 +60,12 @@ def read_answer(place, command, text):
     return found[0] if len(found) == 1 else found or {}
 
 
-def collected(routers, jobs=8):
+def collected(routers, commands=COMMANDS, jobs=8):
     """The tables of each router, by its shell's words."""
     with concurrent.futures.ThreadPoolExecutor(jobs) as pool:
-        asked = {(name, command): pool.submit(answer, words, command) for name, words in routers.items() for command in COMMANDS}
+        asked = {(name, command): pool.submit(answer, words, command) for name, words in routers.items() for command in commands}
         try:
-            return {name: {command: asked[name, command].result() for command in COMMANDS} for name in routers}
+            return {name: {command: asked[name, command].result() for command in commands} for name in routers}
         except Fault:
             pool.shutdown(cancel_futures=True)
             raise
@@ -134,7 +134,8 @@ class Router:
     def near(self):
         """Of each neighbour of OSPF that is Full (its router's identifier, its address on the link)."""
         found = self.table(ADJACENCIES).get("neighbors", {})
-        return [(name, one.get("ifaceAddress") or one.get("address")) for name, all_of in found.items() for one in all_of if str(one.get("nbrState") or one.get("state")).startswith("Full")]
+        all_of = [(name, one) for name, ends in found.items() for one in ends]
+        return [(name, one.get("ifaceAddress") or one.get("address")) for name, one in all_of if str(one.get("nbrState") or one.get("state")).startswith("Full")]
 
     def ldp(self):
         """The identifiers of neighbours whose LDP session is operational."""
