@@ -274,7 +274,37 @@ _mplsnet_read() {
     esac
 }
 
+_mplsnet_lab() {
+    local word=${COMP_WORDS[COMP_CWORD]} what=${COMP_WORDS[1]} place
+    COMPREPLY=()
+    if ((COMP_CWORD == 1)); then
+        if [[ $word == -* ]]; then _mplsnet_words '--help' "$word"; else _mplsnet_words 'export collect compare' "$word"; fi
+        return
+    fi
+    case ${COMP_WORDS[COMP_CWORD - 1]} in
+        --form) _mplsnet_words 'containerlab netlab frr' "$word"; return ;;
+        --only) _mplsnet_words 'adjacencies trees ldp bindings labels sessions vpn paths routes pairs' "$word"; return ;;
+        --html) _mplsnet_files "$word" .html; return ;;
+        --program) _mplsnet_files "$word"; return ;;
+        --name | --image | --tag | --host-image | --reflector | --shell | --router | --down) return ;;
+    esac
+    if [[ $word == -* ]]; then
+        case $what in
+            export) _mplsnet_words '--help --form --name --image --tag --host-image --reflector' "$word" ;;
+            collect) _mplsnet_words '--help --shell --router' "$word" ;;
+            compare) _mplsnet_words '--help --down --only --json --html --program --reflector' "$word" ;;
+        esac
+        return
+    fi
+    place=$(_mplsnet_place --form --only --html --program --name --image --tag --host-image --reflector --shell --router --down)
+    case $what:$place in
+        export:1 | compare:1) _mplsnet_files "$word" .toml ;;
+        export:2 | compare:2 | collect:[12]) _mplsnet_folders "$word" ;;
+    esac
+}
+
 complete -F _mplsnet mplsnet mplsnet-trial
+complete -F _mplsnet_lab mplsnet-lab
 complete -F _mplsnet_lint mplsnet-lint
 complete -F _mplsnet_run mplsnet-run
 complete -F _mplsnet_draw mplsnet-draw

@@ -15,7 +15,7 @@ FORMATS = (ROOT / "docs/FORMATS.md").read_text()
 
 TOOLS = ["mplsnet-draw", "mplsnet-wireshark", "mplsnet-play", "mplsnet-decode", "mplsnet-read", "mplsnet-lint", "mplsnet-run"]
 TOOLS += ["mplsnet-whatif", "mplsnet-orders", "mplsnet-why", "mplsnet-report", "mplsnet-diff", "mplsnet-new"]
-TOOLS += ["mplsnet-expect"]
+TOOLS += ["mplsnet-expect", "mplsnet-lab"]
 
 # What bash would do at the end of the line, in a folder.
 COMPLETE = """
@@ -115,6 +115,11 @@ class Bash(unittest.TestCase):
         self.assertEqual({"waxman"}, self.completed(first, "mplsnet-new", "--family", "w"))
         self.assertEqual({"topology.toml", "expected"}, self.completed(first, "mplsnet-expect", "--jobs", "2", ""))
         self.assertIn("script.txt", self.completed(first, "mplsnet-expect", "topology.toml", ""))
+        self.assertEqual({"export"}, self.completed(first, "mplsnet-lab", "e"))
+        self.assertEqual({"topology.toml", "expected"}, self.completed(first, "mplsnet-lab", "compare", "--down", "p1-p2", ""))
+        self.assertEqual({"expected"}, self.completed(first, "mplsnet-lab", "export", "--form", "frr", "topology.toml", ""))
+        self.assertEqual({"netlab"}, self.completed(first, "mplsnet-lab", "export", "--form", "n"))
+        self.assertEqual({"--shell"}, self.completed(first, "mplsnet-lab", "collect", "--s"))
 
 
 class Tools(unittest.TestCase):
