@@ -309,6 +309,8 @@ def ping_text(plan, form):
     """ping.sh: from each site to each other."""
     run = {"frr": f'ip netns exec "{plan.name}-$1"'}.get(form, f'docker exec "clab-{plan.name}-$1"')
     text = PING.format(run=run)
+    for site, host in enumerate(plan.hosts) if form == "netlab" else ():  # whose hosts have the addresses of their links alone
+        text += "".join(f"{run.replace('$1', host)} ip addr add {one}/32 dev lo 2>/dev/null\n" for one in host_addresses(plan, site))
     for probe in probes_of(plan.net):
         host = plan.hosts[plan.net.site_number[probe.site]]
         source, to = ".".join(map(str, probe.source)), ".".join(map(str, probe.address))
@@ -443,8 +445,7 @@ Made by `mplsnet-lab export` of {source}: {routers} routers of FRR, {hosts} host
 
 ## What it needs
 
-The kernel of the machine, with these modules (`modprobe -a mpls_router mpls_iptunnel vrf`), and labels (`sysctl net.mpls.platform_labels`, which
-`kernel.sh` sets):
+The kernel of the machine, with these modules (`modprobe -a mpls_router mpls_iptunnel vrf`), and labels (`sysctl net.mpls.platform_labels`{by}):
 
 - `mpls_router`, `mpls_iptunnel`: frames with labels, and packets that get them
 - `vrf`: the VRFs' tables
@@ -484,9 +485,9 @@ def readme_text(plan, form, source, folder):
     """README.md of the lab."""
     files = {"containerlab": "| `lab.clab.yml` | the lab for containerlab |\n", "frr": "| `lab.sh` | runs the lab in network namespaces |\n"}.get(form)
     text = README if form != "netlab" else re.sub(r"(?m)^\| `NODE/.*\n", "", README).replace("{files}", "| `topology.yml` | the lab for netlab |\n")
-    back = f"{folder}/topology.yml" if form == "netlab" else folder
+    back, by = (f"{folder}/topology.yml", "") if form == "netlab" else (folder, ",\nwhich `kernel.sh` sets")
     return text.format(
-        name=plan.name, source=source, routers=len(plan.net.nodes), hosts=len(plan.hosts), files=files, how=HOW[form], name_of_folder=folder, back=back
+        name=plan.name, source=source, routers=len(plan.net.nodes), hosts=len(plan.hosts), files=files, how=HOW[form], name_of_folder=folder, back=back, by=by
     )
 
 

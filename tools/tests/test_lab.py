@@ -174,6 +174,7 @@ class Export(Folder):
         ping = (self.folder / "ping.sh").read_text()
         self.assertIn("from host-a a 'b' 10.1.0.1 10.2.0.1\n", ping)
         self.assertIn("from host-d d 'e' 10.1.0.1 10.3.0.1\n", ping)
+        self.assertIn('docker exec "clab-lab-host-a" ip addr add 10.1.0.1/32 dev lo 2>/dev/null\n', lab.ping_text(plan_of(LABS / "square.toml"), "netlab"))
 
     @unittest.skipUnless(importlib.util.find_spec("yaml"), "python3-yaml isn't installed")
     def test_containerlab(self):
