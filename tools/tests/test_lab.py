@@ -22,6 +22,7 @@ from pathlib import Path
 from runs import ROOT, reference, stand_in
 
 import mplsnet_compare as compare
+import mplsnet_frr
 import mplsnet_import as imports
 import mplsnet_lab as lab
 import mplsnet_tables as tables
@@ -109,7 +110,7 @@ class Export(Folder):
                 with self.subTest(f"{path} {form}"):
                     folder = self.folder / f"{form}-{path.parent.name}-{path.stem}"
                     written(folder, plan_of(path), form)
-                    came = (imports.netlab(folder / "topology.yml") if form == "netlab" else imports.frr(folder)).tables()
+                    came = (imports.netlab(folder / "topology.yml") if form == "netlab" else mplsnet_frr.frr(folder)).tables()
                     self.assertEqual([], TopologyRules(topology_text(came).encode()).broken)
                     self.assertEqual(essence(network(path)[1]), essence(came))
 
