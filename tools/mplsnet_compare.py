@@ -11,7 +11,7 @@ from pathlib import Path
 import mplsnet_lab as lab
 import mplsnet_whatif as whatif
 from mplsnet_files import Fault
-from mplsnet_knowledge import Knowledge, address_text, contains, prefix_of, prefix_text, tree
+from mplsnet_knowledge import Knowledge, contains, prefix_of, prefix_text, tree
 from mplsnet_pcap import capture_of, udp_packet
 from mplsnet_run import Run
 from mplsnet_tables import EXPLICIT_NULL, IMPLICIT_NULL

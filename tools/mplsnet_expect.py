@@ -102,12 +102,9 @@ class Sites:
 
     def address(self, sites, of):
         """An address of the prefix that is in no longer prefix of the sites; where there is none, the first one that a packet may go to."""
-        longer = sorted({one for site in sites for one in self.net.prefixes[site] if one[1] > of[1] and contains(of, one[0])})
-        at = whatif.first_address(of)
-        for first, length in longer:
-            if at is not None and contains((first, length), at):
-                at = next_address(of, first + (1 << 32 - length))
-        return whatif.first_address(of) if at is None else at
+        longer = {one for site in sites for one in self.net.prefixes[site] if one[1] > of[1] and contains(of, one[0])}
+        free = whatif.first_address(of, longer)
+        return whatif.first_address(of) if free is None else free
 
     def of_vpn(self, name):
         """The sites of a VPN: of a name with which its VRFs' names begin, of one VRF, or of a target; none where there is none."""
@@ -115,14 +112,6 @@ class Sites:
         numbers = numbers or {number for number, vrf in enumerate(self.net.vrfs) if vrf.name == name}
         numbers = numbers or {number for number, vrf in enumerate(self.net.vrfs) if name in vrf.imports | vrf.exports}
         return [site for site, vrf in enumerate(self.net.vrf_of) if vrf in numbers]
-
-
-def next_address(of, at):
-    """The first address of the prefix from this one on to which a packet may go; none where there is none."""
-    last = of[0] + (1 << 32 - of[1])
-    while at < last and (at >> 24 in (0, 127) or at >> 29 == 7):
-        at = (at >> 24) + 1 << 24
-    return at if at < last else None
 
 
 def lies_in(inner, outer):

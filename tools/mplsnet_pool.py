@@ -1,33 +1,18 @@
 """Runs of the program side by side: on this machine, or on the workers of a scheduler of dask.distributed."""
 
 import concurrent.futures
+import contextlib
 import multiprocessing
 import os
-import shutil
 import sys
 import tempfile
 import zipfile
 from pathlib import Path
 
 from mplsnet_files import Fault
-from mplsnet_whatif import begin_worker
+from mplsnet_whatif import begin_worker, deaf
 
 HERE = Path(__file__).resolve().parent
-
-
-def program_of(named, is_quiet=False):
-    """The program that runs: the one that is named, or by $MPLSNET, the one in PATH, a build of these sources. A trial build is said to be one."""
-    named = named or os.environ.get("MPLSNET")
-    built, trial = HERE.parent / "crates/mplsnet/out/mplsnet", HERE.parent / "trial/mplsnet-trial"
-    places = [named] if named else [shutil.which("mplsnet"), built, trial, shutil.which("mplsnet-trial")]
-    path = next((path for path in places if path and (named or os.access(path, os.X_OK))), None)
-    if path is None:
-        raise Fault("there is no mplsnet in PATH, and none is built: 'make build' makes it, 'make trial' one that isn't proved; --program names another", 3)
-    if not os.access(path, os.X_OK) or os.path.isdir(path):
-        raise Fault(f"{path}: isn't a program that can be run", 3)
-    if not named and Path(path).name == "mplsnet-trial" and not is_quiet:
-        print(f"{Path(sys.argv[0]).name}: what runs is a trial build, not proved: {path}", file=sys.stderr)
-    return os.path.abspath(path)
 
 
 class Local:
@@ -40,7 +25,8 @@ class Local:
         self.as_completed = concurrent.futures.as_completed
 
     def submit(self, function, job):
-        return self.pool.submit(function, job)
+        with deaf():  # a process that begins knows its own part in a signal before it hears of one
+            return self.pool.submit(function, job)
 
     def stop(self):
         Local.was_stopped = True
@@ -101,6 +87,8 @@ def result_of(future):
 def end(status):
     """Ends the tool; where runs were stopped, without waiting for what the pool's thread still waits for."""
     if Local.was_stopped:
-        sys.stderr.flush()
+        for stream in (sys.stdout, sys.stderr):
+            with contextlib.suppress(OSError, ValueError):
+                stream.flush()
         os._exit(status)
     sys.exit(status)

@@ -44,3 +44,13 @@ def found(named=None, status=1):
                 said = "a build that isn't known to be a proved one of these sources"
             return path, said and f"{said}: {path}"
     raise Fault("there is no mplsnet in PATH, and none is built: in the source 'make trial' makes one in minutes, 'make build' a proved one", status)
+
+
+def to_run(tool, named=None, is_quiet=False):
+    """The path of the program that runs; what is to be said of it, the tool says."""
+    path, said = found(named, 3)
+    if not os.access(path, os.X_OK) or os.path.isdir(path):
+        raise Fault(f"{path}: isn't a program that can be run", 3)
+    if said and not is_quiet:
+        print(f"{tool}: what runs is {said}", file=sys.stderr)
+    return os.path.abspath(path)
