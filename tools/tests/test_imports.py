@@ -202,6 +202,28 @@ class Imports(unittest.TestCase):
         for line in ("pe2: a route reflector: here each edge has a session with each other, so no route is hidden by another (docs/REFLECT.md)", "pe1: key 'mtu'"):
             self.assertIn(line, said)
 
+    def test_netlab_of_routes_and_distinguishers(self):
+        """Static routes in a VRF to what is attached are the site's prefixes; a distinguisher stays where one VRF of one node has it. The rest is told."""
+        to = lambda prefix, gateway: {"ipv4": prefix, "vrf": "red", "nexthop": {"ipv4": gateway}}
+        static = [to("10.8.0.0/16", "198.18.0.2"), to("10.9.0.0/16", "198.18.0.9")]
+        lab = {
+            "nodes": {"pe1": {"routing": {"static": static, "policy": {}}}, "pe2": {}, **{f"h{at}": {"device": "linux"} for at in range(1, 5)}},
+            "vrfs": {"red": {"rd": "65000:7"}, "blue": {"rd": "65000:7"}, "green": {"rd": "65000:8"}},
+            "links": ["pe1-pe2", {"pe1": {"vrf": "red", "ipv4": "198.18.0.1/30"}, "h1": {"ipv4": "198.18.0.2/30"}}, {"pe2": {"vrf": "blue"}, "h2": {}}],
+        }
+        lab["links"] += [{node: {"vrf": "green"}, host: {}} for node, host in (("pe1", "h3"), ("pe2", "h4"))]
+        design = imports.netlab(self.file("lab.yml", lab))
+        tables = self.checked(design)
+        self.assertEqual(["10.8.0.0/16"], tables["site"][0]["prefixes"])
+        self.assertEqual(["65000:7", "65000:1002", "65000:1003", "65000:1004"], [vrf["rd"] for vrf in tables["vrf"]])
+        said = self.said(design)
+        for line in (
+            "pe1: static route 10.9.0.0/16: not in a VRF to what is attached there: left out", "pe1: key 'routing': policies aren't taken",
+            "pe2: VRF blue: rd 65000:7 is another VRF's: one is given", "pe1, pe2: VRF green: rd 65000:8 is that of all its edges: each has one of its own here",
+        ):  # fmt: skip
+            self.assertIn(line, said)
+        self.assertFalse([line for line in said if "10.8.0.0" in line])
+
     def test_containerlab(self):
         """Ends that are no nodes, bridges, and links side by side."""
         ends = [["a:1", "b:1"], ["a:2", "b:2"], ["a:3", "sw:1"], ["c:1", "sw:2"], ["b:3", "sw2:1"], ["c:2", "sw2:2"], ["a:4", "sw2:3"], ["a:5", "host:x"], ["b:5", "macvlan:eth0"], ["c:5", "mgmt-net:y"]]
