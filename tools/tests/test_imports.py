@@ -267,15 +267,16 @@ def random_frr(rng):
 
 def random_netlab(rng):
     names = rng.sample(NAMES, rng.randint(1, 6))
-    nodes = {name: rng.choice([None, {}, {"device": "linux"}, {"loopback.ipv4": rng.choice(["10.9.0.1/32", "127.0.0.1", "x", 5])}, {"bgp": {"rr": True, "as": 65009}}, {"module": ["mpls"]}, {"role": "host"}, {"vrfs": {"red": {"import": rng.choice(PAIRS)}}}, {"mtu": 1500}]) for name in names}
+    static = [{"ipv4": rng.choice([*PREFIXES, 7, None]), "vrf": "red", "nexthop.ipv4": "192.0.2.2"} for _ in range(3)]
+    nodes = {name: rng.choice([None, {}, {"routing.static": static}, {"routing": {"static": rng.choice([static, 7, [7]])}}, {"device": "linux"}, {"loopback.ipv4": rng.choice(["10.9.0.1/32", "127.0.0.1", "x", 5])}, {"bgp": {"rr": True, "as": 65009}}, {"module": ["mpls"]}, {"role": "host"}, {"vrfs": {"red": {"import": rng.choice(PAIRS)}}}, {"mtu": 1500}]) for name in names}
 
     def link():
         a, b, c = (rng.choice(names) for _ in range(3))
         keys = {**({"vrf": rng.choice(["red", "blue", "z" * 33])} if rng.random() < 0.4 else {}), **({"prefix": rng.choice([*PREFIXES[:7], True, {"ipv4": "10.7.0.0/24"}, {"ipv6": "::/64"}])} if rng.random() < 0.4 else {}), **({"ospf.cost": rng.choice(NUMBERS)} if rng.random() < 0.4 else {})}
-        return rng.choice([f"{a}-{b}", [a, b], [a, b, c], {a: {}, b: {"vrf": "red"}, **keys}, {a: None, b: None, **keys}, {"interfaces": [a, {"node": b, "ospf": {"cost": rng.choice(NUMBERS)}}], **keys}, {"group": "g", "members": [[a, b], f"{b}-{c}"], **keys}, {"bandwidth": 5, a: {}, c: {}}])
+        return rng.choice([f"{a}-{b}", [a, b], {a: {"vrf": "red", "ipv4": "192.0.2.1/30"}, b: {"ipv4": "192.0.2.2/30"}}, [a, b, c], {a: {}, b: {"vrf": "red"}, **keys}, {a: None, b: None, **keys}, {"interfaces": [a, {"node": b, "ospf": {"cost": rng.choice(NUMBERS)}}], **keys}, {"group": "g", "members": [[a, b], f"{b}-{c}"], **keys}, {"bandwidth": 5, a: {}, c: {}}])
 
     lab = {"nodes": nodes if rng.random() < 0.8 else names, "links": [link() for _ in range(rng.randint(0, 8))], "bgp.as": rng.choice([65000, 4200000001, 0, "x", "1.1", None])}
-    lab["vrfs"] = rng.choice([None, {}, {"red": None, "blue": {"rd": rng.choice(PAIRS)}}, {"red": {"rd": rng.choice(PAIRS), "import": [rng.choice(PAIRS), "blue"], "export": rng.choice(PAIRS)}, "blue": {"links": [link()]}}])
+    lab["vrfs"] = rng.choice([None, {}, {"red": {"bgp.import": rng.choice([["static"], [], 7]), "rd": rng.choice(PAIRS)}}, {"red": None, "blue": {"rd": rng.choice(PAIRS)}}, {"red": {"rd": rng.choice(PAIRS), "import": [rng.choice(PAIRS), "blue"], "export": rng.choice(PAIRS)}, "blue": {"links": [link()]}}])
     lab["groups"] = rng.choice([None, {"x": {"members": names[:2], "device": "linux"}}, {"x": names[:1]}, {"x": {"members": "all", "node_data": {"role": "host"}}}])
     return lab
 
