@@ -47,10 +47,13 @@ MESSAGES = {
     0x0400: ("Mapping", [FEC, LABEL]), 0x0402: ("Withdraw", [FEC, LABEL]), 0x0403: ("Release", [FEC, LABEL]),
 }  # fmt: skip
 TAKEN_MESSAGES = {0x0100: "a Hello comes by UDP", 0x0301: TAKEN, 0x0401: TAKEN, 0x0404: TAKEN}
+SECTIONS = {0x0100: "3.5.2", 0x0301: "3.5.6", 0x0401: "3.5.8", 0x0404: "3.5.9"}
 TLVS = {0x0100, 0x0101, 0x0103, 0x0104, 0x0200, 0x0201, 0x0202, 0x0300, 0x0301, 0x0302, 0x0303, 0x0400, 0x0401, 0x0402, 0x0403}
 TLVS |= {0x0500, 0x0501, 0x0502, 0x0600}
 OPTIONAL = {0x0001: {0x0301, 0x0302, 0x0303}, 0x0200: {0x0501, 0x0502}, 0x0400: {0x0103, 0x0104, 0x0600}}  # by RFC 5036, section 3.5
 U, F = 0x8000, 0x4000
+LABEL_OPTIONAL = {"Withdraw": "3.5.10", "Release": "3.5.11"}
+LEAST_PDU = 18  # bytes of a PDU with the least message: by RFC 5036, section 3.5.1.2.1, a length below 14 is wrong by itself
 
 
 def read_ldp(data):
@@ -72,7 +75,8 @@ def read_ldp(data):
 def read_message(data, at, messages, passed):
     """Takes the message at the place; where it ends."""
     if len(data) - at < 8:
-        raise Refused("BadMessageLength", at, f"{len(data) - at} bytes are left for a message", MESSAGE_LENGTH, "3.5")
+        answer = PDU_LENGTH if len(data) < LEAST_PDU else MESSAGE_LENGTH
+        raise Refused("BadMessageLength", at, f"{len(data) - at} bytes are left for a message", answer, "3.5.1.2.1")
     kind, size = number(data, at, 2), number(data, at + 2, 2)
     if size < 4:
         raise Refused("BadMessageLength", at + 2, f"the length {size}, below 4", MESSAGE_LENGTH, "3.5")
@@ -80,7 +84,8 @@ def read_message(data, at, messages, passed):
         raise Refused("BadMessageLength", at + 2, f"the length {size} passes the PDU", MESSAGE_LENGTH, "3.5")
     if kind & ~U not in MESSAGES:
         if not kind & U:
-            raise Refused("UnknownMessage", at, f"the type {kind:04X} without the U bit", TAKEN_MESSAGES.get(kind, UNKNOWN_MESSAGE), "3.5")
+            answer = MISSING if TAKEN_MESSAGES.get(kind) == TAKEN and size == 4 else TAKEN_MESSAGES.get(kind, UNKNOWN_MESSAGE)
+            raise Refused("UnknownMessage", at, f"the type {kind:04X} without the U bit", answer, SECTIONS.get(kind, "3.5"))
         passed.append(f"message {kind:04X}")
         return at + 4 + size
     name, due = MESSAGES[kind & ~U]
@@ -107,10 +112,12 @@ def tlv_size(data, at, end):
 def read_tlv(data, at, end, wanted, message):
     """Takes the TLV that is due; where it ends."""
     if at == end:
-        raise Refused("MissingTlv", at, f"the message ends where the TLV {wanted:04X} is due", MISSING, "3.5.1.2.2")
+        answer, section = (TAKEN, LABEL_OPTIONAL[message["message"]]) if wanted == LABEL and message["message"] in LABEL_OPTIONAL else (MISSING, "3.5.1.2.1")
+        raise Refused("MissingTlv", at, f"the message ends where the TLV {wanted:04X} is due", answer, section)
     size, kind = tlv_size(data, at, end), number(data, at, 2)
     if kind != wanted:
-        answer = MISSING if kind & 0x3FFF in TLVS else UNKNOWN_TLV
+        passed = kind & 0x3FFF == wanted or kind & U and kind & 0x3FFF not in TLVS
+        answer = TAKEN if passed else MISSING if kind & 0x3FFF in TLVS else UNKNOWN_TLV
         raise Refused("BadTlv", at, f"the TLV {kind:04X} where {wanted:04X} is due", answer, "3.3")
     value = data[at + 4 : at + 4 + size]
     {FEC: read_fec, LABEL: read_label, ADDRESSES: read_addresses, STATUS: read_status, PARAMETERS: read_parameters}[wanted](value, at + 4, message)
@@ -148,7 +155,7 @@ def read_fec(value, at, message):
     if has_host_bits(length, value[4:whole]):
         raise Refused("BadFec", at + whole - 1, "a bit past the prefix's length", TAKEN, section)
     if len(value) > whole:
-        answer = TAKEN if value[whole] == 2 and len(value) >= whole + 4 else MALFORMED
+        answer = UNKNOWN_FEC if value[whole] not in (1, 2) else TAKEN if value[whole] == 2 and len(value) >= whole + 4 else MALFORMED
         raise Refused("BadFec", at + whole, "more than one element", answer, section)
     message["prefix"] = prefix_text(length, value[4:])
 
@@ -195,6 +202,7 @@ LENGTH_ERROR = "3/5 Attribute Length Error; RFC 7606: treat as withdraw"
 LEAST = {1: ("OPEN", 29), 2: ("UPDATE", 23), 3: ("NOTIFICATION", 21), 4: ("KEEPALIVE", 19)}
 ORIGIN, AS_PATH, NEXT_HOP, LOCAL_PREF, AGGREGATE, REACH, UNREACH, COMMUNITIES = 1, 2, 3, 5, 6, 14, 15, 16
 KNOWN = {ORIGIN, AS_PATH, NEXT_HOP, LOCAL_PREF, AGGREGATE, REACH, UNREACH, COMMUNITIES}
+ORIGINATOR, CLUSTERS = 9, 10  # of a route reflector, RFC 4456: refused when all else is right
 
 
 def read_bgp(data):
@@ -256,9 +264,24 @@ def read_update(data, said, passed):
     found = attributes_of(data)
     for kind, (at, value) in found.items():
         read_attribute(kind, value, at, said)
-        if kind not in (ORIGIN, AS_PATH, LOCAL_PREF, REACH, UNREACH, COMMUNITIES):
+        if kind not in (ORIGIN, AS_PATH, LOCAL_PREF, REACH, UNREACH, COMMUNITIES, ORIGINATOR, CLUSTERS):
             passed.append(f"attribute {kind}")
     missing(found, len(data))
+    read_reflected(found, said)
+
+
+def read_reflected(found, said):
+    """What a route reflector adds, where it is there."""
+    if ORIGINATOR in found:
+        at, value = found[ORIGINATOR]
+        if len(value) != 4:
+            raise Refused("BadOriginator", at, f"{len(value)} bytes of ORIGINATOR_ID", LENGTH_ERROR, "RFC 4456, 8")
+        said["originator"] = address(value)
+    if CLUSTERS in found:
+        at, value = found[CLUSTERS]
+        if not value or len(value) % 4:
+            raise Refused("BadClusters", at, f"{len(value)} bytes of CLUSTER_LIST", LENGTH_ERROR, "RFC 4456, 8")
+        said["clusters"] = [address(value[place : place + 4]) for place in range(0, len(value), 4)]
 
 
 def attributes_of(data):

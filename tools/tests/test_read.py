@@ -16,10 +16,12 @@ sys.path.insert(0, str(ROOT / "tools"))
 from mplsnet_wire import READERS, Refused  # noqa: E402
 
 sys.path.pop(0)
-VECTORS = {protocol: json.loads((ROOT / f"docs/vectors/{protocol}.json").read_text()) for protocol in READERS}
+FILES = {name: json.loads((ROOT / f"docs/vectors/{name}.json").read_text()) for name in ("ldp", "bgp", "bulk")}
+VECTORS = {protocol: [one for vectors in FILES.values() for one in vectors if one["protocol"] == protocol] for protocol in READERS}
 WIRE = (ROOT / "docs/WIRE.md").read_text()
 ROWS = ROOT / "crates/mn_wire_rows/data"
 PORTS = {"ldp": 646, "bgp": 179}
+MORE = {"source", "expects", "status", "fatal", "reply", "revised", "profile", "framed", "besides"}
 MARKER = b"\xff" * 16
 
 
@@ -30,7 +32,9 @@ def bytes_of(vector):
 def rules_of(protocol):
     """The rules of docs/WIRE.md by which a message is refused."""
     chapter = WIRE.split(f"\n## {protocol.upper()}\n")[1].split("\n## ")[0]
-    return set(re.findall(r"^\| ([A-Z]\w+[a-z]\w*) \| ", chapter.split("### What is refused")[1], re.M)) - {"Refusal"}
+    if protocol == "bgp":
+        chapter += WIRE.split("## What a route reflector adds")[1].split("\n## ")[0]
+    return set(re.findall(r"^\| ([A-Z]\w+[a-z]\w*) \| ", chapter.split("### What is refused")[1], re.M)) - {"Refusal", "Part", "Wire", "NotUpdate"}
 
 
 class Vectors(unittest.TestCase):
@@ -39,8 +43,8 @@ class Vectors(unittest.TestCase):
             self.assertEqual(len(vectors), len({vector["name"] for vector in vectors}))
             for vector in vectors:
                 with self.subTest(vector["name"]):
-                    wanted = {"name", "hex", "section"} | ({"says"} if "says" in vector else {"refused", "answer"})
-                    self.assertEqual(wanted, set(vector) - {"source"})
+                    wanted = {"name", "protocol", "hex", "accept", "section"} | ({"says"} if "says" in vector else {"refused", "answer"})
+                    self.assertEqual(wanted, set(vector) - MORE)
                     self.assertRegex(vector["section"], r"^RFC \d+, \d")
 
     def test_each_is_read_as_it_says_or_refused_by_its_rule_at_its_byte(self):
