@@ -10,7 +10,7 @@ from mplsnet_left import LABELS, NUMBERS, PARTS, REACH, UNKNOWN, UNREAD, WAYS
 
 SILENT = {"!", "exit", "end", "exit-vrf", "exit-address-family", "exit-vnc", "frr", "log", "service", "description"}
 DECORATION = {
-    "top": ("ip forwarding", "ipv6", "line", "password", "enable", "debug", "ip prefix-list", "ip community-list", "access-list", "bgp", "route-map", "ip nht", "zebra", "agentx", "router-id", "router ospf6"),
+    "top": ("ip forwarding", "ipv6", "no ipv6", "line", "password", "enable", "debug", "ip prefix-list", "ip community-list", "access-list", "bgp", "route-map", "ip nht", "zebra", "agentx", "router-id", "router ospf6"),
     "interface": ("ip ospf", "isis", "ip router", "ipv6", "mpls", "ip igmp", "ip pim", "no ip", "no ipv6", "no mpls", "evpn", "link-params", "mtu", "bfd", "no isis"),
     "ospf": ("ospf", "area", "log-adjacency-changes", "timers", "capability", "redistribute", "default-information", "distance", "refresh", "neighbor", "bfd", "no", "compatible", "write-multiplier"),
     "isis": ("net", "is-type", "metric-style", "lsp-gen-interval", "spf-interval", "area-password", "domain-password", "hostname", "log-adjacency-changes", "topology", "redistribute", "no", "set-overload-bit", "lsp-mtu", "dynamic-hostname"),
@@ -58,7 +58,7 @@ class Router:
             return
         text = " ".join(words)
         known = any(text == one or text.startswith(f"{one} ") for one in DECORATION.get(kind, ()))
-        count = 2 if len(words) > 1 and re.fullmatch("[a-z-]+", words[1]) else 1
+        count = 2 if len(words) > 1 and re.fullmatch("[a-z-]+|ipv[46]", words[1]) else 1
         self.tell(UNREAD if known else UNKNOWN, f"'{' '.join(words[:count])}{' ..' if len(words) > count else ''}'", f"'{text}'")
 
     # Blocks.
