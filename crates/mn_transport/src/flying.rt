@@ -33,6 +33,25 @@ fn channel_from(topology: &Topology, link: LinkNo, end: NodeNo) -> u32
     }
 }
 
+/// How many nodes there are.
+fn count_of(topology: &Topology) -> u32
+    ensures count { result ≡ length topology.now.loopbacks }
+    ensures few { result ≤ 256 }
+{
+    topology.laws();
+    topology.nodes().len() as u32
+}
+
+/// The channel of a node's notices of a link.
+pub(crate) fn channel_at(topology: &Topology, link: LinkNo, node: u32) -> u32
+    requires link { link.0 < length topology.now.links }
+    requires node { node < length topology.now.loopbacks }
+    ensures channel { result ≡ link.0 * length topology.now.loopbacks + node }
+    ensures there { result < length topology.now.links * length topology.now.loopbacks }
+{
+    u32::from(link.0) * count_of(topology) + node
+}
+
 /// Puts a notice of a link into flight to a node.
 fn tell(
     notices: &mut Notices,
@@ -50,8 +69,7 @@ fn tell(
     ensures channels { notices.new.channels ≡ notices.old.channels }
     ensures flight { IsFlight notices.new.channels notices.new.items }
 {
-    topology.laws();
-    let channel = u32::from(link.0) * topology.nodes().len() as u32 + node;
+    let channel = channel_at(topology, link, node);
     let due = clock.tick + u64::from(topology.notice_delay());
     match notices.push(channel, due, clock.number, Notice {}) {
         Ok(()) => Ok(()),
@@ -78,8 +96,7 @@ pub(crate) fn tell_all(
     ensures channels { notices.new.channels ≡ notices.old.channels }
     ensures flight { IsFlight notices.new.channels notices.new.items }
 {
-    topology.laws();
-    let nodes = topology.nodes().len() as u32;
+    let nodes = count_of(topology);
     let tick = clock.tick;
     let mut number = clock.number;
     for node in 0..nodes {

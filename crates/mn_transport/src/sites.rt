@@ -60,11 +60,27 @@ fn first_nodes(alloc: Global, topology: &Topology) -> Result<Vec<Lsr>, AllocErro
     topology.laws();
     let loopbacks = loopbacks_of(alloc, topology.nodes())?;
     let links = SharedLinks::new(alloc, loopbacks.len() as u32, topology.links())?;
+    nodes_over(alloc, topology, &loopbacks, &links)
+}
+
+/// The same over the nodes' loopbacks, and over links that they share.
+fn nodes_over(
+    alloc: Global,
+    topology: &Topology,
+    loopbacks: &[u32],
+    links: &SharedLinks,
+) -> Result<Vec<Lsr>, AllocError>
+    requires loopbacks { loopbacks.now ≡ topology.now.loopbacks }
+    requires nodes { links.now.nodes ≡ length topology.now.loopbacks }
+    requires ends { links.now.ends ≡ topology.now.links }
+    ensures { IfOk result (λ nodes. AreFirst topology.now 0 nodes.items) }
+{
+    topology.laws();
     let mut nodes = Vec::new(alloc);
     for number in 0..loopbacks.len() {
         let me = NodeNo(number as u16);
         let life = longest_life(topology, me);
-        nodes.push(Lsr::over(alloc, me, &loopbacks, &links, life)?)?;
+        nodes.push(Lsr::over(alloc, me, loopbacks, links, life)?)?;
     }
     Ok(nodes)
 }

@@ -6,7 +6,7 @@ ghost use Rattle.mn_wiring.specs.Wiring.{link as link_of};
 ghost use Rattle.mn_transport.specs.Prelude.{IsFlight, is_odd, is_link_up, turned_by, MayAct, MayHear, Acts, TurnsEnds, MayBoth, MayTurn, TurnsLink, MaySwitch, Switches, LearnsNext, CanHear, HearsNext, MayDo, Did};
 ghost use Rattle.mn_topo.specs.declared.steps.Step.TheVariants as step;
 
-use crate::flying::{cut, send, tell_all};
+use crate::flying::{channel_at, cut, send, tell_all};
 use crate::transport::{Transport, labels_fit};
 use mn_base::{LinkNo, NodeNo};
 use mn_flight::{Clock, Flight};
@@ -21,8 +21,7 @@ fn channel_to(topology: &Topology, link: LinkNo, node: NodeNo) -> u32
     requires node { node.0 < length topology.now.loopbacks }
     ensures { result ≡ link.0 * length topology.now.loopbacks + node.0 }
 {
-    topology.laws();
-    u32::from(link.0) * topology.nodes().len() as u32 + u32::from(node.0)
+    channel_at(topology, link, u32::from(node.0))
 }
 
 impl Transport {

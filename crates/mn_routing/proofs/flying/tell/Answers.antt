@@ -1,7 +1,8 @@
 use Rattle.std.proofs.Common.{◌≡◌, ◌+◌, ◌*◌, ◌++◌, ◌∙◌, ap, append-nil, arith, length, List, map, sym}
+use Rattle.mn_pe.specs.Held.{Exported}
 use Rattle.mn_routing_laws.specs.Sending.{Parcel, put_all, news_to, spelled_in}
 use Rattle.mn_routing_laws.proofs.Putting.{told_next, told_count}
-use Rattle.mn_routing.proofs.Nobody.{to_nobody}
+use Rattle.mn_routing.proofs.Nobody.{to_nobody, none_left}
 use Rattle.mn_routing.proofs.flying.tell.Goals as goal
 
 pub loop-export-preserved : goal.loop-export-preserved
@@ -41,3 +42,20 @@ returns-then-is_empty-clause-next c =
     (to_nobody (c.args.edge.0 * length t.loopbacks) c.args.peers.now (map (spelled_in t c.args.edge.0 c.args.comes) c.args.exports.now)
     (sym c.is_empty.ensures ∙ c.if-is_empty.true)) in
     omega (arith, none)
+
+-- all is told
+pub returns-clause-told : goal.returns-clause-told
+returns-clause-told c =
+    let at = c.loop-export in
+    let t = c.args.topology.now in
+    sym (append-nil at.messages.items)
+    ∙ sym (ap (λ (xs : List Exported). at.messages.items ++ put_all (c.args.clock.tick + t.bgp_delay) at.number (news_to t c.args.edge.0 c.args.peers.now c.args.comes xs))
+    (none_left c.args.exports.now at.export-index c.loop-export-test.false))
+    ∙ at.invariant.sent
+
+pub returns-clause-next : goal.returns-clause-next
+returns-clause-next c =
+    let at = c.loop-export in
+    let none = ap (λ (xs : List Exported). length (news_to c.args.topology.now c.args.edge.0 c.args.peers.now c.args.comes xs))
+    (none_left c.args.exports.now at.export-index c.loop-export-test.false) in
+    omega (arith, none, at.invariant.count)

@@ -1,19 +1,8 @@
-use Rattle.std.proofs.Common.{ℕ, ◌≡◌, ◌≤◌, ◌+◌, List, [], false, length, map, arith, sym, ◌∙◌, ap, subst}
-use Rattle.std.proofs.lemmas.List.{length_push}
-use Rattle.mn_wiring.specs.Wiring.{Wiring, links_at}
-use Rattle.mn_wiring.specs.declared.links.LinkEnds.{LinkEnds}
-use Rattle.mn_node.specs.Machine.{fresh_node}
-use Rattle.mn_topo.specs.Network.{wiring_of}
+use Rattle.std.proofs.Common.{◌≡◌, length, map, arith, sym, ◌∙◌, ap, subst}
 use Rattle.mn_topo.specs.declared.nodes.Node.{Node}
-use Rattle.mn_labels.specs.Labels.{none_given}
-use Rattle.mn_releases.specs.Rests.{at_first}
-use Rattle.mn_reuse_laws.specs.Labels.{longest_life}
 use Rattle.mn_linkdb.specs.Learned.{Learned}
 use Rattle.mn_linkdb.specs.Network.{IsNetwork}
-use Rattle.mn_lsr.specs.Standing.{Standing, IsWired}
-use Rattle.mn_transport_laws.specs.Starting.{IsFirst}
-use Rattle.mn_transport_laws.proofs.Lists.{Each}
-use Rattle.mn_transport_laws.proofs.Starts.{wired, loopbacks-are, first-node, each-push}
+use Rattle.mn_transport_laws.proofs.Starts.{wired, loopbacks-are}
 use Rattle.mn_transport.proofs.sites.first_nodes.Goals as goal
 
 pub new-requires : goal.new-requires
@@ -25,64 +14,17 @@ new-requires c =
     subst (λ n. IsNetwork n c.links.result.now) (sym nodes)
     (subst (IsNetwork (length t.loopbacks)) (sym c.links.ensures) (wired t c.laws.ensures).network)
 
-pub over-requires-clause-wired : goal.over-requires-clause-wired
-over-requires-clause-wired c =
+pub nodes_over-requires-clause-loopbacks : goal.nodes_over-requires-clause-loopbacks
+nodes_over-requires-clause-loopbacks c =
     let t = c.args.topology.now in
-    let loopbacks : c.deref.result.now ≡ t.loopbacks =
-    c.deref.ensures.value ∙ c.in_ok-loopbacks.ensures ∙ ap (map (λ (node : Node). node.loopback)) c.nodes.ensures ∙ loopbacks-are t.loopbacks in
-    subst (λ xs. IsWired (record { loopbacks = xs; ends = c.in_ok-links.links.ends })) (sym loopbacks)
-    (subst (λ es. IsWired (record { loopbacks = t.loopbacks; ends = es })) (sym (ap (λ (v : Learned). v.ends) c.in_ok-links.ensures ∙ c.links.ensures))
-    (wired t c.laws.ensures))
+    c.deref.ensures.value ∙ c.in_ok-loopbacks.ensures ∙ ap (map (λ (node : Node). node.loopback)) c.nodes.ensures ∙ loopbacks-are t.loopbacks
 
-pub loop-number-preserved : goal.loop-number-preserved
-loop-number-preserved c =
-    let t = c.args.topology.now in
-    let x : Standing = c.in_ok-over.field-0 in
-    let number : ℕ = c.loop-number.number in
-    let loopbacks : c.deref.result.now ≡ t.loopbacks =
-    c.deref.ensures.value ∙ c.in_ok-loopbacks.ensures ∙ ap (map (λ (node : Node). node.loopback)) c.nodes.ensures ∙ loopbacks-are t.loopbacks in
-    let wiring : (let w : Wiring = record { loopbacks = c.deref.result.now; ends = c.in_ok-links.links.ends } in w) ≡ wiring_of t =
-    ap (λ xs. let w : Wiring = record { loopbacks = xs; ends = c.in_ok-links.links.ends } in w) loopbacks
-    ∙ ap (λ (es : List LinkEnds). let w : Wiring = record { loopbacks = t.loopbacks; ends = es } in w)
-    (ap (λ (v : Learned). v.ends) c.in_ok-links.ensures ∙ c.links.ensures) in
-    let fresh : IsFirst t 0 number x =
-    first-node t number x
-    (subst (λ (w : Wiring). x ≡ record {
-      wiring = w;
-      node = fresh_node w number;
-      labels = none_given (length w.loopbacks);
-      resting = at_first (length w.loopbacks) (longest_life t (links_at (wiring_of t) number));
-      uses = [];
-      failed =
-          false;
-    }) wiring
-    (c.in_ok-over.ensures.fresh
-    ∙ ap (λ life. let s : Standing = record {
-      wiring = record { loopbacks = c.deref.result.now; ends = c.in_ok-links.links.ends };
-      node = fresh_node (record { loopbacks = c.deref.result.now; ends = c.in_ok-links.links.ends }) number;
-      labels = none_given (length c.deref.result.now);
-      resting = at_first (length c.deref.result.now) life;
-      uses = [];
-      failed =
-          false;
-    } in s) c.longest_life-life.ensures))
-    c.in_ok-over.ensures.table in
-    record {
-      count = ap length c.in_ok-push.ensures.items ∙ length_push c.loop-number.nodes.items x ∙ ap (λ n. n + 1) c.loop-number.invariant.count;
-      first = subst (Each (IsFirst t 0)) (sym c.in_ok-push.ensures.items)
-          (each-push (IsFirst t 0) c.loop-number.nodes.items x c.loop-number.invariant.first
-          (subst (λ n. IsFirst t 0 n x) (sym c.loop-number.invariant.count) fresh));
-    }
-
-pub returns : goal.returns
-returns c =
+pub nodes_over-requires-clause-nodes : goal.nodes_over-requires-clause-nodes
+nodes_over-requires-clause-nodes c =
     let t = c.args.topology.now in
     let loopbacks : c.in_ok-loopbacks.loopbacks.items ≡ t.loopbacks =
     c.in_ok-loopbacks.ensures ∙ ap (map (λ (node : Node). node.loopback)) c.nodes.ensures ∙ loopbacks-are t.loopbacks in
-    let size = ap length loopbacks in
-    let last : c.len-number-end.result ≤ c.loop-number.number = c.loop-number-test.false in
-    record {
-      each = omega (arith, size, last, c.loop-number.invariant.count, c.loop-number.auto.number-end, c.len-number-end.ensures);
-      nodes =
-          c.loop-number.invariant.first;
-    }
+    ap (λ (v : Learned). v.nodes) c.in_ok-links.ensures ∙ omega (arith, c.len.ensures, ap length loopbacks)
+
+pub nodes_over-requires-clause-ends : goal.nodes_over-requires-clause-ends
+nodes_over-requires-clause-ends c = ap (λ (v : Learned). v.ends) c.in_ok-links.ensures ∙ c.links.ensures
