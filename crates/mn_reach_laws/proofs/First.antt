@@ -163,10 +163,73 @@ module _ (t : Network) (c : Config) (edge v : ℕ) where
 
 -- 4. The candidate that is chosen
 
+module _ (t : Network) (c : Config) (edge v address : ℕ) (cs : List HeldRoute)
+    (names : (b : Bool) → NamesTheBest (only_if b (is_reached t c edge) (routes_at_rest t c edge v)) address) (are : AreCandidates t c edge v address cs) where
+  there : (r : HeldRoute) → In (routes_at_rest t c edge v) r → covers address r ≡ true → In (filter (is_told c edge) cs) r
+  there r i m =
+      let k = rest-told t c edge v r i in
+      filter_in (is_told c edge) cs r (in_contained cs r (are.all r (contained_in (routes_of t c edge v) r k.0) m)) k.1
+
+  back : (r : HeldRoute) → In (filter (is_told c edge) cs) r → In (routes_at_rest t c edge v) r × (covers address r ≡ true)
+  back r i =
+      let f = in_filter (is_told c edge) cs r i in
+      let o = are.only r (contained_in cs r f.0) in
+      (told-rest t c edge v r (in_contained (routes_of t c edge v) r o.0) f.1, o.1)
+
+  all_best : best (routes_at_rest t c edge v) address ≡ first_of (filter (is_told c edge) cs)
+  all_best =
+      first-best (routes_at_rest t c edge v) (filter (is_told c edge) cs) address (ordered-filter (is_told c edge) cs are.ordered) (names false) there back
+
+  reached_there : (r : HeldRoute) → In (filter (is_reached t c edge) (routes_at_rest t c edge v)) r → covers address r ≡ true
+      → In (filter (is_reached t c edge) (filter (is_told c edge) cs)) r
+  reached_there r i m =
+      let f = in_filter (is_reached t c edge) (routes_at_rest t c edge v) r i in
+      filter_in (is_reached t c edge) (filter (is_told c edge) cs) r (there r f.0 m) f.1
+
+  reached_back : (r : HeldRoute) → In (filter (is_reached t c edge) (filter (is_told c edge) cs)) r
+      → In (filter (is_reached t c edge) (routes_at_rest t c edge v)) r × (covers address r ≡ true)
+  reached_back r i =
+      let f = in_filter (is_reached t c edge) (filter (is_told c edge) cs) r i in
+      let o = back r f.0 in
+      (filter_in (is_reached t c edge) (routes_at_rest t c edge v) r o.0 f.1, o.1)
+
+  reached_best : best (filter (is_reached t c edge) (routes_at_rest t c edge v)) address ≡ first_of (filter (is_reached t c edge) (filter (is_told c edge) cs))
+  reached_best =
+      first-best (filter (is_reached t c edge) (routes_at_rest t c edge v)) (filter (is_reached t c edge) (filter (is_told c edge) cs)) address
+      (ordered-filter (is_reached t c edge) (filter (is_told c edge) cs) (ordered-filter (is_told c edge) cs are.ordered)) (names true) reached_there reached_back
+
+  by_first : (us : List HeldRoute) → filter (is_reached t c edge) (filter (is_told c edge) cs) ≡ us
+      → best (only_if (list_any (covers address) (filter (is_reached t c edge) (routes_at_rest t c edge v))) (is_reached t c edge) (routes_at_rest t c edge v)) address
+      ≡ chosen_by true (first_of us) (first_of (filter (is_told c edge) cs))
+  by_first [] e =
+      ap (λ b. best (only_if b (is_reached t c edge) (routes_at_rest t c edge v)) address)
+      (passes_none (covers address) (filter (is_reached t c edge) (routes_at_rest t c edge v)) (λ r i. nothing r i (covers address r) refl))
+      ∙ all_best
+    where
+      nothing : (r : HeldRoute) → In (filter (is_reached t c edge) (routes_at_rest t c edge v)) r → (b : Bool) → covers address r ≡ b → covers address r ≡ false
+      nothing r i false m = m
+      nothing r i true m = absurd (subst (λ us. In us r) e (reached_there r i m))
+  by_first (u ∷ us) e = ap (λ b. best (only_if b (is_reached t c edge) (routes_at_rest t c edge v)) address) some ∙ reached_best ∙ ap first_of e
+    where
+      some : list_any (covers address) (filter (is_reached t c edge) (routes_at_rest t c edge v)) ≡ true
+      some =
+          let o = reached_back u (subst (λ zs. In zs u) (sym e) (inl refl)) in
+          one_passes (covers address) (filter (is_reached t c edge) (routes_at_rest t c edge v)) u o.0 o.1
+
+  -- where the best of the routes is one
+  pub chosen_is_best : best (taking_part t c edge v address) address ≡ chosen t c edge cs
+  chosen_is_best = by_resolve t.resolve
+    where
+      by_resolve : (b : Bool)
+          → best (only_if (b && list_any (covers address) (filter (is_reached t c edge) (routes_at_rest t c edge v))) (is_reached t c edge) (routes_at_rest t c edge v)) address
+          ≡ chosen_by b (first_of (filter (is_reached t c edge) (filter (is_told c edge) cs))) (first_of (filter (is_told c edge) cs))
+      by_resolve false = all_best
+      by_resolve true = by_first (filter (is_reached t c edge) (filter (is_told c edge) cs)) refl
+
 pub first_is_best : (t : Network) (es : List JournalEntry) (ps : List (List ℕ)) → IsLawful t → IsLawfulJournal t es ps → IsAtRest t (world_of t es)
     → (edge v address : ℕ) (cs : List HeldRoute) → Contains (edges t) edge → AreCandidates t (world_of t es).config edge v address cs
     → best (taking_part t (world_of t es).config edge v address) address ≡ chosen t (world_of t es).config edge cs
-first_is_best t es ps lawful journal rest edge v address cs at_edge are = by_resolve t.resolve refl
+first_is_best t es ps lawful journal rest edge v address cs at_edge are = chosen_is_best t (world_of t es).config edge v address cs names are
   where
     turn : IsInTurn t (world_of t es)
     turn = in_turn t es ps lawful journal
@@ -184,70 +247,3 @@ first_is_best t es ps lawful journal rest edge v address cs at_edge are = by_res
         (λ a i. held_formed t (world_of t es).config (world_of t es).peerings edge v a k.forms k.told (given a i))
         (λ a c i j source prefix. one_held t (world_of t es).config (world_of t es).peerings edge v a c lawful (loopbacks_apart t lawful) k.statics k.told
         (given a i) (given c j) source prefix)
-
-    there : (r : HeldRoute) → In (routes_at_rest t (world_of t es).config edge v) r → covers address r ≡ true
-        → In (filter (is_told (world_of t es).config edge) cs) r
-    there r i m =
-        let k = rest-told t (world_of t es).config edge v r i in
-        filter_in (is_told (world_of t es).config edge) cs r
-        (in_contained cs r (are.all r (contained_in (routes_of t (world_of t es).config edge v) r k.0) m)) k.1
-
-    back : (r : HeldRoute) → In (filter (is_told (world_of t es).config edge) cs) r
-        → In (routes_at_rest t (world_of t es).config edge v) r × (covers address r ≡ true)
-    back r i =
-        let f = in_filter (is_told (world_of t es).config edge) cs r i in
-        let o = are.only r (contained_in cs r f.0) in
-        (told-rest t (world_of t es).config edge v r (in_contained (routes_of t (world_of t es).config edge v) r o.0) f.1, o.1)
-
-    all_best : best (routes_at_rest t (world_of t es).config edge v) address ≡ first_of (filter (is_told (world_of t es).config edge) cs)
-    all_best =
-        first-best (routes_at_rest t (world_of t es).config edge v) (filter (is_told (world_of t es).config edge) cs) address
-        (ordered-filter (is_told (world_of t es).config edge) cs are.ordered) (names false) there back
-
-    reached_best : best (filter (is_reached t (world_of t es).config edge) (routes_at_rest t (world_of t es).config edge v)) address
-        ≡ first_of (filter (is_reached t (world_of t es).config edge) (filter (is_told (world_of t es).config edge) cs))
-    reached_best =
-        first-best (filter (is_reached t (world_of t es).config edge) (routes_at_rest t (world_of t es).config edge v))
-        (filter (is_reached t (world_of t es).config edge) (filter (is_told (world_of t es).config edge) cs)) address
-        (ordered-filter (is_reached t (world_of t es).config edge) (filter (is_told (world_of t es).config edge) cs)
-        (ordered-filter (is_told (world_of t es).config edge) cs are.ordered)) (names true)
-        (λ r i m. let f = in_filter (is_reached t (world_of t es).config edge) (routes_at_rest t (world_of t es).config edge v) r i in
-        filter_in (is_reached t (world_of t es).config edge) (filter (is_told (world_of t es).config edge) cs) r (there r f.0 m) f.1)
-        (λ r i. let f = in_filter (is_reached t (world_of t es).config edge) (filter (is_told (world_of t es).config edge) cs) r i in
-        let o = back r f.0 in
-        (filter_in (is_reached t (world_of t es).config edge) (routes_at_rest t (world_of t es).config edge v) r o.0 f.1, o.1))
-
-    by_first : (us : List HeldRoute) → filter (is_reached t (world_of t es).config edge) (filter (is_told (world_of t es).config edge) cs) ≡ us
-        → best (only_if (list_any (covers address) (filter (is_reached t (world_of t es).config edge) (routes_at_rest t (world_of t es).config edge v)))
-        (is_reached t (world_of t es).config edge) (routes_at_rest t (world_of t es).config edge v)) address
-        ≡ chosen_by true (first_of us) (first_of (filter (is_told (world_of t es).config edge) cs))
-    by_first [] e =
-        ap (λ b. best (only_if b (is_reached t (world_of t es).config edge) (routes_at_rest t (world_of t es).config edge v)) address)
-        (passes_none (covers address) (filter (is_reached t (world_of t es).config edge) (routes_at_rest t (world_of t es).config edge v)) (λ r i. nothing r i (covers address r) refl))
-        ∙ all_best
-      where
-        nothing : (r : HeldRoute) → In (filter (is_reached t (world_of t es).config edge) (routes_at_rest t (world_of t es).config edge v)) r
-            → (b : Bool) → covers address r ≡ b → covers address r ≡ false
-        nothing r i false m = m
-        nothing r i true m =
-            let f = in_filter (is_reached t (world_of t es).config edge) (routes_at_rest t (world_of t es).config edge v) r i in
-            absurd (subst (λ us. In us r) e (filter_in (is_reached t (world_of t es).config edge) (filter (is_told (world_of t es).config edge) cs) r (there r f.0 m) f.1))
-    by_first (u ∷ us) e =
-        ap (λ b. best (only_if b (is_reached t (world_of t es).config edge) (routes_at_rest t (world_of t es).config edge v)) address) some
-        ∙ reached_best ∙ ap first_of e
-      where
-        some : list_any (covers address) (filter (is_reached t (world_of t es).config edge) (routes_at_rest t (world_of t es).config edge v)) ≡ true
-        some =
-            let i : In (filter (is_reached t (world_of t es).config edge) (filter (is_told (world_of t es).config edge) cs)) u = subst (λ zs. In zs u) (sym e) (inl refl) in
-            let f = in_filter (is_reached t (world_of t es).config edge) (filter (is_told (world_of t es).config edge) cs) u i in
-            let o = back u f.0 in
-            one_passes (covers address) (filter (is_reached t (world_of t es).config edge) (routes_at_rest t (world_of t es).config edge v)) u
-            (filter_in (is_reached t (world_of t es).config edge) (routes_at_rest t (world_of t es).config edge v) u o.0 f.1) o.1
-
-    by_resolve : (b : Bool) → t.resolve ≡ b
-        → best (only_if (b && list_any (covers address) (filter (is_reached t (world_of t es).config edge) (routes_at_rest t (world_of t es).config edge v)))
-        (is_reached t (world_of t es).config edge) (routes_at_rest t (world_of t es).config edge v)) address
-        ≡ chosen_by b (first_of (filter (is_reached t (world_of t es).config edge) (filter (is_told (world_of t es).config edge) cs)))
-        (first_of (filter (is_told (world_of t es).config edge) cs))
-    by_resolve false r = all_best
-    by_resolve true r = by_first (filter (is_reached t (world_of t es).config edge) (filter (is_told (world_of t es).config edge) cs)) refl
