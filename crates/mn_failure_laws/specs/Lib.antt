@@ -1,0 +1,4 @@
+pub mod Failures
+pub mod Fates
+pub mod TwoLinks
+pub mod TwoHomes
