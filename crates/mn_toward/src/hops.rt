@@ -1,0 +1,107 @@
+ghost use Rattle.std.specs.Prelude.{◌≡◌, ◌<◌, ◌==◌, ◌+◌, length, All, Some, if◌then◌else◌};
+ghost use Rattle.mn_wiring.specs.Paths.{is_on_least};
+ghost use Rattle.mn_linkdb.specs.PathTable.{dist_at};
+ghost use Rattle.mn_toward.specs.Toward.{wired, as_hop, merged, with_link, IsThere, nearest_over};
+
+use mn_base::{LinkNo, NodeNo};
+use mn_linkdb::Tree;
+use mn_wiring::LinkEnds;
+
+/// The end of a link other than this node.
+fn other_end(link: LinkEnds, node: NodeNo) -> NodeNo
+    ensures { result.0 ≡ (if link.a.0 == node.0 then link.b.0 else link.a.0) }
+{
+    if link.a.0 == node.0 { link.b } else { link.a }
+}
+
+/// Of two hops the one to the neighbour of lesser number, and of two to one neighbour the first.
+fn nearer(best: Option<(NodeNo, LinkNo)>, hop: (NodeNo, LinkNo)) -> Option<(NodeNo, LinkNo)>
+    ensures { as_hop result ≡ merged (as_hop best) (Some (hop.0.0, hop.1.0)) }
+{
+    match best {
+        Some(known) => {
+            if hop.0.0 < known.0.0 {
+                Some(hop)
+            } else {
+                Some(known)
+            }
+        }
+        None => Some(hop),
+    }
+}
+
+/// Whether the two make the whole.
+#[tactic(auto, using(crate::proofs::Nearest::sum_is))]
+fn adds_up(cost: u32, rest: u32, whole: u32) -> bool
+    ensures { result ≡ (cost + rest == whole) }
+{
+    rest <= whole && whole - rest == cost
+}
+
+/// Whether a least walk from the node, whose cost is this, goes over the link first.
+fn is_first(
+    ends: &[LinkEnds],
+    up: &[bool],
+    tree: &Tree,
+    node: NodeNo,
+    whole: u32,
+    number: LinkNo,
+) -> bool
+    requires there { IsThere ends.now (length tree.now.dists) node.0 number }
+    requires switches { length up.now ≡ length ends.now }
+    requires whole { dist_at tree.now node.0 ≡ Some whole }
+    ensures { result ≡ is_on_least (wired ends.now) up.now tree.now.dists node.0 number.0 }
+{
+    let at = usize::from(number.0);
+    if !up[at] {
+        return false;
+    }
+    let link = ends[at];
+    match tree.dist(other_end(link, node)) {
+        Some(rest) => adds_up(link.cost, rest, whole),
+        None => false,
+    }
+}
+
+/// The nearest of what was found and the neighbour over one link more.
+fn with_link(
+    ends: &[LinkEnds],
+    up: &[bool],
+    tree: &Tree,
+    node: NodeNo,
+    whole: u32,
+    best: Option<(NodeNo, LinkNo)>,
+    number: LinkNo,
+) -> Option<(NodeNo, LinkNo)>
+    requires there { IsThere ends.now (length tree.now.dists) node.0 number }
+    requires switches { length up.now ≡ length ends.now }
+    requires whole { dist_at tree.now node.0 ≡ Some whole }
+    ensures { as_hop result ≡ with_link (wired ends.now) up.now tree.now.dists node.0 (as_hop best) number }
+{
+    if is_first(ends, up, tree, node, whole, number) {
+        nearer(best, (other_end(ends[usize::from(number.0)], node), number))
+    } else {
+        best
+    }
+}
+
+/// The nearest neighbour over these links at a node, whose cost is this.
+pub(crate) fn nearest_of(
+    ends: &[LinkEnds],
+    up: &[bool],
+    tree: &Tree,
+    node: NodeNo,
+    whole: u32,
+    links: &[LinkNo],
+) -> Option<(NodeNo, LinkNo)>
+    requires there { All (λ l. IsThere ends.now (length tree.now.dists) node.0 l) links.now }
+    requires switches { length up.now ≡ length ends.now }
+    requires whole { dist_at tree.now node.0 ≡ Some whole }
+    ensures { as_hop result ≡ nearest_over (wired ends.now) up.now tree.now.dists node.0 links.now }
+{
+    let mut best = None;
+    for number in links {
+        best = with_link(ends, up, tree, node, whole, best, *number);
+    }
+    best
+}
