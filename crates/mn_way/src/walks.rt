@@ -122,7 +122,8 @@ impl Ways {
         for _passed in 0..most {
             match self.hop(at, edge) {
                 Some(hop) => {
-                    if !self.ldp[usize::from(hop.1.0)] {
+                    let labelled = self.ldp[usize::from(hop.1.0)];
+                    if !labelled {
                         return None;
                     }
                     at = hop.0;

@@ -5,8 +5,8 @@ use Rattle.mn_way.proofs.Kept.{switch-is}
 use Rattle.mn_way.proofs.Steps.{with-hop, at-end, left, counted, count-on, count-off, count-end}
 use Rattle.mn_way.proofs.ways.Ways.length_within.Goals as goal
 
-pub returns-then-not-index : goal.returns-then-not-index
-returns-then-not-index c = λ wiring over.
+pub returns-then-not-labelled : goal.returns-then-not-labelled
+returns-then-not-labelled c = λ wiring over.
     let was = c.self.inside in
     let s = c.args.self.now in
     let to = edge_at s c.args.edge in
@@ -16,8 +16,8 @@ returns-then-not-index c = λ wiring over.
     let hop : Hop = (c.in-Some.hop.0.0, c.in-Some.hop.1.0) in
     let off : has_ldp s.ldp hop
     ≡ false = switch-is was.links was.at.items was.trees.items was.up.items was.ldp.items was.failed c.self.invariant s c.self.view_is hop.0 hop.1
-    c.from.result c.index.result.now c.in-Some.ensures.there.1 c.from.ensures c.index.ensures
-    ∙ c.if-not-index.true in
+    c.from.result c.index-labelled.result.now c.in-Some.ensures.there.1 c.from.ensures c.index-labelled.ensures
+    ∙ c.if-not-labelled.true in
     sym (ap (counted s.ldp c.loop-passed.length) (with-hop wiring s.up to at more hop (c.in-Some.ensures.hop wiring over))
     ∙ count-off s.ldp c.loop-passed.length hop (hops_within wiring s.up to more hop.0) off)
     ∙ c.loop-passed.invariant.left (suc more) (left passed c.args.most c.loop-passed-test.true) wiring over
@@ -42,8 +42,8 @@ loop-passed-preserved c =
     let hop : Hop = (c.in-Some.hop.0.0, c.in-Some.hop.1.0) in
     let on : has_ldp s.ldp hop
     ≡ true = switch-is was.links was.at.items was.trees.items was.up.items was.ldp.items was.failed c.self.invariant s c.self.view_is hop.0 hop.1
-    c.from.result c.index.result.now c.in-Some.ensures.there.1 c.from.ensures c.index.ensures
-    ∙ c.if-not-index.false in
+    c.from.result c.index-labelled.result.now c.in-Some.ensures.there.1 c.from.ensures c.index-labelled.ensures
+    ∙ c.if-not-labelled.false in
     record {
       here = c.in-Some.ensures.there.0;
       count = omega arith;
