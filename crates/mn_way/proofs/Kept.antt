@@ -14,7 +14,6 @@ use Rattle.mn_linkdb.specs.Trees.{IsTree}
 use Rattle.mn_spf_inc.specs.Mended.{Mended}
 use Rattle.mn_spf_inc.specs.Mended.{IsOver as IsOverTree}
 use Rattle.mn_toward.specs.Toward.{wired, as_hop, nearest_over}
-use Rattle.mn_way.specs.Way.{has_ldp}
 use Rattle.mn_way.proofs.Least.{joins-nodes, cost-is, cost-fits, hop-is, hop-there}
 use Rattle.mn_way.specs.Switched.{Switched, AreAtNode, Follows, IsKept, IsOver, edge_at, roots_of}
 
@@ -93,9 +92,3 @@ module _ (links : Learned) (lists : List (List LinkNo)) (trees : List Mended) (u
       subst (λ k. IfSome o (λ hop. (hop.0.0 < k) × (hop.1.0 < length s.ends))) (length-replicate s.nodes 0)
       (hop-there (plain s) s.up (edge_at s e) (joins (plain s) (plain-over s)) n (subst (λ k. n < k) (sym (length-replicate s.nodes 0)) below) apart o
       (is (plain s) (plain-over s)))
-
-  -- LDP's switch of a link
-  pub switch-is : (n l at : ℕ) (on : Bool) → l < length s.ends → at ≡ l → on ≡ get_or ldp at on → has_ldp s.ldp (n, l) ≡ on
-  switch-is n l at on below same is =
-      subst (λ (x : Switched). l < length x.ends → get_or x.ldp l false ≡ on) view
-      (λ h. get_or_default ldp l false on (subst (λ k. l < k) (sym kept.switches) h) ∙ ap (λ k. get_or ldp k on) (sym same) ∙ sym is) below

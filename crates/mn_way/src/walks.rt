@@ -122,8 +122,7 @@ impl Ways {
         for _passed in 0..most {
             match self.hop(at, edge) {
                 Some(hop) => {
-                    let labelled = self.ldp[usize::from(hop.1.0)];
-                    if !labelled {
+                    if !self.has_ldp(hop.1) {
                         return None;
                     }
                     at = hop.0;

@@ -1,4 +1,4 @@
-ghost use Rattle.std.specs.Prelude.{◌≡◌, ◌<◌, All, length, map, replicate, slice_set, false, true, IfOk, OnOk, OnErr};
+ghost use Rattle.std.specs.Prelude.{◌≡◌, ◌<◌, All, length, map, replicate, slice_index_or, slice_set, false, true, IfOk, OnOk, OnErr};
 ghost use Rattle.mn_linkdb.specs.Network.{IsNetwork};
 
 use crate::links::links_by_node;
@@ -17,7 +17,7 @@ pub struct Ways {
     pub(crate) at: Vec<ListOf<LinkNo>>,
     pub(crate) trees: Vec<EdgeTree>,
     pub(crate) up: Vec<bool>,
-    pub(crate) ldp: Vec<bool>,
+    ldp: Vec<bool>,
     failed: bool,
 }
 
@@ -84,6 +84,22 @@ impl Ways {
         ensures { self.new ≡ record self.old { ldp = slice_set self.old.ldp link.0 on } }
     {
         self.ldp[usize::from(link.0)] = on;
+    }
+
+    /// Whether the link is up.
+    pub fn is_up(&self, link: LinkNo) -> bool
+        requires { link.0 < length self.now.ends }
+        ensures { result ≡ slice_index_or self.now.up link.0 false }
+    {
+        self.up[usize::from(link.0)]
+    }
+
+    /// Whether LDP is on on the link.
+    pub fn has_ldp(&self, link: LinkNo) -> bool
+        requires { link.0 < length self.now.ends }
+        ensures { result ≡ slice_index_or self.now.ldp link.0 false }
+    {
+        self.ldp[usize::from(link.0)]
     }
 
     /// Whether memory was wanting at a change: the ways are then of no use.

@@ -1,25 +1,19 @@
-use Rattle.std.proofs.Common.{ℕ, suc, ◌≡◌, ◌+◌, ◌-◌, false, true, sym, ap, ◌∙◌, arith}
+use Rattle.std.proofs.Common.{ℕ, suc, ◌+◌, ◌-◌, sym, ap, ◌∙◌, arith}
 use Rattle.mn_way.specs.Switched.{edge_at}
-use Rattle.mn_way.specs.Way.{Hop, has_ldp, hops_within}
-use Rattle.mn_way.proofs.Kept.{switch-is}
+use Rattle.mn_way.specs.Way.{Hop, hops_within}
 use Rattle.mn_way.proofs.Steps.{with-hop, at-end, left, counted, count-on, count-off, count-end}
 use Rattle.mn_way.proofs.ways.Ways.length_within.Goals as goal
 
-pub returns-then-not-labelled : goal.returns-then-not-labelled
-returns-then-not-labelled c = λ wiring over.
-    let was = c.self.inside in
+pub returns-then-not-has_ldp : goal.returns-then-not-has_ldp
+returns-then-not-has_ldp c = λ wiring over.
     let s = c.args.self.now in
     let to = edge_at s c.args.edge in
     let at = c.loop-passed.at.0 in
     let passed = c.loop-passed._passed in
     let more : ℕ = c.args.most - (passed + 1) in
     let hop : Hop = (c.in-Some.hop.0.0, c.in-Some.hop.1.0) in
-    let off : has_ldp s.ldp hop
-    ≡ false = switch-is was.links was.at.items was.trees.items was.up.items was.ldp.items was.failed c.self.invariant s c.self.view_is hop.0 hop.1
-    c.from.result c.index-labelled.result.now c.in-Some.ensures.there.1 c.from.ensures c.index-labelled.ensures
-    ∙ c.if-not-labelled.true in
     sym (ap (counted s.ldp c.loop-passed.length) (with-hop wiring s.up to at more hop (c.in-Some.ensures.hop wiring over))
-    ∙ count-off s.ldp c.loop-passed.length hop (hops_within wiring s.up to more hop.0) off)
+    ∙ count-off s.ldp c.loop-passed.length hop (hops_within wiring s.up to more hop.0) (sym c.has_ldp.ensures ∙ c.if-not-has_ldp.true))
     ∙ c.loop-passed.invariant.left (suc more) (left passed c.args.most c.loop-passed-test.true) wiring over
 
 pub returns-in-None : goal.returns-in-None
@@ -34,23 +28,18 @@ returns-in-None c = λ wiring over.
 
 pub loop-passed-preserved : goal.loop-passed-preserved
 loop-passed-preserved c =
-    let was = c.self.inside in
     let s = c.args.self.now in
     let to = edge_at s c.args.edge in
     let at = c.loop-passed.at.0 in
     let passed = c.loop-passed._passed in
     let hop : Hop = (c.in-Some.hop.0.0, c.in-Some.hop.1.0) in
-    let on : has_ldp s.ldp hop
-    ≡ true = switch-is was.links was.at.items was.trees.items was.up.items was.ldp.items was.failed c.self.invariant s c.self.view_is hop.0 hop.1
-    c.from.result c.index-labelled.result.now c.in-Some.ensures.there.1 c.from.ensures c.index-labelled.ensures
-    ∙ c.if-not-labelled.false in
     record {
       here = c.in-Some.ensures.there.0;
       count = omega arith;
       left =
           λ more whole wiring over. sym
           (ap (counted s.ldp c.loop-passed.length) (with-hop wiring s.up to at more hop (c.in-Some.ensures.hop wiring over))
-          ∙ count-on s.ldp c.loop-passed.length hop (hops_within wiring s.up to more hop.0) on)
+          ∙ count-on s.ldp c.loop-passed.length hop (hops_within wiring s.up to more hop.0) (sym c.has_ldp.ensures ∙ c.if-not-has_ldp.false))
           ∙ c.loop-passed.invariant.left (suc more) (omega (arith, whole)) wiring over;
     }
 
