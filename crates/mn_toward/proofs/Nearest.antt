@@ -1,6 +1,6 @@
 -- Link by link, from the first on, the nearest is found.
-use Rattle.std.proofs.Common.{ℕ, suc, ◌≡◌, ◌<◌, ◌≤◌, inl, inr, Bool, true, false, cond, List, [], ◌∷◌, filter, refl, arith, sym, ◌∙◌, ap, drop, get_or, length, Option, None, Some}
-use Rattle.std.specs.Prelude.{nat_lt, nat_le, ◌==◌, ◌&&◌, ◌+◌, ◌-◌}
+use Rattle.std.proofs.Common.{ℕ, suc, ◌≡◌, ◌<◌, inl, inr, Bool, true, false, cond, List, [], ◌∷◌, filter, refl, arith, sym, ◌∙◌, ap, drop, get_or, length, Option, None, Some}
+use Rattle.std.specs.Prelude.{nat_lt, ◌==◌, ◌&&◌, ◌||◌, ◌+◌}
 use Rattle.std.proofs.lemmas.Bool.Decides.{leb_tells, eqb_tells}
 use Rattle.std.proofs.lemmas.List.{at_drop_more}
 use Rattle.mn_base.specs.declared.numbers.LinkNo.{LinkNo}
@@ -8,24 +8,24 @@ use Rattle.mn_wiring.specs.Wiring.{Wiring, View, across, is_up, link}
 use Rattle.mn_wiring.specs.Paths.{nearer, nearest, is_on_least, same_cost, plus, dist_in}
 use Rattle.mn_toward.specs.Toward.{merged, numbers_of, with_link, nearest_over}
 
--- a difference that is the first part
-pub sum_is : (c r w : ℕ) → (nat_le r w && (w - r == c)) ≡ (c + r == w)
-sum_is c r w = elim (leb_tells r w) [
-  | inl p ↦ ap (λ b. b && (w - r == c)) p.0 ∙ (elim (eqb_tells (w - r) c) [
-    | inl q ↦ elim (eqb_tells (c + r) w) [ inl u ↦ q.0 ∙ sym u.0 | inr u ↦ absurd (u.1 (made p.1 q.1)) ]
-    | inr q ↦ elim (eqb_tells (c + r) w) [ inl u ↦ absurd (q.1 (left u.1)) | inr u ↦ q.0 ∙ sym u.0 ]
-  ])
-  | inr p ↦ ap (λ b. b && (w - r == c)) p.0 ∙ (elim (eqb_tells (c + r) w) [ inl u ↦ absurd (over p.1 u.1) | inr u ↦ sym u.0 ])
+-- the sum of both ends, less the one, is the other
+pub far_is : (a b n : ℕ) → (a == n || b == n) ≡ true → a + b ≡ n + cond (a == n) b a
+far_is a b n h = elim (eqb_tells a n) [
+  | inl p ↦ first p.1 ∙ sym (ap (λ k. n + cond k b a) p.0)
+  | inr p ↦ elim (eqb_tells b n) [
+    | inl q ↦ second q.1 ∙ sym (ap (λ k. n + cond k b a) p.0)
+    | inr q ↦ absurd (neither (sym h ∙ ap (λ k. k || (b == n)) p.0 ∙ q.0))
+  ]
 ]
   where
-    made : r ≤ w → w - r ≡ c → c + r ≡ w
-    made h g = omega (arith, h, g)
+    first : a ≡ n → a + b ≡ n + b
+    first e = omega (arith, e)
 
-    left : c + r ≡ w → w - r ≡ c
-    left h = omega (arith, h)
+    second : b ≡ n → a + b ≡ n + a
+    second e = omega (arith, e)
 
-    over : w < r → c + r ≡ w → ⊥
-    over h g = omega (arith, h, g)
+    neither : true ≡ false → ⊥
+    neither e = cc
 
 abbrev Hop : Type 0
 Hop = ℕ × ℕ

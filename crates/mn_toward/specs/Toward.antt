@@ -1,9 +1,9 @@
 -- The next hop towards a node by its tree: of some links at a node.
-use Rattle.std.specs.Prelude.{◌<◌, ℕ, cond, List, [], map, filter, length, Option, Some, None}
+use Rattle.std.specs.Prelude.{◌≡◌, ◌<◌, ℕ, true, cond, List, [], map, filter, length, Option, Some, None}
 use Rattle.mn_wiring.specs.declared.links.LinkEnds.{LinkEnds}
 use Rattle.mn_base.specs.declared.numbers.LinkNo.{LinkNo}
 use Rattle.mn_base.specs.declared.numbers.NodeNo.{NodeNo}
-use Rattle.mn_wiring.specs.Wiring.{Wiring, View, across}
+use Rattle.mn_wiring.specs.Wiring.{Wiring, View, across, is_end}
 use Rattle.mn_wiring.specs.Paths.{nearer, nearest, is_on_least}
 
 -- the network of these links; loopbacks are of no account to next hops
@@ -15,9 +15,9 @@ abbrev pub as_hop : Option (NodeNo × LinkNo) → Option (ℕ × ℕ)
 as_hop None = None
 as_hop (Some hop) = Some (hop.0.0, hop.1.0)
 
--- the link is there, and its far end is one of so many nodes
+-- the link is there, at the node, and its far end is one of so many nodes
 abbrev pub IsThere : List LinkEnds → ℕ → ℕ → LinkNo → Type 0
-IsThere ends nodes node l = (l.0 < length ends) × (across (wired ends) l.0 node < nodes)
+IsThere ends nodes node l = (l.0 < length ends) × (is_end (wired ends) l.0 node ≡ true) × (across (wired ends) l.0 node < nodes)
 
 abbrev pub numbers_of : List LinkNo → List ℕ
 numbers_of links = map (λ l. l.0) links

@@ -1,4 +1,4 @@
-ghost use Rattle.std.specs.Prelude.{◌≡◌, ◌<◌, ◌==◌, ◌+◌, length, All, Some, if◌then◌else◌};
+ghost use Rattle.std.specs.Prelude.{◌≡◌, ◌<◌, ◌==◌, ◌||◌, ◌+◌, true, length, All, Some, if◌then◌else◌};
 ghost use Rattle.mn_wiring.specs.Paths.{is_on_least};
 ghost use Rattle.mn_linkdb.specs.PathTable.{dist_at};
 ghost use Rattle.mn_toward.specs.Toward.{wired, as_hop, merged, with_link, IsThere, nearest_over};
@@ -7,11 +7,15 @@ use mn_base::{LinkNo, NodeNo};
 use mn_linkdb::Tree;
 use mn_wiring::LinkEnds;
 
-/// The end of a link other than this node.
+/// The end of a link other than this one, which is an end of it.
+///
+/// A sum in place of a choice: which end it is can't be foretold, and this is asked of each link that a walk comes by.
+#[tactic(auto, using(crate::proofs::Nearest::far_is))]
 fn other_end(link: LinkEnds, node: NodeNo) -> NodeNo
+    requires { (link.a.0 == node.0 || link.b.0 == node.0) ≡ true }
     ensures { result.0 ≡ (if link.a.0 == node.0 then link.b.0 else link.a.0) }
 {
-    if link.a.0 == node.0 { link.b } else { link.a }
+    NodeNo((u32::from(link.a.0) + u32::from(link.b.0) - u32::from(node.0)) as u16)
 }
 
 /// Of two hops the one to the neighbour of lesser number, and of two to one neighbour the first.
@@ -31,11 +35,10 @@ fn nearer(best: Option<(NodeNo, LinkNo)>, hop: (NodeNo, LinkNo)) -> Option<(Node
 }
 
 /// Whether the two make the whole.
-#[tactic(auto, using(crate::proofs::Nearest::sum_is))]
 fn adds_up(cost: u32, rest: u32, whole: u32) -> bool
     ensures { result ≡ (cost + rest == whole) }
 {
-    rest <= whole && whole - rest == cost
+    u64::from(cost) + u64::from(rest) == u64::from(whole)
 }
 
 /// Whether a least walk from the node, whose cost is this, goes over the link first.

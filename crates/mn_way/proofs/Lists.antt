@@ -44,10 +44,10 @@ module _ (ends : List LinkEnds) (nodes node : ℕ) where
       same : (k : ℕ) → 0 + k ≡ k
       same k = omega arith
 
-  pub there_is : (k : ℕ) → IsNetwork nodes ends → k < length ends → IsThere ends nodes node (record { 0 = k })
-  there_is k network h =
+  pub there_is : (k : ℕ) → IsNetwork nodes ends → k < length ends → test k ≡ true → IsThere ends nodes node (record { 0 = k })
+  there_is k network h on =
       let it = network.links k nothing h in
-      (h, cond_below ((link (wired ends) k).a.0 == node) (link (wired ends) k).b.0 (link (wired ends) k).a.0 nodes it.to it.from)
+      (h, on, cond_below ((link (wired ends) k).a.0 == node) (link (wired ends) k).b.0 (link (wired ends) k).a.0 nodes it.to it.from)
 
   pub none_yet : AreBelow ends nodes node 0 []
   none_yet = record { these = refl; there = All-nil (λ l. IsThere ends nodes node l) }

@@ -26,7 +26,7 @@ pub record IsOver (wiring : Wiring) (switched : Switched) : Type 0 where
 abbrev pub edge_at : Switched → ℕ → ℕ
 edge_at switched place = slice_index_or switched.edges place 0
 
--- the links at a node, in their order, each with its far end in the network
+-- the links at a node, in their order
 pub record AreAtNode (ends : List LinkEnds) (nodes node : ℕ) (links : List LinkNo) : Type 0 where
   pub these : numbers_of links ≡ links_at (wired ends) node
   pub there : All (λ l. IsThere ends nodes node l) links

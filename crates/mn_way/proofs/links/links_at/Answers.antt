@@ -14,7 +14,8 @@ loop-number-preserved c =
     elim c.if-is_end.branch [
       | then-is_end+in_ok-push w ↦
           subst (AreBelow ends nodes node (k + 1)) (sym (ap (λ (v : Vec LinkNo Global). v.items) w.links-is ∙ w.in_ok-push.ensures.items))
-          (put ends nodes node k links (sym c.is_end.ensures ∙ w.if-is_end.true) (there_is ends nodes node k c.requires c.loop-number-test.true)
+          (put ends nodes node k links (sym c.is_end.ensures ∙ w.if-is_end.true)
+          (there_is ends nodes node k c.requires c.loop-number-test.true (sym c.is_end.ensures ∙ w.if-is_end.true))
           c.loop-number.invariant)
       | else-is_end w ↦
           subst (AreBelow ends nodes node (k + 1)) (sym (ap (λ (v : Vec LinkNo Global). v.items) w.links-is))
