@@ -40,6 +40,17 @@ _mplsnet_place() {
     echo "$place"
 }
 
+# The first word that is neither an option nor the value of one of the options given.
+_mplsnet_first() {
+    local at option
+    for ((at = 1; at < COMP_CWORD; at++)); do
+        [[ ${COMP_WORDS[at]} == -* ]] && continue
+        for option in "$@"; do [[ ${COMP_WORDS[at - 1]} == "$option" ]] && continue 2; done
+        echo "${COMP_WORDS[at]}"
+        return
+    done
+}
+
 _mplsnet() {
     local word=${COMP_WORDS[COMP_CWORD]}
     COMPREPLY=()
@@ -101,10 +112,21 @@ _mplsnet_play() {
         _mplsnet_words '--help --report --capture --script --layout --from --to --packet --svg --at' "$word"
         return
     fi
-    case $(_mplsnet_place --report --capture --script --layout --from --to --packet --at) in
-        0) _mplsnet_folders "$word" ;;
-        1) _mplsnet_files "$word" .toml ;;
-        2) _mplsnet_files "$word" .html .svg ;;
+    local folders place options=(--report --capture --script --layout --from --to --packet --at)
+    place=$(_mplsnet_place "${options[@]}")
+    case $place:$(_mplsnet_first "${options[@]}") in
+        0:*)
+            _mplsnet_folders "$word"
+            folders=("${COMPREPLY[@]}")
+            _mplsnet_words 'flood reflect join' "$word"
+            COMPREPLY+=("${folders[@]}")
+            ;;
+        1:flood | 1:reflect | [12]:join) _mplsnet_files "$word" .toml ;;
+        2:flood | 2:reflect | [34]:join) _mplsnet_files "$word" ;;
+        5:join) _mplsnet_files "$word" .pcap ;;
+        3:flood | 3:reflect | 6:join) _mplsnet_files "$word" .html ;;
+        1:*) _mplsnet_files "$word" .toml ;;
+        2:*) _mplsnet_files "$word" .html .svg ;;
     esac
 }
 

@@ -117,6 +117,7 @@ def short_box(name, high):
 SCREEN = (1040, 680)  # the pixels of the drawing on a usual screen
 NAME = 10.5 / 12  # of a name alone: 10.5 pixels there
 GAP = 7  # between boxes
+RING = 200  # the way from a node to the next one of a ring
 
 
 def is_provider(count, edges, links):
@@ -126,13 +127,48 @@ def is_provider(count, edges, links):
     return count > 14 and 0 < cores < len(edges) and between * 4 <= len(links)
 
 
+def likely_edges(count, edges, links):
+    """The nodes without a VRF that stand where edges do: no link leads from them to an edge, and no way of fewest links between edges passes them."""
+    beside = [[] for _ in range(count)]
+    for a, b in links:
+        beside[a].append(b)
+        beside[b].append(a)
+    most, far = max((len(beside[edge]) for edge in edges), default=0), distances(count, links)
+    found = set()
+    for node in range(count):
+        is_apart = node not in edges and 0 < len(beside[node]) <= most and not any(near in edges for near in beside[node])
+        if is_apart and not any(far[a][node] + far[node][b] == far[a][b] for a in edges for b in edges if a < b):
+            found.add(node)
+    return found
+
+
+def cycle(count, links):
+    """The nodes in the order of a ring that takes in all of them, none where there is no such: each has two links, or is linked to the next one."""
+    beside = [set() for _ in range(count)]
+    for a, b in links:
+        beside[a].add(b)
+        beside[b].add(a)
+    if count < 4:
+        return None
+    if all((at + 1) % count in beside[at] for at in range(count)):
+        return list(range(count))
+    order = [0]
+    while all(len(near) == 2 for near in beside) and (onward := [near for near in sorted(beside[order[-1]]) if near not in order]):
+        order.append(onward[0])
+    return order if len(order) == count else None
+
+
 def drawing(kind, names, edges, links, sites, unit=300, reach=165):
     """A place for each node and each site (its name, VRF and node), none on another; edges is the set of nodes with a VRF."""
     homes = [home for *_, home in sites]
+    edges = edges | likely_edges(len(names), edges, links)
+    around = cycle(len(names), links) if kind == "auto" else None
     if kind == "rings" or kind == "auto" and is_provider(len(names), edges, links):
         nodes, outer = rings(len(names), edges, links, homes)
     else:
         nodes = circle(len(names), unit) if kind == "circle" else laid_out(len(names), links, unit)
+        if around:
+            nodes = [(1.2 * x, y) for _, (x, y) in sorted(zip(around, circle(len(names), RING)))]
         nodes = moved_apart([(x, y, wide + 40, high + 30) for (x, y), (wide, high) in zip(nodes, map(node_box, names))], 0)
         outer = sites_laid_out(nodes, links, homes, reach, 66)
     full = [node_box(name) for name in names] + [site_box(name, vrf) for name, vrf, _ in sites]
@@ -247,6 +283,44 @@ def on_ring(wide, high, share):
     at = next(at for at in range(points) if way[at + 1] >= share * way[-1])
     part = (share * way[-1] - way[at]) / (way[at + 1] - way[at])
     return tuple(one + (other - one) * part for one, other in zip(spots[at], spots[at + 1]))
+
+
+# Two networks that are joined at sites.
+
+BETWEEN = {0: 340, 1: 320}  # the way between them, by the axis along which they stand
+
+
+def joined(one, other, joints, axis):
+    """The places of two networks (nodes, sites) beside each other (axis 0) or one below the other (1), their joined sites as near as may be."""
+    across = 1 - axis
+    marks = [one[1][a] for a, _ in joints], [other[1][b] for _, b in joints]
+    one, other = turned_to(one, marks[0], axis, 1), turned_to(other, marks[1], axis, -1)
+    marks = [one[1][a] for a, _ in joints], [other[1][b] for _, b in joints]
+    if sum((a[across] - mean_of(one, across)) * (b[across] - mean_of(other, across)) for a, b in zip(*marks)) < 0:
+        other = tuple([flipped(place, across, mean_of(other, across)) for place in part] for part in other)
+        marks = marks[0], [other[1][b] for _, b in joints]
+    shift = [0, 0]
+    shift[axis] = max(place[axis] for part in one for place in part) - min(place[axis] for part in other for place in part) + BETWEEN[axis]
+    if joints:
+        shift[across] = round(sum(a[across] - b[across] for a, b in zip(*marks)) / len(joints))
+    return one, tuple([(x + shift[0], y + shift[1]) for x, y in part] for part in other)
+
+
+def mean_of(places, axis):
+    found = [place[axis] for part in places for place in part]
+    return (min(found) + max(found)) / 2
+
+
+def flipped(place, axis, about):
+    return tuple(round(2 * about - one) if at == axis else one for at, one in enumerate(place))
+
+
+def turned_to(places, marks, axis, way):
+    """The places, mirrored where these of them lie on the other side of the middle."""
+    about = mean_of(places, axis)
+    if way * sum(mark[axis] - about for mark in marks) >= 0:
+        return places
+    return tuple([flipped(place, axis, about) for place in part] for part in places)
 
 
 # Sites beside their nodes.

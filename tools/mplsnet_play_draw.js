@@ -16,7 +16,8 @@ function put(element, values) {
 }
 const COLOURS = ["#0f766e", "#b45309", "#9333ea", "#be185d", "#4d7c0f", "#0369a1", "#a16207", "#7f1d1d", "#0e7490", "#6d28d9"];
 const net = $("net");
-const layer = Object.fromEntries(["arcs", "spokes", "links", "costs", "sites", "nodes", "dots", "flying", "moving"].map(name => [name, make("g", {id: name}, net)]));
+const LAYERS = ["frames", "arcs", "joints", "spokes", "links", "costs", "sites", "nodes", "dots", "flying", "moving"];
+const layer = Object.fromEntries(LAYERS.map(name => [name, make("g", {id: name}, net)]));
 
 // Sizes: half the width and half the height, in their own units, in full or with the name alone. A name is 15 or 12 of them high.
 
@@ -71,20 +72,23 @@ function onLink(a, b, share) { return between(rim(a, b, 12), rim(b, a, 12), shar
 const linkBetween = {};
 links.forEach((link, at) => { linkBetween[`${link.a} ${link.b}`] = linkBetween[`${link.b} ${link.a}`] = at; });
 
-const linkWords = link => `cost ${link.cost} \u00b7 delay ${link.delay}${link.loss ? ` \u00b7 loses 1 in ${link.loss}` : ""}`;
+// What is written at a link; nothing where costs and delays say nothing.
+const linkWords = link => (told === "reflect" ? "" : told ? `cost ${link.cost}` : runWords(link));
+const runWords = link => `cost ${link.cost} \u00b7 delay ${link.delay}${link.loss ? ` \u00b7 loses 1 in ${link.loss}` : ""}`;
 const counted = {};
 for (const link of links) counted[linkWords(link)] = (counted[linkWords(link)] || 0) + 1;
 const common = Object.keys(counted).sort((one, other) => counted[other] - counted[one])[0];  // what most links have isn't written at each
 
+const STALE_WORDS = told ? "how many nodes' newest advert the node lacks" : "changes of links that the node hasn't learned";
 let picked = null;  // the chosen node
 const drawn = {links: [], dots: [], nodes: [], sites: [], stale: [], spokes: [], costs: []};
 links.forEach((link, at) => {
-  const a = nodes[link.a], b = nodes[link.b], told = linkWords(link);
+  const a = nodes[link.a], b = nodes[link.b], words = linkWords(link);
   const line = make("line", {x1: a.x, y1: a.y, x2: b.x, y2: b.y, class: "link"}, layer.links);
-  make("title", {}, line, `${a.name} ${b.name}: ${told}`);
+  make("title", {}, line, `${a.name} ${b.name}${words && `: ${words}`}`);
   drawn.links.push(line);
-  if (told !== common || links.length === 1) {
-    const group = make("g", {}, layer.costs), flat = Math.abs(b.y - a.y) < .5 * Math.abs(b.x - a.x), parts = flat ? [told] : told.split(" \u00b7 ");
+  if (words !== common || words && links.length === 1) {
+    const group = make("g", {}, layer.costs), flat = Math.abs(b.y - a.y) < .5 * Math.abs(b.x - a.x), parts = flat ? [words] : words.split(" \u00b7 ");
     const drop = flat ? 18 + Math.abs((b.y - a.y) / (b.x - a.x)) * 18 : 4;
     parts.forEach((part, row) => make("text", {y: drop + (row - (parts.length - 1) / 2) * 15, class: "cost"}, group, part));
     drawn.costs.push({group, place: between(a, b, Math.hypot(b.x - a.x, b.y - a.y) > 520 ? .25 : .5)});
@@ -117,7 +121,7 @@ nodes.forEach((one, at) => {
   const stale = make("g", {class: "stale"}, layer.dots);
   make("circle", {r: 9}, stale);
   make("text", {y: 4}, stale);
-  make("title", {}, stale, "changes of links that this node hasn't learned");
+  make("title", {}, stale, STALE_WORDS);
   drawn.stale.push(stale);
 });
 
@@ -140,9 +144,34 @@ function shape() {
     const place = rim(nodes[one], nodes[other], form.full ? 10 : 5);
     for (const [key, value] of Object.entries({cx: place.x, cy: place.y, r: (form.full ? 6.5 : 4) * form.size})) drawn.dots[at][which].setAttribute(key, value);
   }));
-  nodes.forEach((one, at) => drawn.stale[at].setAttribute("transform", `translate(${one.x + one.wide - 4 * form.size} ${one.y - one.high + 2 * form.size}) scale(${form.size})`));
+  nodes.forEach((one, at) => {
+    // Above the name, never on it; where there is no room for all names a mark without its number.
+    const [x, y, r] = form.full ? [-4, 2, 9] : form.crowded ? [0, 0, 3.5] : [-2, -7, 8];
+    drawn.stale[at].setAttribute("transform", `translate(${one.x + one.wide + x * form.size} ${one.y - one.high + y * form.size}) scale(${form.size})`);
+    put(drawn.stale[at].firstChild, {r});
+  });
+  frameNets();
   layer.costs.style.display = form.full ? "" : "none";
   for (const {group, place} of drawn.costs) group.setAttribute("transform", `translate(${place.x} ${place.y}) scale(${form.size})`);
+}
+
+// Two networks: a frame round each with its name, and a line from each joined site to the other.
+function frameNets() {
+  layer.frames.replaceChildren();
+  layer.joints.replaceChildren();
+  for (const [a, b] of run.joints || []) {
+    const line = make("line", {x1: sites[a].x, y1: sites[a].y, x2: sites[b].x, y2: sites[b].y, class: "joint"}, layer.joints);
+    make("title", {}, line, `site ${sites[a].name} of network 1 is joined to site ${sites[b].name} of network 2`);
+  }
+  (run.nets || []).forEach((name, net) => {
+    const some = all.filter(one => one.net === net), gap = 18 * form.size;
+    const edge = (axis, half, way) => (Math.max(...some.map(one => way * one[axis] + one[half])) + gap) * way;
+    if (!some.length) return;
+    const [left, right, top, below] = [edge("x", "wide", -1), edge("x", "wide", 1), edge("y", "high", -1), edge("y", "high", 1)];
+    make("rect", {x: left, y: top, width: right - left, height: below - top, rx: 14 * form.size, class: "net"}, layer.frames);
+    const place = {x: left + 12 * form.size, y: top - 7 * form.size, class: "net-name", style: `font-size:${12.5 * form.size}px`};
+    make("text", place, layer.frames, `network ${net + 1}: ${name}`);
+  });
 }
 
 // Sessions of BGP, as arcs that keep away from the middle: all of a small network, and else the chosen node's.
@@ -199,7 +228,7 @@ function spots(state, key) {
   const room = Math.min(queue.length - 1, Math.floor(.66 / gap));
   let place = null;
   return queue.map(flight => {
-    const wanted = .3 + .48 * Math.min(1, (state.tick - flights[flight].t) / link.delay);
+    const wanted = .3 + .48 * Math.min(1, told ? 0 : (tickAt(state, a) - flights[flight].t) / link.delay);
     if (place === null) place = Math.min(.83, Math.max(wanted, .17 + room * gap));
     else if (place - gap >= .165) place = Math.max(.17, Math.min(wanted, place - gap));
     return {flight, share: place, a: nodes[a], b: nodes[b]};
@@ -219,6 +248,7 @@ function drawFlying(state, without) {
       held[stands] = (held[stands] || 0) + 1;
       if (held[stands] > 1) continue;
       const frame = flights[flight];
+      if (told) { wordChip(layer.flying, onLink(a, b, share), side(a, b), frame); continue; }
       chip(layer.flying, onLink(a, b, share), side(a, b), frame.st, frame.p, frame.ttl);
     }
     for (const [share, count] of Object.entries(held)) {
@@ -229,42 +259,55 @@ function drawFlying(state, without) {
   }
 }
 function dot(place, frame) {
-  const circle = make("circle", {cx: place.x, cy: place.y, r: 4 * form.size, class: "frame"}, layer.flying);
-  make("title", {}, circle, `packet ${packets[frame.p].n}: labels ${frame.st.map(entry => entry[0]).join(" ")}`);
+  const circle = make("circle", {cx: place.x, cy: place.y, r: 4 * form.size, class: `frame ${told ? CHIP_KINDS[frame.kind] : ""}`}, layer.flying);
+  make("title", {}, circle, told ? frame.rows.join(" ") : `packet ${packets[frame.p].n}: labels ${frame.st.map(entry => entry[0]).join(" ")}`);
 }
 function spotOf(state, flight) {
   const key = `${flights[flight].a} ${flights[flight].b}`;
   return spots(state, key).find(one => one.flight === flight);
 }
 
+// How far what reaches half so wide from a place has to move so that all of it is seen.
+function inSight(x, half) {
+  return Math.max(view.x + half - x, Math.min(view.x + view.w - half - x, 0));
+}
+
 // What moves in a step, a share of the way through it.
 
 function mark(place, words, kind, parent = layer.moving) {
-  make("text", {class: `mark ${kind}`, y: 5}, make("g", {transform: `translate(${place.x} ${place.y}) scale(${form.size})`}, parent), words);
+  const x = inSight(place.x, words.length * 4.4 * form.size) / form.size;
+  make("text", {class: `mark ${kind}`, x, y: 5}, make("g", {transform: `translate(${place.x} ${place.y}) scale(${form.size})`}, parent), words);
 }
 function below(one) { return {x: one.x, y: one.y + one.high + 16 * form.size}; }
 
 function drawMove(before, after, step, share) {
   layer.moving.replaceChildren();
   if (!step) return;
+  if (told) { toldMove(before, step, share); return; }
   if (step.k === "link") {
     const {a, b} = links[step.l], place = between(nodes[a], nodes[b], .5), cut = (step.cut || []).map(flight => `#${packets[flights[flight].p].n}`);
     if (cut.length) mark({x: place.x, y: place.y - 14 * form.size}, `\u2715 LinkCut: ${cut.slice(0, 6).join(" ")}${cut.length > 6 ? " \u2026" : ""}`, "poor");
   } else if (step.k === "tick") {
     drawOverdue(step.cut || []);
   } else if (step.k === "learn") {
-    const one = nodes[step.n], more = (4 + 14 * share) * form.size, [wide, high] = [one.wide + more, one.high + more];
-    make("rect", {x: one.x - wide, y: one.y - high, width: 2 * wide, height: 2 * high, rx: 14 * form.size + more, class: "ring", opacity: 1 - share * .55}, layer.moving);
+    ring(nodes[step.n], share);
   } else if (step.k === "hear") {
     const kind = sessions[step.s][0], place = along(kind, nodes[step.f], nodes[step.o], .12 + .66 * share);
     const group = make("g", {class: `pill ${kind}`, transform: `translate(${place.x} ${place.y - 40 * form.size}) scale(${form.size})`}, layer.moving);
-    const words = step.m.split(" next hop ")[0], half = words.length * 3.3 + 12;
+    const words = step.m.split(" next hop ")[0], half = words.length * 3.3 + 12, x = inSight(place.x, half * form.size) / form.size;
     make("path", {d: "M-5 11 L0 35 L5 11 Z", fill: `var(--${kind === "ldp" ? "ok" : "bgp"})`}, group);
-    make("rect", {x: -half, y: -13, width: 2 * half, height: 25, rx: 12}, group);
-    make("text", {y: 4}, group, words);
+    make("rect", {x: x - half, y: -13, width: 2 * half, height: 25, rx: 12}, group);
+    make("text", {x, y: 4}, group, words);
   } else if (step.p !== undefined) {
     drawPacket(before, after, step, share);
   }
+}
+
+// A ring round a node that learns something.
+function ring(one, share) {
+  const more = (4 + 14 * share) * form.size, [wide, high] = [one.wide + more, one.high + more];
+  const place = {x: one.x - wide, y: one.y - high, width: 2 * wide, height: 2 * high, rx: 14 * form.size + more};
+  make("rect", {...place, class: "ring", opacity: 1 - share * .55}, layer.moving);
 }
 
 function drawOverdue(late) {
@@ -302,6 +345,8 @@ function drawPacket(before, after, step, share) {
   } else if (step.ttl !== undefined && step.to != null) {
     const site = sites[step.to];
     if (share < 1) chip(layer.moving, between(one, site, second * .8), up, [], step.p, step.ttl);
+    else if (step.refused) mark(below(site), `\u2715 ${name} refused: ${step.refused}`, "poor");
+    else if (step.over) mark(below(site), `\u2192 ${name} over the joint, TTL ${step.ttl}`, "good");
     else mark(below(site), `\u2713 ${name} delivered, TTL ${step.ttl}`, "good");
   } else if (step.ttl !== undefined) {
     mark(below(one), `\u2713 ${name} delivered, TTL ${step.ttl}`, "good");
@@ -316,16 +361,19 @@ function drawState(state, step) {
   const way = followed === null ? null : state.ways[followed], used = new Set();
   if (way) way.path.slice(1).forEach((to, hop) => used.add(linkBetween[`${way.path[hop]} ${to}`]));
   links.forEach((link, at) => {
-    const hot = step && (step.k === "link" || step.k === "ldp" || step.k === "learn") && step.l === at;
-    put(drawn.links[at], {class: `link${state.up[at] ? "" : " down"}${hot ? " hot" : ""}${used.has(at) ? " way" : ""}`});
-    ends(state, "ldp", link.a, link.b).forEach((name, end) => put(drawn.dots[at][end], {class: `dot ${grade(name)}`}));
+    const hot = step && (told || ["link", "ldp", "learn"].includes(step.k)) && step.l === at;
+    const seen = told === "flood" && picked !== null && state.rows[picked][`view ${at}`];
+    put(drawn.links[at], {class: `link${state.up[at] ? "" : " down"}${hot ? " hot" : ""}${used.has(at) ? " way" : ""}${seen ? " seen" : ""}`});
+    lineEnds(state, link).forEach((name, end) => put(drawn.dots[at][end], {class: `dot ${told === "flood" ? "none" : grade(name)}`}));
   });
   nodes.forEach((one, at) => {
-    put(drawn.stale[at], {visibility: state.behind[at] ? "visible" : "hidden"});
-    const told = drawn.stale[at].children[1];
-    if (told.textContent !== `${state.behind[at]}`) told.textContent = state.behind[at];
-    put(drawn.nodes[at], {class: `node${one.edge ? " edge" : ""}${at === picked ? " picked" : ""}${one.bare ? " bare" : ""}`});
+    const behind = told === "flood" ? toldBehind(state, at) : told ? 0 : state.behind[at];
+    const number = drawn.stale[at].children[1], words = form.crowded || !behind ? "" : `${behind}`;
+    put(drawn.stale[at], {visibility: behind ? "visible" : "hidden"});
+    if (number.textContent !== words) number.textContent = words;
+    const kind = run.reflectors?.includes(at) ? " reflector" : one.edge ? " edge" : "";
+    put(drawn.nodes[at], {class: `node${kind}${at === picked ? " picked" : ""}${one.bare ? " bare" : ""}`});
   });
-  sites.forEach((one, at) => put(drawn.sites[at], {class: `site${state.attached[at] ? "" : " off"}${one.bare ? " bare" : ""}`}));
-  drawArcs(state, step);
+  sites.forEach((one, at) => put(drawn.sites[at], {class: `site${told || state.attached[at] ? "" : " off"}${one.bare ? " bare" : ""}`}));
+  if (!told) drawArcs(state, step);
 }

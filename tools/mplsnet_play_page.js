@@ -16,7 +16,7 @@ const MOST = 200;  // rows of a table
 const FEW = 60;  // sessions that are all told
 let followed = null;  // the packet whose steps are gone through
 
-const panels = {
+const runPanels = {
   Packets(state, step) {
     if (!packets.length) return [muted("No packet is sent in these steps.")];
     const isSought = Object.values(sought).some(Boolean);
@@ -38,28 +38,37 @@ const panels = {
     const touched = step ? [step.k === "hear" ? step.s : undefined, step.begins, step.ends].filter(s => s !== undefined).map(s => pair(...sessions[s])) : [];
     const hot = (kind, a, b) => touched.includes(pair(kind, a, b));
     const row = (kind, a, b) => { const [x, y] = ends(state, kind, a, b); return [hot(kind, a, b), nodes[a].name, pill(x), nodes[b].name, pill(y)]; };
-    const told = [...bgpPairs].map(one => one.split(" ").slice(1).map(Number)).sort((x, y) => x[0] - y[0] || x[1] - y[1]);
-    const isLong = links.length + told.length > FEW, of = isLong ? picked ?? 0 : null;
+    const pairs = [...bgpPairs].map(one => one.split(" ").slice(1).map(Number)).sort((x, y) => x[0] - y[0] || x[1] - y[1]);
+    const isLong = links.length + pairs.length > FEW, of = isLong ? picked ?? 0 : null;
     const shown = (a, b, kind) => of === null || a === of || b === of || hot(kind, a, b);
     const off = (a, b) => [hot("ldp", a, b), nodes[a].name, "switched off", nodes[b].name, ""];
-    const ldp = links.filter(({a, b}) => shown(a, b, "ldp")).map(link => state.switched[links.indexOf(link)] ? row("ldp", link.a, link.b) : off(link.a, link.b));
-    const bgp = told.filter(([a, b]) => shown(a, b, "bgp")).map(([a, b]) => row("bgp", a, b));
-    return [
-      ...(isLong ? [muted(`${links.length} sessions of LDP and ${told.length} of BGP: those of `, node("b", {}, nodes[of].name), ". Choose another node in the drawing, or by Tab.")] : []),
-      node("h2", {}, "LDP, by link"), ldp.length ? table(["", "", "", ""], ldp) : muted("There is no link."),
-      node("h2", {}, "BGP, by pair of edges"), bgp.length ? table(["", "", "", ""], bgp) : muted("No session begins in this run."),
-    ];
+    const none = of => muted(bgpPairs.size ? `${nodes[of].name} has no session of BGP in this run.` : "No session begins in this run.");
+    const some = (heads, rows, otherwise) => (rows.length ? table(heads, rows) : otherwise);
+    const parts = (run.nets || [null]).flatMap((name, net) => {
+      const isHere = n => !run.nets || nodes[n].net === net, where = name === null ? "" : `Network ${net + 1}: `;
+      const near = links.map((link, l) => [link, l]).filter(([{a, b}]) => isHere(a) && shown(a, b, "ldp"));
+      const ldp = near.map(([{a, b}, l]) => (state.switched[l] ? row("ldp", a, b) : off(a, b)));
+      const bgp = pairs.filter(([a, b]) => isHere(a) && shown(a, b, "bgp")).map(([a, b]) => row("bgp", a, b));
+      return [
+        node("h2", {}, `${where}LDP, by link`),
+        some(["", "", "", ""], ldp, muted(links.length ? `${nodes[of ?? 0].name} has no link here.` : "There is no link.")),
+        node("h2", {}, `${where}BGP, by pair of edges`), some(["", "", "", ""], bgp, none(of ?? 0)),
+      ];
+    });
+    const counts = `${links.length} sessions of LDP and ${pairs.length} of BGP: those of `;
+    return [...(isLong ? [muted(counts, node("b", {}, nodes[of].name), ". Choose another node in the drawing, or by Tab.")] : []), ...parts];
   },
   Node(state) {
     if (!nodes.length) return [muted("There is no node.")];
-    const at = picked ?? 0, one = nodes[at], here = sites.filter(site => site.node === at);
-    const isTold = (link, learned, l) => links.length <= FEW || link.a === at || link.b === at || learned !== state.changes[l] || learned % 2 === 0;
+    const at = picked ?? 0, one = nodes[at], here = sites.filter(site => site.node === at), own = links.filter((_, l) => nodes[links[l].a].net === one.net);
+    const isFew = own.length <= FEW, isNear = link => link.a === at || link.b === at;
+    const isTold = (link, learned, l) => nodes[link.a].net === one.net && (isFew || isNear(link) || learned !== state.changes[l] || learned % 2 === 0);
     const views = links.map((link, l) => [link, state.learned[at * links.length + l], l]).filter(view => isTold(...view)).map(([link, learned, l]) => {
       const left = state.changes[l] - learned, up = is => (is ? "up" : "down");
       return [left > 0, `${nodes[link.a].name} ${nodes[link.b].name}`, up(learned % 2), up(state.up[l]), left > 0 ? `${left} to learn` : ""];
     });
     return [
-      node("h2", {}, `${one.name} ${one.loopback}`), ...one.vrfs.map(vrf => node("div", {class: "line"}, vrf)),
+      node("h2", {}, `${run.nets ? `Network ${one.net + 1}: ` : ""}${one.name} ${one.loopback}`), ...one.vrfs.map(vrf => node("div", {class: "line"}, vrf)),
       ...here.map(site => node("div", {class: "line"}, `site ${site.name}, VRF ${site.vrf}: ${site.prefixes.join(" ")}`)),
       node("h2", {}, links.length > FEW ? "Links by its view: its own, and those that aren't up or have changed" : "Links by its view"), table(["link", "its view", "is", ""], views),
       node("h2", {}, "Labels that it gives in this run"), table(["label", "for"], one.labels.map(([label, what]) => [false, `${label}`, what])),
@@ -68,7 +77,8 @@ const panels = {
   Journal(state, step, at) {
     const from = Math.max(0, at - 60), lines = [];
     for (let s = from; s < Math.min(steps.length, at + 140); s++) {
-      lines.push(node("div", {class: `line step ${s === at - 1 ? "hot" : s < at ? "done" : "later"}`, click: () => go(s + 1)}, `${steps[s].t} ${steps[s].w}`));
+      const words = told ? `line ${steps[s].t}: ${steps[s].w}` : `${steps[s].t} ${steps[s].w}`;
+      lines.push(node("div", {class: `line step ${s === at - 1 ? "hot" : s < at ? "done" : "later"}`, click: () => go(s + 1)}, words));
     }
     return lines.length ? lines : [muted("The journal is empty.")];
   },
@@ -84,6 +94,7 @@ const panels = {
     return some.length < run.report.length ? [muted(`lines ${place + 1} to ${place + some.length} of ${run.report.length}`), ...lines] : lines;
   },
 };
+const panels = told ? toldPanels(runPanels) : runPanels;
 const placeOf = Object.fromEntries(packets.map((packet, p) => [packet.n, p]));
 
 function packetWords(p) {
@@ -110,7 +121,7 @@ const boxOf = {site: $("by-site"), vpn: $("by-vpn"), verdict: $("by-verdict"), w
 const kinds = ["delivered", "dropped", "flying"];
 const byName = (one, other) => one.localeCompare(other, "en", {numeric: true});
 const offered = {
-  site: [...new Set(packets.map(packet => packet.site))].sort(byName), vpn: [...new Set(packets.map(packet => vpns[sites[siteAt[packet.site]].vpn]))].sort(byName),
+  site: [...new Set(packets.map(packet => packet.site))].sort(byName), vpn: [...new Set(packets.map(packet => vpns[sites[packet.s].vpn]))].sort(byName),
   verdict: [...kinds.filter(kind => finals.some(way => (way?.end || "flying") === kind)), ...verdicts.filter(name => !kinds.includes(name))],
 };
 for (const [key, values] of Object.entries(offered)) boxOf[key].append(...values.map(value => node("option", {}, value)));
@@ -134,11 +145,11 @@ function follow(p) {
   $("panel").dataset.tab = "";
   show();
 }
-function ask(key) { choose("Packets"); boxOf[key].focus(); }
+function ask(key) { if (told) return; choose("Packets"); boxOf[key].focus(); }
 
 // Sessions until a packet is sent, unless the reader has chosen.
-let tab = "Sessions", chosen = false;
 const NAMES = Object.keys(panels);
+let tab = told ? NAMES[0] : "Sessions", chosen = false;
 for (const name of NAMES) {
   const button = node("button", {role: "tab", title: `${NAMES.indexOf(name) + 1}`}, name);
   button.addEventListener("click", event => { if (event.detail) button.blur(); choose(name); });
@@ -163,10 +174,18 @@ function drawPanels(state, step, at) {
   $("panel").scrollTop = kind === tab ? scrolled : 0;
   if (hot) hot.scrollIntoView({block: "nearest"});
   $("words").textContent = step ? step.w : FIRST ? `after step ${FIRST} of the run` : "before the first step";
-  const begun = FIRST ? "The page begins here: what came before has left the network as it is drawn." : "All links are down, LDP is switched on for each, and every site is attached. Press Play, or the key to the right.";
+  const atStart = `${told ? run.begun : "All links are down, LDP is switched on for each, and every site is attached."} Press Play, or the key to the right.`;
+  const begun = FIRST ? "The page begins here: what came before has left the network as it is drawn." : atStart;
   $("said").textContent = step ? saidOf(step) : begun;
-  $("where").replaceChildren("step ", node("b", {}, `${FIRST + at}`), ` of ${run.total} \u00b7 tick `, node("b", {}, `${state.tick}`));
-  $("counts").textContent = `packets ${state.sent} \u00b7 delivered ${state.delivered} \u00b7 dropped ${state.dropped} \u00b7 flying ${state.sent - state.delivered - state.dropped}`;
+  const [clock, time] = told ? ["line", state.line] : run.nets ? ["ticks", state.ticks.join(" and ")] : ["tick", state.tick];
+  $("where").replaceChildren("step ", node("b", {}, `${FIRST + at}`), ` of ${run.total} \u00b7 ${clock} `, node("b", {}, `${time}`));
+  $("counts").textContent = told ? toldCounts(state) : runCounts(state);
+}
+// What became of the packets so far, for the page's head.
+function runCounts(state) {
+  const {sent, delivered, dropped, refused} = state;
+  const flying = sent - delivered - dropped - refused;
+  return `packets ${sent} \u00b7 delivered ${delivered} \u00b7 dropped ${dropped} \u00b7 flying ${flying}${refused ? ` \u00b7 refused ${refused}` : ""}`;
 }
 function saidOf(step) { return step.drop !== undefined && packets[step.p].why ? `${step.x} ${packets[step.p].why}` : step.x; }
 
@@ -175,8 +194,8 @@ function saidOf(step) { return step.drop !== undefined && packets[step.p].why ? 
 let at = 0, moving = null, playing = false;
 const pace = () => +$("pace").value;
 const still = matchMedia("(prefers-reduced-motion: reduce)").matches;
-const isPacket = step => step.p !== undefined || (step.cut || []).length > 0;
-const length = step => (step.p !== undefined ? 1500 : step.k === "hear" ? 650 : 450) / pace();
+const isPacket = step => (told ? step.k !== "hear" : step.p !== undefined || (step.cut || []).length > 0);
+const length = step => (step.p !== undefined || told && step.k === "hear" ? (told ? 1000 : 1500) : step.k === "hear" ? 650 : 450) / pace();
 
 function show() {
   const step = steps[at - 1], before = at ? stateAfter(at - 1) : null, state = stateAfter(at);
@@ -198,7 +217,7 @@ function stepOn(then) {
   if (still || time < 30) { go(at + 1); if (then) moving = requestAnimationFrame(then); return; }
   const before = stateAfter(at), after = stateAfter(at + 1);
   at += 1;
-  const gone = new Set([step.f, step.send].filter(one => one !== undefined && typeof step.p === "number"));
+  const gone = new Set(told ? step.send : [step.f, step.send].filter(one => one !== undefined && typeof step.p === "number"));
   drawState(after, step);
   drawFlying(after, gone);
   drawPanels(after, step, at);
@@ -273,26 +292,33 @@ const marked = Array(PARTS).fill(null);
 steps.forEach((step, number) => {
   const part = Math.floor(number * PARTS / steps.length);
   if (step.k === "link") marked[part] = "link";
-  else if (isPacket(step)) marked[part] ||= "inner";
+  else if (!told && isPacket(step)) marked[part] ||= "inner";
 });
 marked.forEach((kind, part) => { if (kind) make("rect", {x: part + .1, y: 0, width: .8, height: 6, fill: `var(--${kind})`}, $("marks")); });
 
 // What of the drawing is in view: all of it, or what keys, wheel, mouse and fingers choose.
 let view, dragged = false, isWhole = true;
 function whole() {
-  const {width, height} = net.getBoundingClientRect(), bottom = $("legend").open ? 46 : 26;
-  let pixels = 1;
-  // How far boxes reach goes by the scale, which goes by how far they reach.
-  for (let turn = 0; turn < 4; turn++) {
-    const reach = (one, which) => Math.max(pixels < .8 ? 0 : one.full[which], one.short[which] * .85 / pixels);
+  const bottom = $("legend").open ? 46 : 26, frame = run.nets ? 56 : 0, whole = fit(true, bottom, frame);
+  // Names alone where whole boxes have no room; not so large that boxes would be whole again, and out of view.
+  const short = whole.isFull ? whole : fit(false, bottom, frame);
+  view = (short.isFull && !whole.isFull ? whole : short).view;
+  look();
+  isWhole = true;
+}
+// The view that takes in all boxes, whole or with their names alone. How far these reach goes by the scale, which goes by how far they reach.
+function fit(isFull, bottom, frame) {
+  const {width, height} = net.getBoundingClientRect();
+  let pixels = 1, view;
+  for (let turn = 0; turn < 5; turn++) {
+    const reach = (one, which) => (isFull ? one.full[which] * Math.max(1, .82 / pixels) : one.short[which] * .85 / pixels);
     const span = (axis, which) => [Math.min(0, ...all.map(one => one[axis] - reach(one, which))), Math.max(0, ...all.map(one => one[axis] + reach(one, which)))];
     const [left, right] = span("x", 0), [top, below] = span("y", 1), most = all.length > 30 ? 2 : 1.1;
-    pixels = Math.max(.01, Math.min((width - 20) / (right - left || 1), (height - 24 - bottom) / (below - top || 1), most));
+    pixels = Math.max(.01, Math.min((width - 20 - frame) / (right - left || 1), (height - 24 - bottom - frame) / (below - top || 1), most));
     const wide = width / pixels, high = (height - bottom) / pixels;
     view = {x: (left + right - wide) / 2, y: (top + below - high) / 2, w: wide, h: height / pixels};
   }
-  look();
-  isWhole = true;
+  return {view, isFull: formAt(pixels).full};
 }
 function look() {
   net.setAttribute("viewBox", `${view.x} ${view.y} ${view.w} ${view.h}`);
@@ -338,12 +364,23 @@ net.addEventListener("dblclick", () => whole());
 net.addEventListener("click", () => { if (!dragged && picked !== null) { picked = null; shape(); show(); } });
 new ResizeObserver(() => { if (started) isWhole ? whole() : look(); }).observe($("stage"));
 
-const legend = [
+const runLegend = [
   ["var(--outer)", "LDP label, TTL"], ["var(--inner)", "VPN label, TTL"], ["var(--ip)", "IPv4 packet, TTL"], ["var(--ok)", "LDP operational", "round"],
-  ["var(--wait)", "LDP opening", "round"], ["var(--bgp)", bgpPairs.size > FEW_SESSIONS ? "BGP session of the chosen node" : "BGP session"],
+  ["var(--wait)", "LDP opening", "round"], ["var(--stale)", STALE_WORDS, "round"],
+  ["var(--bgp)", bgpPairs.size > FEW_SESSIONS ? "BGP session of the chosen node" : "BGP session", "flat"],
+  ...(run.nets ? [["var(--joint)", "joint of two sites", "flat"]] : []),
 ];
-for (const [colour, words, shape] of legend) $("legend").append(node("span", {}, node("i", {class: shape || "", style: `background:${colour}`}), words));
-if (links.length > 1) $("legend").append(node("span", {}, `links without words: ${common}`));
+for (const [colour, words, shape] of told ? toldLegend() : runLegend) {
+  $("legend").append(node("span", {}, node("i", {class: shape || "", style: `background:${colour}`}), words));
+}
+if (links.length > 1 && common) $("legend").append(node("span", {}, `links without words: ${common}`));
+if (told) {
+  $("keys").querySelectorAll("[data-run]").forEach(row => row.remove());
+  $("hop-back").title = "back to a step that isn't a reception (Shift and left)";
+  $("hop-on").title = "on to a step that isn't a reception (Shift and right)";
+}
+$("tab-keys").lastChild.textContent = NAMES.length;
+$("tab-names").textContent = NAMES.join(", ").toLowerCase();
 $("legend").open = matchMedia("(min-width: 901px)").matches;
 $("title").textContent = run.title;
 document.title = `mplsnet: ${run.title}`;

@@ -90,8 +90,9 @@ class State:
 class Steps:
     """What the page needs of each step: what changes, and a sentence."""
 
-    def __init__(self, run, net, ways):
+    def __init__(self, run, net, ways, number=lambda packet: packet):
         self.run, self.ways = run, ways
+        self.number = number  # what a packet is called, by its number in the run
         self.nodes = {node["name"]: at for at, node in enumerate(net["node"])}
         self.sites = {site["name"]: at for at, site in enumerate(net["site"])}
         self.links = {}
@@ -134,7 +135,7 @@ class Steps:
             step["cut"] = [flight for flight, _ in step["gone"]]
             if step["cut"]:
                 said = "What flies on it is cut" if kind == "link" else "Overdue, each sent on its link longer ago than the link's life"
-                told["x"] += f" {said}: {', '.join(f'packet {packet + 1}' for _, packet in step['gone'])}."
+                told["x"] += f" {said}: {', '.join(f'packet {self.number(packet + 1)}' for _, packet in step['gone'])}."
         if "ends" in step:
             told["x"] += self.unheard(self.lives[step["ends"]])
         return step | told
@@ -212,13 +213,13 @@ class Steps:
             step["f"] = self.flight_at.pop(before)
         if kind == "inject":
             step |= {"i": self.sites[rest[0]], "n": self.nodes[self.run.node_of[rest[0]]]}
-            self.packets[step["p"]] = {"n": move.packet, "site": rest[0], "record": int(rest[1]), "ip": None}
-            here, said = self.run.node_of[rest[0]], f"Packet {move.packet} enters at site {rest[0]}"
+            self.packets[step["p"]] = {"n": move.packet, "site": rest[0], "s": step["i"], "record": int(rest[1]), "ip": None}
+            here, said = self.run.node_of[rest[0]], f"Packet {self.number(move.packet)} enters at site {rest[0]}"
         elif kind == "lose":
-            return step | {"x": f"Packet {before.packet} is lost on its way from {before.sender} to {before.receiver}."}
+            return step | {"x": f"Packet {self.number(before.packet)} is lost on its way from {before.sender} to {before.receiver}."}
         else:
             step["n"] = self.nodes[rest[1]]
-            here, said = rest[1], f"{rest[1]} gets packet {before.packet} from {rest[0]}"
+            here, said = rest[1], f"{rest[1]} gets packet {self.number(before.packet)} from {rest[0]}"
         if move.sent:
             step |= {"send": self.flight(move.sent), "way": f"{self.nodes[move.sent.sender]} {self.nodes[move.sent.receiver]}"}
             return step | {"x": f"{said}{self.relabelled(before, move.sent, here)}, and sends it to {move.sent.receiver}."}
