@@ -75,6 +75,15 @@ class Index(unittest.TestCase):
                 self.assertEqual(0, ran.returncode)
                 self.assertIn(said, ran.stdout)
 
+    def test_what_is_looked_up_comes_first(self):
+        for words, said in [
+            ("split horizon", "it offers an edge others' routes"), ("duplicate site", "T6 TwiceNamed"), ("duplicate prefix", "PrefixTaken"),
+            ("tie", "the longest prefix, and of these own"), ("keepalive", "KeepAlive"), ("keepalive 0", "hold time 0"), ("import", "an import set"),
+            ("NoLsp", "NoLsp: "), ("labels_of", "an edge's label for an attachment"), ("RFC 3031, section 3.16", "penultimate hop popping"),
+        ]:
+            with self.subTest(words):
+                self.assertIn(said, self.run_index(*words.split()).stdout.splitlines()[0])
+
     def test_a_synonym_stands_in_the_documents(self):
         documents = "\n".join(path.read_text() for path in [ROOT / "docs/index.txt", *sorted((ROOT / "docs").glob("*.md"))]).lower()
         for line in (ROOT / "docs/synonyms.txt").read_text().splitlines():
