@@ -1,0 +1,9 @@
+pub mod Names
+pub mod Said
+pub mod Known
+pub mod Homes
+pub mod Hearing
+pub mod Passing
+pub mod Falling
+pub mod Bound
+pub mod Witness
