@@ -1,0 +1,4 @@
+pub mod Cutting
+pub mod Language
+pub mod Meaning
+pub mod Failures
