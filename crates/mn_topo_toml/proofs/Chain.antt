@@ -38,23 +38,23 @@ after_nodes top nodes = links_from nodes.names (tables_at (codes "link") top) []
 -- the tables that were read, and what they gave
 pub record TablesRead (top : Members) (head : Head) (nodes : NodeTable) (links : List LinkEnds) (vrfs : VrfTable) : Type 0 where
   pub head_is : IsHead top head
-  pub nodes_are : nodes_from (tables_of (items_view head.nodes.now)) no_nodes ≡ Ok nodes
-  pub links_are : links_from nodes.names (tables_of (items_view head.links.now)) [] ≡ Ok links
-  pub vrfs_are : vrfs_from nodes.names (tables_of (items_view head.vrfs.now)) no_vrfs ≡ Ok vrfs
+  pub nodes_are : nodes_from (tables_of (items_view head.arrays.nodes.now)) no_nodes ≡ Ok nodes
+  pub links_are : links_from nodes.names (tables_of (items_view head.arrays.links.now)) [] ≡ Ok links
+  pub vrfs_are : vrfs_from nodes.names (tables_of (items_view head.arrays.vrfs.now)) no_vrfs ≡ Ok vrfs
 
 -- what is left once the VRFs are read
 up_to_sites : (top : Members) (head : Head) (nodes : NodeTable) (links : List LinkEnds) (vrfs : VrfTable) → TablesRead top head nodes links vrfs
-    → network_of top ≡ (sites_from vrfs.names (tables_of (items_view head.sites.now)) no_sites >>= after_sites top nodes links vrfs)
+    → network_of top ≡ (sites_from vrfs.names (tables_of (items_view head.arrays.sites.now)) no_sites >>= after_sites top nodes links vrfs)
 unfolding network_of
 up_to_sites top head nodes links vrfs h =
     ap (λ rule. unless_broken rule Top (arrays_of top)) h.head_is.lawful
-    ∙ ap (λ ts. nodes_from ts no_nodes >>= after_nodes top) (sym h.head_is.nodes_are)
+    ∙ ap (λ ts. nodes_from ts no_nodes >>= after_nodes top) (sym h.head_is.arrays.nodes.tables_are)
     ∙ ap (λ read. read >>= after_nodes top) h.nodes_are
-    ∙ ap (λ ts. links_from nodes.names ts [] >>= after_links top nodes) (sym h.head_is.links_are)
+    ∙ ap (λ ts. links_from nodes.names ts [] >>= after_links top nodes) (sym h.head_is.arrays.links.tables_are)
     ∙ ap (λ read. read >>= after_links top nodes) h.links_are
-    ∙ ap (λ ts. vrfs_from nodes.names ts no_vrfs >>= after_vrfs top nodes links) (sym h.head_is.vrfs_are)
+    ∙ ap (λ ts. vrfs_from nodes.names ts no_vrfs >>= after_vrfs top nodes links) (sym h.head_is.arrays.vrfs.tables_are)
     ∙ ap (λ read. read >>= after_vrfs top nodes links) h.vrfs_are
-    ∙ ap (λ ts. sites_from vrfs.names ts no_sites >>= after_sites top nodes links vrfs) (sym h.head_is.sites_are)
+    ∙ ap (λ ts. sites_from vrfs.names ts no_sites >>= after_sites top nodes links vrfs) (sym h.head_is.arrays.sites.tables_are)
 
 refused_on : {A B : Type 0} (bad : TopoBad) (read : Result A (TopoRule × Place)) (rest : A → Result B (TopoRule × Place)) → Reads {A = A} (Err bad) read →
     Reads {A = B} (Err bad) (read >>= rest)
@@ -64,17 +64,17 @@ refused_on NoMemory read rest h = tt
 -- a refusal of the sites is that of the whole
 pub refused_sites : (top : Members) (head : Head) (nodes : NodeTable) (links : List LinkEnds) (vrfs : VrfTable) (bad : TopoBad) →
     TablesRead top head nodes links vrfs
-    → Reads {A = SiteTable} (Err bad) (sites_from vrfs.names (tables_of (items_view head.sites.now)) no_sites) → Reads {A = Network} (Err bad) (network_of top)
+    → Reads {A = SiteTable} (Err bad) (sites_from vrfs.names (tables_of (items_view head.arrays.sites.now)) no_sites) → Reads {A = Network} (Err bad) (network_of top)
 refused_sites top head nodes links vrfs bad h s =
     rw (up_to_sites top head nodes links vrfs h)
-    (refused_on bad (sites_from vrfs.names (tables_of (items_view head.sites.now)) no_sites) (after_sites top nodes links vrfs) s)
+    (refused_on bad (sites_from vrfs.names (tables_of (items_view head.arrays.sites.now)) no_sites) (after_sites top nodes links vrfs) s)
 
 -- the network that the head and the tables make
 abbrev network_by : Head → NodeTable → List LinkEnds → VrfTable → SiteTable → Network
 network_by head nodes links vrfs sites = record {
-  asn = head.asn;
-  notice_delay = head.notice_delay;
-  bgp_delay = head.bgp_delay;
+  asn = head.figures.asn;
+  notice_delay = head.figures.notice_delay;
+  bgp_delay = head.figures.bgp_delay;
   node_names = nodes.names;
   loopbacks =
       nodes.loopbacks;
@@ -83,21 +83,21 @@ network_by head nodes links vrfs sites = record {
   vrfs = vrfs.vrfs;
   site_names = sites.names;
   sites = sites.sites;
-  resolve = head.resolve;
+  resolve = head.figures.resolve;
 }
 
 -- the sites make the whole
 pub whole : (top : Members) (head : Head) (nodes : NodeTable) (links : List LinkEnds) (vrfs : VrfTable) (sites : SiteTable) → TablesRead top head nodes links vrfs
-    → sites_from vrfs.names (tables_of (items_view head.sites.now)) no_sites ≡ Ok sites
+    → sites_from vrfs.names (tables_of (items_view head.arrays.sites.now)) no_sites ≡ Ok sites
     → network_of top ≡ Ok (network_by head nodes links vrfs sites)
 whole top head nodes links vrfs sites h s =
     up_to_sites top head nodes links vrfs h
     ∙ ap (λ read. read >>= after_sites top nodes links vrfs) s
-    ∙ rw (h.head_is.asn_is, h.head_is.notice_delay_is, h.head_is.bgp_delay_is, h.head_is.resolve_is) refl
+    ∙ rw (h.head_is.figures.asn_is, h.head_is.figures.notice_delay_is, h.head_is.figures.bgp_delay_is, h.head_is.figures.resolve_is) refl
 
 -- the whole is lawful
 pub whole_lawful : (top : Members) (head : Head) (nodes : NodeTable) (links : List LinkEnds) (vrfs : VrfTable) (sites : SiteTable) →
     TablesRead top head nodes links vrfs
-    → sites_from vrfs.names (tables_of (items_view head.sites.now)) no_sites ≡ Ok sites
+    → sites_from vrfs.names (tables_of (items_view head.arrays.sites.now)) no_sites ≡ Ok sites
     → IsLawful (network_by head nodes links vrfs sites)
 whole_lawful top head nodes links vrfs sites h s = network_lawful top _ (whole top head nodes links vrfs sites h s)

@@ -18,7 +18,7 @@ use Rattle.mn_topo_toml.specs.Vrfs.{vrfs_from}
 use Rattle.mn_topo.specs.SiteTable.{SiteTable, no_sites}
 use Rattle.mn_topo_toml.specs.Sites.{sites_from}
 use Rattle.mn_topo.specs.Network.{Network}
-use Rattle.mn_topo_toml.specs.Topology.{top_keys, resolve_at, has_wrong_number, has_wrong_array, has_too_many, top_rule, network_with, ◌>>=◌, arrays_of, network_of}
+use Rattle.mn_topo_toml.specs.Topology.{top_keys, resolve_at, has_wrong_number, has_wrong_figure, has_wrong_array, has_too_many, top_rule, network_with, ◌>>=◌, arrays_of, network_of}
 use Rattle.mn_topo.specs.Lawful.{AreNames, AreNodes, AreLinks, AreVrfs, AreSites, IsLawful}
 use Rattle.mn_topo_toml.proofs.LawfulEntries.{all_kept, kept, reads_on, kept_in_turn, counted_in_turn, node_step, nodes_in_turn}
 use Rattle.mn_topo_toml.proofs.LawfulLinks.{number_within, link_step, links_in_turn}
@@ -62,9 +62,9 @@ parts_lawful : (top : Members) (nodes : NodeTable) (links : List LinkEnds) (vrfs
 unfolding top_rule
 parts_lawful top nodes links vrfs sites lawful n l v s =
     let all =
-    all_kept (broken (has_unknown_key top_keys top) UnknownKey ∷ broken ((has_wrong_number top || is_none (resolve_at top)) || has_wrong_array top) WrongKind
+    all_kept (broken (has_unknown_key top_keys top) UnknownKey ∷ broken (has_wrong_figure top || has_wrong_array top) WrongKind
     ∷ broken (has_too_many top) TooMany ∷ []) lawful in
-    let values = or_parts (has_wrong_number top || is_none (resolve_at top)) (has_wrong_array top) (kept _ WrongKind all.1.0) in
+    let values = or_parts (has_wrong_figure top) (has_wrong_array top) (kept _ WrongKind all.1.0) in
     let numbers = or_parts _ _ (or_parts (has_wrong_number top) (is_none (resolve_at top)) values.0).0 in
     let delays = or_parts _ _ numbers.0 in
     let counts = or_parts _ _ (kept (has_too_many top) TooMany all.1.1.0) in

@@ -4,6 +4,9 @@ pub mod NameKeys
 pub mod StaticKeys
 pub mod LawfulEntries
 pub mod LawfulLinks
+pub mod Firsts
+pub mod LinkSteps
+pub mod VrfSteps
 pub mod LawfulVrfs
 pub mod Prefixes
 pub mod LawfulSites

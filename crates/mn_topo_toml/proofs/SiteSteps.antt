@@ -1,47 +1,45 @@
 -- One entry more of the array of sites.
-use Rattle.std.proofs.Common.{◌≡◌, ℕ, ◌+◌, List, [], ◌∷◌, ◌++◌, length, Result, Ok, Err, refl, sym, ◌∙◌, ap}
-use Rattle.std.specs.Borrow.{Bor}
+use Rattle.std.proofs.Common.{◌≡◌, ℕ, ◌+◌, List, [], ◌∷◌, ◌++◌, length, Result, Ok, Err, refl, ap, sym, ◌∙◌}
 use Rattle.std.proofs.lemmas.List.{length-append}
 use Rattle.toml.specs.Data.{Members}
 use Rattle.mn_topo.specs.SiteTable.{SiteTable, Static, statics_of}
 use Rattle.mn_topo.specs.declared.sites.SiteDef.{SiteDef}
 use Rattle.mn_topo_toml.specs.declared.refusal.TopoRule.{TopoRule}
 use Rattle.mn_topo_toml.specs.declared.refusal.Place.TheVariants.{Site}
-use Rattle.mn_topo_toml.specs.Sites.{IsSite, ReadsSite, sites_from}
+use Rattle.mn_topo_toml.specs.Rules.{unless_broken}
+use Rattle.mn_topo_toml.specs.Nodes.{name_of}
+use Rattle.mn_topo_toml.specs.Sites.{IsSite, IsOneMore, AddsSite, with_site, sites_from}
 use Rattle.mn_topo_toml.proofs.LawfulSites.{statics_of-push}
 
--- an entry that is refused is what is answered of the rest
-pub refused_next : (vrfs : List (List ℕ)) (earlier : SiteTable) (statics : List Static) (entry : Members) (entries : List Members)
-    (read : Result (Bor (List ℕ) × SiteDef) TopoRule) (rule : TopoRule)
-    → ReadsSite vrfs earlier statics entry read → read ≡ Err rule
-    → sites_from vrfs (entry ∷ entries) earlier ≡ Err (rule, Site (length earlier.names))
-refused_next vrfs earlier statics entry entries (Err other) rule h e = let same : other ≡ rule = cc in rw (h, same) refl
-refused_next vrfs earlier statics entry entries (Ok found) rule h e = cc
+module _ (vrfs : List (List ℕ)) (earlier : SiteTable) (statics : List Static) (entry : Members) where
+  -- an entry that is refused is what is answered of the rest
+  pub refused_next : (entries : List Members) (read : Result SiteTable TopoRule) (rule : TopoRule) → AddsSite vrfs earlier statics entry read → read ≡ Err rule
+      → sites_from vrfs (entry ∷ entries) earlier ≡ Err (rule, Site (length earlier.names))
+  refused_next entries (Err other) rule h e = let same : other ≡ rule = cc in rw (h, same) refl
+  refused_next entries (Ok found) rule h e = cc
 
--- what an entry that is read leaves: one site more before the rest, its prefixes behind the others'
-pub record IsOneMore (vrfs : List (List ℕ)) (earlier : SiteTable) (statics : List Static) (entry : Members) (entries : List Members) (later : SiteTable) : Type 0 where
-  pub rest : sites_from vrfs (entry ∷ entries) earlier ≡ sites_from vrfs entries later
-  pub statics_are : statics ≡ statics_of later.sites
-  pub count : length later.names ≡ length earlier.names + 1
+  -- one that is not adds a site before the rest
+  pub record IsReadOn (entries : List Members) (later : SiteTable) : Type 0 where
+    pub rest : sites_from vrfs (entry ∷ entries) earlier ≡ sites_from vrfs entries later
+    pub statics_are : statics ≡ statics_of later.sites
+    pub count : length later.names ≡ length earlier.names + 1
 
-abbrev with_one : SiteTable → List ℕ → SiteDef → SiteTable
-with_one earlier name site = record { names = earlier.names ++ name ∷ []; sites = earlier.sites ++ site ∷ [] }
+  pub added_next : (entries : List Members) (read : Result SiteTable TopoRule) (later : SiteTable) → AddsSite vrfs earlier statics entry read → read ≡ Ok later
+      → IsReadOn entries later
+  added_next entries (Ok found) later h e =
+      let same : found ≡ later = cc in
+      record {
+        rest = ap (λ rule. unless_broken rule (Site (length earlier.names)) (sites_from vrfs entries (with_site vrfs earlier entry))) h.lawful
+            ∙ ap (sites_from vrfs entries) (sym h.later_is ∙ same);
+        statics_are = h.statics_are ∙ ap (λ t. statics_of t.sites) same;
+        count = ap (λ t. length t.names) (sym same ∙ h.later_is) ∙ length-append earlier.names (name_of entry ∷ []);
+      }
+  added_next entries (Err rule) later h e = cc
 
-read_one : (vrfs : List (List ℕ)) (earlier : SiteTable) (statics : List Static) (entry : Members) (entries : List Members) (name : List ℕ) (site : SiteDef)
-    → IsSite vrfs earlier statics entry name site → IsOneMore vrfs earlier statics entry entries (with_one earlier name site)
-read_one vrfs earlier statics entry entries name site h = record {
-  rest = rw (h.lawful, h.name_is, h.site_is) refl;
-  statics_are = h.statics_are ∙ sym (statics_of-push earlier.sites site);
-  count = length-append earlier.names (name ∷ []);
-}
-
-pub read_next : (vrfs : List (List ℕ)) (earlier : SiteTable) (statics : List Static) (entry : Members) (entries : List Members)
-    (read : Result (Bor (List ℕ) × SiteDef) TopoRule) (name : Bor (List ℕ)) (site : SiteDef) (later : SiteTable)
-    → ReadsSite vrfs earlier statics entry read → read ≡ Ok (name, site) → later ≡ with_one earlier name.now site
-    → IsOneMore vrfs earlier statics entry entries later
-read_next vrfs earlier statics entry entries (Ok found) name site later h e is =
-    let here : found ≡ (name, site) = cc in
-    let name_is : name ≡ found.0 = ap (λ read. read.0) (sym here) in
-    let site_is : site ≡ found.1 = ap (λ read. read.1) (sym here) in
-    rw (is, name_is, site_is) (read_one vrfs earlier statics entry entries found.0.now found.1 h)
-read_next vrfs earlier statics entry entries (Err rule) name site later h e is = cc
+  pub site_added : (name : List ℕ) (site : SiteDef) (later : SiteTable) → IsSite vrfs earlier statics entry name site →
+      later ≡ record { names = earlier.names ++ name ∷ []; sites = earlier.sites ++ site ∷ [] } → IsOneMore vrfs earlier statics entry later
+  site_added name site later h e = record {
+    lawful = h.lawful;
+    later_is = e ∙ rw (h.name_is, h.site_is) refl;
+    statics_are = h.statics_are ∙ sym (statics_of-push earlier.sites site) ∙ ap (λ t. statics_of t.sites) (sym e);
+  }

@@ -1,5 +1,6 @@
 pub mod Tables
 pub mod Names
+pub mod Numbered
 pub mod Rules
 pub mod Nodes
 pub mod Links

@@ -110,3 +110,13 @@ pub record IsSite (vrfs : List (List ℕ)) (earlier : SiteTable) (statics : List
 abbrev pub ReadsSite : List (List ℕ) → SiteTable → List Static → Members → Result (Bor (List ℕ) × SiteDef) TopoRule → Type 0
 ReadsSite vrfs earlier statics entry (Ok site) = IsSite vrfs earlier statics entry site.0.now site.1
 ReadsSite vrfs earlier statics entry (Err rule) = site_rule vrfs earlier entry ≡ Some rule
+
+-- the sites with that of an entry that breaks no rule, and afterwards its prefixes stand too
+pub record IsOneMore (vrfs : List (List ℕ)) (earlier : SiteTable) (statics : List Static) (entry : Members) (later : SiteTable) : Type 0 where
+  pub lawful : site_rule vrfs earlier entry ≡ None
+  pub later_is : later ≡ with_site vrfs earlier entry
+  pub statics_are : statics ≡ statics_of later.sites
+
+abbrev pub AddsSite : List (List ℕ) → SiteTable → List Static → Members → Result SiteTable TopoRule → Type 0
+AddsSite vrfs earlier statics entry (Ok later) = IsOneMore vrfs earlier statics entry later
+AddsSite vrfs earlier statics entry (Err rule) = site_rule vrfs earlier entry ≡ Some rule

@@ -1,5 +1,5 @@
 -- The topology that a document is, or the first rule that it breaks and the place.
-use Rattle.std.specs.Prelude.{◌≡◌, ◌≤◌, ℕ, Bool, false, not, ◌||◌, nat_lt, if◌then◌else◌, List, [], ◌∷◌, length, Option, Some, None, is_none, unwrap_or, codes}
+use Rattle.std.specs.Prelude.{◌≡◌, ◌≤◌, ℕ, Bool, true, false, not, ◌||◌, nat_lt, if◌then◌else◌, List, [], ◌∷◌, length, Option, Some, None, is_none, unwrap_or, codes}
 use Rattle.std.specs.Prelude.{Result, Ok, Err}
 use Rattle.std.specs.Option.{option_map_or}
 use Rattle.std.specs.Str.{is_utf8}
@@ -11,6 +11,9 @@ use Rattle.mn_topo_toml.specs.declared.refusal.TopoRule.{TopoRule}
 use Rattle.mn_topo_toml.specs.declared.refusal.TopoRule.TheVariants.{NotToml, UnknownKey, WrongKind, TooMany}
 use Rattle.mn_topo_toml.specs.declared.refusal.Place.{Place}
 use Rattle.mn_topo_toml.specs.declared.refusal.Place.TheVariants.{Top}
+use Rattle.toml.specs.declared.value.Value.{Value}
+use Rattle.mn_topo_toml.specs.declared.top.Arrays.{Arrays}
+use Rattle.mn_topo_toml.specs.declared.top.Figures.{Figures}
 use Rattle.mn_topo_toml.specs.declared.top.Head.{Head}
 use Rattle.mn_topo_toml.specs.Tables.{has_unknown_key, number_at, boolean_at, is_tables_at, tables_at, tables_of}
 use Rattle.mn_topo_toml.specs.Rules.{broken, first_broken, unless_broken}
@@ -44,25 +47,31 @@ resolve_at top = boolean_at (codes "resolve") top
 abbrev pub has_wrong_number : Members → Bool
 has_wrong_number top = (is_none (asn_at top) || is_none (notice_delay_at top)) || is_none (bgp_delay_at top)
 
+-- a number or the boolean is wrong
+abbrev pub has_wrong_figure : Members → Bool
+has_wrong_figure top = has_wrong_number top || is_none (resolve_at top)
+
+-- an array isn't one of tables
 abbrev pub has_wrong_array : Members → Bool
 has_wrong_array top =
     ((not (is_tables_at (codes "node") top) || not (is_tables_at (codes "link") top)) || not (is_tables_at (codes "vrf") top)) || not
     (is_tables_at (codes "site") top)
 
--- the array at the key has more entries than this
-abbrev pub has_more_than : ℕ → List ℕ → Members → Bool
-has_more_than most key top = nat_lt most (length (tables_at key top))
+-- more nodes, links, VRFs or sites than there may be
+abbrev pub are_too_many : ℕ → ℕ → ℕ → ℕ → Bool
+are_too_many nodes links vrfs sites = ((nat_lt 256 nodes || nat_lt 1024 links) || nat_lt 512 vrfs) || nat_lt 4096 sites
 
+-- an array has more entries than it may
 abbrev pub has_too_many : Members → Bool
 has_too_many top =
-    ((has_more_than 256 (codes "node") top || has_more_than 1024 (codes "link") top) || has_more_than 512 (codes "vrf") top) || has_more_than 4096
-    (codes "site") top
+    are_too_many (length (tables_at (codes "node") top)) (length (tables_at (codes "link") top)) (length (tables_at (codes "vrf") top))
+    (length (tables_at (codes "site") top))
 
 -- the rules of the top table
 unfoldable pub top_rule : Members → Option TopoRule
 top_rule top = first_broken (
     broken (has_unknown_key top_keys top) UnknownKey
-    ∷ broken ((has_wrong_number top || is_none (resolve_at top)) || has_wrong_array top) WrongKind
+    ∷ broken (has_wrong_figure top || has_wrong_array top) WrongKind
     ∷ broken (has_too_many top) TooMany
     ∷ [])
 
@@ -103,21 +112,48 @@ document_of bytes = if is_utf8 bytes then parse_document bytes else None
 unfoldable pub topology_of : List ℕ → Result Network (TopoRule × Place)
 topology_of bytes = option_map_or network_of (document_of bytes) (Err (NotToml, Top))
 
+-- the numbers and the boolean of a top table in which none of them is wrong
+pub record AreFigures (top : Members) (figures : Figures) : Type 0 where
+  pub right : has_wrong_figure top ≡ false
+  pub asn_is : asn_at top ≡ Some figures.asn
+  pub notice_delay_is : notice_delay_at top ≡ Some figures.notice_delay
+  pub bgp_delay_is : bgp_delay_at top ≡ Some figures.bgp_delay
+  pub resolve_is : resolve_at top ≡ Some figures.resolve
+
+abbrev pub ReadsFigures : Members → Option Figures → Type 0
+ReadsFigures top (Some figures) = AreFigures top figures
+ReadsFigures top None = has_wrong_figure top ≡ true
+
+-- the values are the entries at the key
+pub record AreEntries (key : List ℕ) (top : Members) (values : List Value) : Type 0 where
+  pub tables_are : tables_of (items_view values) ≡ tables_at key top
+  pub count : length values ≡ length (tables_at key top)
+
+-- the arrays of a top table in which each is one of tables
+pub record AreArrays (top : Members) (arrays : Arrays) : Type 0 where
+  pub right : has_wrong_array top ≡ false
+  pub nodes : AreEntries (codes "node") top arrays.nodes.now
+  pub links : AreEntries (codes "link") top arrays.links.now
+  pub vrfs : AreEntries (codes "vrf") top arrays.vrfs.now
+  pub sites : AreEntries (codes "site") top arrays.sites.now
+
+abbrev pub ReadsArrays : Members → Option Arrays → Type 0
+ReadsArrays top (Some arrays) = AreArrays top arrays
+ReadsArrays top None = has_wrong_array top ≡ true
+
+-- no array has more entries than it may
+pub record AreFew (arrays : Arrays) : Type 0 where
+  pub nodes : length arrays.nodes.now ≤ 256
+  pub links : length arrays.links.now ≤ 1024
+  pub vrfs : length arrays.vrfs.now ≤ 512
+  pub sites : length arrays.sites.now ≤ 4096
+
 -- what is taken from a top table that breaks no rule
 pub record IsHead (top : Members) (head : Head) : Type 0 where
   pub lawful : top_rule top ≡ None
-  pub asn_is : asn_at top ≡ Some head.asn
-  pub notice_delay_is : notice_delay_at top ≡ Some head.notice_delay
-  pub bgp_delay_is : bgp_delay_at top ≡ Some head.bgp_delay
-  pub resolve_is : resolve_at top ≡ Some head.resolve
-  pub nodes_are : tables_of (items_view head.nodes.now) ≡ tables_at (codes "node") top
-  pub links_are : tables_of (items_view head.links.now) ≡ tables_at (codes "link") top
-  pub vrfs_are : tables_of (items_view head.vrfs.now) ≡ tables_at (codes "vrf") top
-  pub sites_are : tables_of (items_view head.sites.now) ≡ tables_at (codes "site") top
-  pub few_nodes : length head.nodes.now ≤ 256
-  pub few_links : length head.links.now ≤ 1024
-  pub few_vrfs : length head.vrfs.now ≤ 512
-  pub few_sites : length head.sites.now ≤ 4096
+  pub figures : AreFigures top head.figures
+  pub arrays : AreArrays top head.arrays
+  pub few : AreFew head.arrays
 
 abbrev pub ReadsHead : Members → Result Head TopoRule → Type 0
 ReadsHead top (Ok head) = IsHead top head

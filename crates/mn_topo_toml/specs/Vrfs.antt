@@ -1,5 +1,5 @@
 -- The rules of an entry that is a VRF.
-use Rattle.std.specs.Prelude.{◌≡◌, ℕ, Bool, false, not, ◌&&◌, ◌||◌, ◌==◌, nat_le, if◌then◌else◌, List, [], ◌∷◌, ◌++◌, length, Option, Some, None, is_none}
+use Rattle.std.specs.Prelude.{◌≡◌, ℕ, Bool, true, false, not, ◌&&◌, ◌||◌, ◌==◌, nat_le, if◌then◌else◌, List, [], ◌∷◌, ◌++◌, length, Option, Some, None, is_none}
 use Rattle.std.specs.Prelude.{option_and_then, unwrap_or, codes, Result, Ok, Err}
 use Rattle.std.specs.List.{list_any}
 use Rattle.std.specs.Option.{option_map_or}
@@ -7,6 +7,7 @@ use Rattle.std.specs.Borrow.{Bor}
 use Rattle.mn_base.specs.Limits.{most_targets}
 use Rattle.toml.specs.Data.{Items, no_items, item, Members, as_str}
 use Rattle.toml.specs.View.{items_view}
+use Rattle.toml.specs.declared.value.Value.{Value}
 use Rattle.mn_base.specs.declared.numbers.Rd.{Rd}
 use Rattle.mn_base.specs.declared.numbers.Rt.{Rt}
 use Rattle.mn_text.specs.Pairs.{rd_of, rt_of}
@@ -53,14 +54,25 @@ targets_from earlier (item value items) = (as_str value >>= next_target earlier)
 abbrev pub targets_at : List ℕ → Members → Option (List Rt)
 targets_at key entry = targets_from [] (items_at key entry)
 
+-- a text isn't one, or a set of targets is no array of texts
+abbrev pub has_wrong_kind : Members → Bool
+has_wrong_kind entry =
+    ((is_none (text_at (codes "name") entry) || is_none (text_at (codes "node") entry)) || is_none (text_at (codes "rd") entry)) ||
+    (not (is_texts_at (codes "import") entry) || not (is_texts_at (codes "export") entry))
+
+-- the rules of an entry's keys
+abbrev pub key_rules : Members → List (Option TopoRule)
+key_rules entry =
+    broken (has_unknown_key vrf_keys entry) UnknownKey
+    ∷ broken ((lacks (codes "name") entry || lacks (codes "node") entry) || lacks (codes "rd") entry) MissingKey
+    ∷ broken (has_wrong_kind entry) WrongKind
+    ∷ []
+
 -- the rules of an entry after the earlier ones, over the names of the nodes: first those of its keys, its name, its node and a distinguisher that is taken
 abbrev pub vrf_head_rules : List (List ℕ) → VrfTable → Members → List (Option TopoRule)
 vrf_head_rules nodes earlier entry =
-    broken (has_unknown_key vrf_keys entry) UnknownKey
-    ∷ broken ((lacks (codes "name") entry || lacks (codes "node") entry) || lacks (codes "rd") entry) MissingKey
-    ∷ broken (((is_none (text_at (codes "name") entry) || is_none (text_at (codes "node") entry)) || is_none (text_at (codes "rd") entry)) ||
-    (not (is_texts_at (codes "import") entry) || not (is_texts_at (codes "export") entry))) WrongKind
-    ∷ broken (not (is_name (name_of entry))) BadName
+    key_rules entry
+    ++ broken (not (is_name (name_of entry))) BadName
     ∷ broken (has_name earlier.names (name_of entry)) TwiceNamed
     ∷ broken (is_none (named_at nodes (codes "node") entry)) NoSuchName
     ∷ broken (is_rd_taken earlier (rd_at entry)) TwiceRd
@@ -98,6 +110,26 @@ abbrev pub vrfs_from : List (List ℕ) → List Members → VrfTable → Result 
 vrfs_from nodes [] earlier = Ok earlier
 vrfs_from nodes (entry ∷ entries) earlier =
     unless_broken (vrf_rule nodes earlier entry) (Vrf (length earlier.names)) (vrfs_from nodes entries (with_vrf nodes earlier entry))
+
+-- the name and the sets of targets of an entry in which each value is of its kind
+pub record AreValues (entry : Members) (name : List ℕ) (import export : List Value) : Type 0 where
+  pub right : has_wrong_kind entry ≡ false
+  pub name_is : name ≡ name_of entry
+  pub import_is : items_view import ≡ items_at (codes "import") entry
+  pub export_is : items_view export ≡ items_at (codes "export") entry
+
+abbrev pub ReadsValues : Members → Option (Bor (List ℕ) × Bor (List Value) × Bor (List Value)) → Type 0
+ReadsValues entry (Some found) = AreValues entry found.0.now found.1.now found.2.now
+ReadsValues entry None = has_wrong_kind entry ≡ true
+
+-- the same of an entry that breaks no rule of its keys
+pub record AreKeyed (entry : Members) (name : List ℕ) (import export : List Value) : Type 0 where
+  pub lawful : first_broken (key_rules entry) ≡ None
+  pub values : AreValues entry name import export
+
+abbrev pub ReadsKeys : Members → Result (Bor (List ℕ) × Bor (List Value) × Bor (List Value)) TopoRule → Type 0
+ReadsKeys entry (Ok found) = AreKeyed entry found.0.now found.1.now found.2.now
+ReadsKeys entry (Err rule) = first_broken (key_rules entry) ≡ Some rule
 
 -- what the first rules take from an entry that breaks none of them
 pub record IsVrfHead (nodes : List (List ℕ)) (earlier : VrfTable) (entry : Members) (head : VrfHead) : Type 0 where

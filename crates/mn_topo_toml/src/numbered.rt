@@ -1,6 +1,7 @@
 //! The sites so far, numbered by their names.
-ghost use Rattle.std.specs.Prelude.{◌≡◌, ◌<◌, ◌^◌, ◌++◌, ◌∷◌, [], false, length, IfOk};
+ghost use Rattle.std.specs.Prelude.{◌≡◌, ◌<◌, ◌^◌, ◌++◌, ◌∷◌, [], false, length, IfOk, OnOk};
 ghost use Rattle.mn_topo.specs.Names.{has_name};
+ghost use Rattle.mn_topo_toml.specs.Numbered.{names_in};
 ghost use Rattle.mn_topo.specs.SiteTable.{no_sites};
 
 use indexmap::IndexSet;
@@ -16,14 +17,25 @@ pub(crate) struct NumberedSites {
 }
 
 impl Model for NumberedSites {
-    ghost use Rattle.std.specs.Prelude.{◌≡◌, map};
+    ghost use Rattle.std.specs.Prelude.{◌≡◌};
+    ghost use Rattle.mn_topo_toml.specs.Numbered.{names_in};
     ghost use Rattle.mn_topo.specs.SiteTable.{SiteTable};
 
     ghost Value = { SiteTable };
 
     ghost view = { λ a. a.sites };
 
-    ghost invariant = { λ a. map (λ name. name.items) a.names.keys ≡ a.sites.names };
+    ghost invariant = { λ a. names_in a.names.keys ≡ a.sites.names };
+}
+
+/// One name more.
+fn put_name(alloc: Global, names: &mut IndexSet<Vec<u8>>, name: &[u8]) -> Result<(), AllocError>
+    requires { has_name (names_in names.old.keys) name.now ≡ false }
+    ensures { OnOk result (names_in names.new.keys ≡ names_in names.old.keys ++ name.now ∷ []) }
+{
+    let copy = Vec::from_slice(alloc, name)?;
+    names.insert(copy)?;
+    Ok(())
 }
 
 impl NumberedSites {
@@ -65,8 +77,7 @@ impl NumberedSites {
             mut names,
             mut sites,
         } = self;
-        let copy = Vec::from_slice(alloc, name)?;
-        names.insert(copy)?;
+        put_name(alloc, &mut names, name)?;
         sites.put(alloc, name, site)?;
         Ok(NumberedSites { names, sites })
     }

@@ -29,19 +29,19 @@ fn read_network(alloc: Global, top: &Table) -> Result<Topology, TopoBad>
             });
         }
     };
-    let nodes = read_nodes(alloc, head.nodes)?;
-    let links = read_links(alloc, &nodes, head.links)?;
-    let vrfs = read_vrfs(alloc, &nodes, head.vrfs)?;
-    let sites = read_sites(alloc, &vrfs, head.sites)?;
+    let nodes = read_nodes(alloc, head.arrays.nodes)?;
+    let links = read_links(alloc, &nodes, head.arrays.links)?;
+    let vrfs = read_vrfs(alloc, &nodes, head.arrays.vrfs)?;
+    let sites = read_sites(alloc, &vrfs, head.arrays.sites)?;
     Ok(Topology::of(Parts {
-        asn: head.asn,
-        notice_delay: head.notice_delay,
-        bgp_delay: head.bgp_delay,
+        asn: head.figures.asn,
+        notice_delay: head.figures.notice_delay,
+        bgp_delay: head.figures.bgp_delay,
         nodes,
         links,
         vrfs,
         sites,
-        resolve: head.resolve,
+        resolve: head.figures.resolve,
     }))
 }
 

@@ -1,5 +1,5 @@
 //! The sites.
-ghost use Rattle.std.specs.Prelude.{◌≡◌, ◌≤◌, ◌^◌, [], length, option_map, IfOk};
+ghost use Rattle.std.specs.Prelude.{◌≡◌, ◌≤◌, ◌<◌, ◌^◌, [], length, option_map, IfOk};
 ghost use Rattle.toml.specs.View.{view, table_view, items_view};
 ghost use Rattle.mn_topo_toml.specs.Rules.{Reads};
 ghost use Rattle.mn_topo_toml.specs.Tables.{tables_of};
@@ -27,7 +27,7 @@ pub(crate) struct SiteHead<'a> {
 }
 
 ghost use Rattle.mn_topo.specs.SiteTable.{no_sites, statics_of};
-ghost use Rattle.mn_topo_toml.specs.Sites.{prefix_in, prefixes_from, prefixes_at, ReadsSiteHead, ReadsSite, sites_from};
+ghost use Rattle.mn_topo_toml.specs.Sites.{prefix_in, prefixes_from, prefixes_at, ReadsSiteHead, ReadsSite, AddsSite, sites_from};
 
 /// The prefix that a value is.
 fn prefix_in(value: &Value) -> Option<Prefix>
@@ -134,6 +134,27 @@ fn site_in<'a>(
     Ok(Ok((head.name, site)))
 }
 
+/// The sites so far, and that of an entry. Its prefixes join the statics.
+fn with_entry(
+    alloc: Global,
+    vrfs: &Vrfs,
+    sites: NumberedSites,
+    statics: &mut Statics,
+    entry: &Table,
+) -> Result<Result<NumberedSites, TopoRule>, AllocError>
+    requires room { length sites.names < 2 ^ 16 }
+    requires statics { statics.old ≡ statics_of sites.sites }
+    ensures { IfOk result (AddsSite vrfs.now.names sites statics.new (table_view entry.now)) }
+{
+    match site_in(alloc, &sites, vrfs, statics, entry)? {
+        Ok((name, site)) => {
+            let more = sites.with(alloc, name, site)?;
+            Ok(Ok(more))
+        }
+        Err(rule) => Ok(Err(rule)),
+    }
+}
+
 /// The sites of an array of tables.
 pub(crate) fn read_sites(alloc: Global, vrfs: &Vrfs, values: &[Value]) -> Result<Sites, TopoBad>
     requires { length values.now ≤ 2 ^ 16 }
@@ -146,8 +167,8 @@ pub(crate) fn read_sites(alloc: Global, vrfs: &Vrfs, values: &[Value]) -> Result
             continue;
         };
         let place = Place::Site(sites.next() as u32);
-        match site_in(alloc, &sites, vrfs, &mut statics, entry)? {
-            Ok((name, site)) => sites = sites.with(alloc, name, site)?,
+        match with_entry(alloc, vrfs, sites, &mut statics, entry)? {
+            Ok(more) => sites = more,
             Err(rule) => return Err(TopoBad::Refused { rule, place }),
         }
     }

@@ -29,7 +29,7 @@ pub(crate) struct VrfHead<'a> {
 }
 
 ghost use Rattle.mn_topo.specs.VrfTable.{no_vrfs};
-ghost use Rattle.mn_topo_toml.specs.Vrfs.{rd_at, has_target, next_target, targets_from, ReadsVrfHead, is_rd_taken, is_65th_edge, ReadsVrf, vrfs_from};
+ghost use Rattle.mn_topo_toml.specs.Vrfs.{rd_at, has_target, next_target, targets_from, ReadsKeys, ReadsValues, ReadsVrfHead, is_rd_taken, is_65th_edge, ReadsVrf, vrfs_from};
 
 /// The distinguisher, where it is of its form.
 fn rd_at(entry: &Table) -> Option<Rd>
@@ -81,10 +81,22 @@ fn is_65th_edge(vrfs: &Vrfs, node: u16) -> bool
     !vrfs.is_edge(node) && vrfs.edge_count() >= MOST_EDGES
 }
 
-/// What the first rules take from an entry.
-#[tactic(auto, unfolding(crate::specs::Vrfs::vrf_head_rule))]
-fn head_in<'a>(vrfs: &Vrfs, nodes: &Nodes, entry: &'a Table) -> Result<VrfHead<'a>, TopoRule>
-    ensures { ReadsVrfHead nodes.now.names vrfs.now (table_view entry.now) result }
+/// The name and the sets of targets of an entry, if each value is of its kind.
+fn values_in<'a>(entry: &'a Table) -> Option<(&'a [u8], &'a [Value], &'a [Value])>
+    ensures { ReadsValues (table_view entry.now) result }
+{
+    let name = text_at("name", entry)?;
+    if text_at("node", entry).is_none() || text_at("rd", entry).is_none() {
+        return None;
+    }
+    let import = texts_at("import", entry)?;
+    let export = texts_at("export", entry)?;
+    Some((name.as_bytes(), import, export))
+}
+
+/// The same, if the entry's keys are as they have to be too.
+fn keyed_in<'a>(entry: &'a Table) -> Result<(&'a [u8], &'a [Value], &'a [Value]), TopoRule>
+    ensures { ReadsKeys (table_view entry.now) result }
 {
     if has_unknown_key(&["name", "node", "rd", "import", "export"], entry) {
         return Err(TopoRule::UnknownKey);
@@ -92,20 +104,26 @@ fn head_in<'a>(vrfs: &Vrfs, nodes: &Nodes, entry: &'a Table) -> Result<VrfHead<'
     if lacks("name", entry) || lacks("node", entry) || lacks("rd", entry) {
         return Err(TopoRule::MissingKey);
     }
-    let name = text_at("name", entry).ok_or(TopoRule::WrongKind)?;
-    if text_at("node", entry).is_none() || text_at("rd", entry).is_none() {
-        return Err(TopoRule::WrongKind);
+    match values_in(entry) {
+        Some(values) => Ok(values),
+        None => Err(TopoRule::WrongKind),
     }
-    let import = texts_at("import", entry).ok_or(TopoRule::WrongKind)?;
-    let export = texts_at("export", entry).ok_or(TopoRule::WrongKind)?;
-    let name = name.as_bytes();
+}
+
+/// What the first rules take from an entry.
+fn head_in<'a>(vrfs: &Vrfs, nodes: &Nodes, entry: &'a Table) -> Result<VrfHead<'a>, TopoRule>
+    ensures { ReadsVrfHead nodes.now.names vrfs.now (table_view entry.now) result }
+{
+    let (name, import, export) = keyed_in(entry)?;
     if !is_name(name) {
         return Err(TopoRule::BadName);
     }
     if vrfs.names().has(name) {
         return Err(TopoRule::TwiceNamed);
     }
-    let node = named_at(nodes.names(), "node", entry).ok_or(TopoRule::NoSuchName)?;
+    let Some(node) = named_at(nodes.names(), "node", entry) else {
+        return Err(TopoRule::NoSuchName);
+    };
     let rd = rd_at(entry);
     if is_rd_taken(vrfs, rd) {
         return Err(TopoRule::TwiceRd);
