@@ -1,0 +1,6 @@
+pub mod Left
+pub mod Asked
+pub mod Choosing
+pub mod Ending
+pub mod Staying
+pub mod Finding

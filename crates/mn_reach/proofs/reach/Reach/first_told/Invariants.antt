@@ -1,0 +1,13 @@
+use Rattle.std.proofs.Common.{◌≡◌, drop}
+use Rattle.mn_topo.specs.Network.{Network}
+use Rattle.mn_reach_laws.specs.Candidates.{is_told}
+use Rattle.mn_failure_laws.specs.Failures.{config_under}
+use Rattle.mn_reach.specs.Plans.{IsOf}
+use Rattle.mn_reach.specs.Reaching.{failure_of}
+use Rattle.mn_reach.proofs.Choosing.{first_passing}
+use Rattle.mn_reach.proofs.reach.Reach.first_told.Given as goal
+
+abbrev pub invariant-loop-candidate : goal.invariant-loop-candidate
+invariant-loop-candidate l =
+    (topology : Network) → IsOf topology l.self.plan → first_passing (is_told (config_under topology (failure_of l.self)) l.home.0) (drop l.candidate-index l.candidates)
+    ≡ first_passing (is_told (config_under topology (failure_of l.self)) l.home.0) l.candidates

@@ -1,0 +1,5 @@
+pub mod Plans
+pub mod Reaching
+pub mod Verdicts
+pub mod Spared
+pub mod Finding

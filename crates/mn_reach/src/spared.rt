@@ -1,0 +1,63 @@
+//! Pairs whose packets need nothing that failed.
+ghost use Rattle.std.specs.Prelude.{ℕ, ◌≡◌, ◌<◌, length, not, true};
+ghost use Rattle.std.specs.List.{list_all};
+ghost use Rattle.mn_failure_laws.specs.Failures.{is_session_off};
+ghost use Rattle.mn_failure_laws.specs.Fates.{fate_under};
+ghost use Rattle.mn_reach.specs.Plans.{IsOf, pair_at};
+ghost use Rattle.mn_reach.specs.Reaching.{failure_of, nothing_gone};
+ghost use Rattle.mn_reach.specs.Spared.{is_whole, is_spared};
+
+use crate::plan::Candidate;
+use crate::reach::Reach;
+use mn_base::{LinkNo, NodeNo};
+use mn_topo::Topology;
+use mn_way_laws::a_path_that_is_spared_stays;
+
+/// Whether the switch of the link is on.
+fn is_on(switches: &[bool], link: LinkNo) -> bool
+    ensures { result ≡ is_up switches.now link.0 }
+{
+    match switches.get(usize::from(link.0)) {
+        Some(on) => *on,
+        None => false,
+    }
+}
+
+impl Reach {
+    /// Whether the links are up, with LDP.
+    fn are_whole(&self, links: &[LinkNo]) -> bool
+        ensures { result ≡ list_all (λ l. is_whole self.now l.0) links.now }
+    {
+        links
+            .iter()
+            .all(|link| is_on(&self.up, *link) && is_on(&self.ldp, *link))
+    }
+
+    /// Whether no session of an edge with those of the candidates was ended.
+    fn keeps_sessions(&self, home: NodeNo, candidates: &[Candidate]) -> bool
+        ensures { result ≡ list_all (λ candidate. not (is_session_off (failure_of self.now) home.0 candidate.route.edge.0)) candidates.now }
+    {
+        candidates
+            .iter()
+            .all(|candidate| !self.is_ended(home, candidate.route.edge))
+    }
+
+    /// Whether nothing failed of what a pair's packets may need: they then fare as if nothing had failed at all.
+    pub fn is_spared(&self, topology: &Topology, pair: usize) -> bool
+        requires of { IsOf topology.now self.now.plan }
+        requires pair { pair < length self.now.plan.pairs }
+        ensures exact { result ≡ is_spared topology.now self.now pair }
+        ensures stays { result ≡ true → (ttl : ℕ) → fate_under topology.now (failure_of self.now) (pair_at self.now.plan pair).site.0 ttl (pair_at self.now.plan pair).address
+            ≡ fate_under topology.now (nothing_gone self.now.ends) (pair_at self.now.plan pair).site.0 ttl (pair_at self.now.plan pair).address }
+    {
+        a_path_that_is_spared_stays();
+        let prospect = &self.prospects[pair];
+        self.are_whole(prospect.links.as_slice())
+            && self.keeps_sessions(
+                topology.home_of(self.pairs[pair].site),
+                prospect.candidates.as_slice(),
+            )
+    }
+}
+
+ghost use Rattle.mn_wiring.specs.Wiring.{is_up};
