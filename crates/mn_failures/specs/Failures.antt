@@ -56,7 +56,7 @@ each_node network = map (λ node. NodeDown (record { 0 = node }) ∷ []) (nodes 
 abbrev pub session_of : Network → ℕ → ℕ → List (List Part)
 session_of network one other =
     if nat_lt one other && (is_edge network.vrfs other && exchange network one other) then
-        (BgpDown (record { 0 = one }) (record { 0 = other }) ∷ []) ∷ []
+    (BgpDown (record { 0 = one }) (record { 0 = other }) ∷ []) ∷ []
     else []
 
 abbrev pub sessions_of : Network → ℕ → List (List Part)

@@ -15,7 +15,7 @@ use Rattle.mn_reflect_telling.specs.Mentions.{numbers_of}
 use Rattle.mn_reflect_run.specs.Language.{Script, script_of}
 use Rattle.mn_reflect_run.specs.Course.{ReflectRun}
 use Rattle.mn_reflect_run.specs.Report.{course_of, report}
-use Rattle.mn_reflect_run.specs.Laws.{AreOfTheMesh}
+use Rattle.mn_reflect_run.specs.Laws.{AreOfTheMesh, AreDrained}
 use Rattle.mn_reflect_run.specs.Answer.{outcome_of, told, reflect_done}
 use Rattle.mn_reflect_run.specs.Headline.{IsScriptTold, IsReflectTold}
 
@@ -84,19 +84,19 @@ module _ (topology : Network) (reflectors : List ℕ) (run : ReflectRun) where
 
 pub script_told : (topology : Network) (script : Script) (name : List ℕ) (files : Files) (before : List ℕ) (written : Option (List ℕ)) (o : Outcome) →
     option_map (script_of topology) (file files name) ≡ Some (Ok script) → AreOfTheMesh topology (numbers_of script.reflectors) (course_of topology script) →
-    TextIs (Some (reflect_done topology script)) before written o → IsScriptTold topology name files before written o
-script_told topology script name files before written Done read mesh text =
-    record { script = script; run = course_of topology script; script_read = read; played = refl; mesh = mesh; told = text }
-script_told topology script name files before written Usage read mesh text = tt
-script_told topology script name files before written ReadFault read mesh text = tt
-script_told topology script name files before written WriteFault read mesh text = tt
-script_told topology script name files before written NoMemory read mesh text = tt
-script_told topology script name files before written (BadTopology rule place) read mesh text = tt
-script_told topology script name files before written (BadScript rule line) read mesh text = tt
-script_told topology script name files before written (BadCapture rule place) read mesh text = tt
-script_told topology script name files before written (BadSecond rule place) read mesh text = tt
-script_told topology script name files before written (BadJoints rule line) read mesh text = tt
-script_told topology script name files before written (TooLarge which limit) read mesh text = tt
+    AreDrained topology script → TextIs (Some (reflect_done topology script)) before written o → IsScriptTold topology name files before written o
+script_told topology script name files before written Done read mesh drained text =
+    record { script = script; run = course_of topology script; script_read = read; played = refl; mesh = mesh; drained = drained; told = text }
+script_told topology script name files before written Usage read mesh drained text = tt
+script_told topology script name files before written ReadFault read mesh drained text = tt
+script_told topology script name files before written WriteFault read mesh drained text = tt
+script_told topology script name files before written NoMemory read mesh drained text = tt
+script_told topology script name files before written (BadTopology rule place) read mesh drained text = tt
+script_told topology script name files before written (BadScript rule line) read mesh drained text = tt
+script_told topology script name files before written (BadCapture rule place) read mesh drained text = tt
+script_told topology script name files before written (BadSecond rule place) read mesh drained text = tt
+script_told topology script name files before written (BadJoints rule line) read mesh drained text = tt
+script_told topology script name files before written (TooLarge which limit) read mesh drained text = tt
 
 pub script_undone : (topology : Network) (script : List ℕ) (files : Files) (before : List ℕ) (written : Option (List ℕ)) (o : Outcome) → (o ≡ Done → ⊥) →
     IsScriptTold topology script files before written o

@@ -45,7 +45,7 @@ module _ (topology : Network) (reflectors : List ℕ) where
     pub live : (a b : ℕ) → world.config.bgp_on a b ≡ true → may_peer topology reflectors a b ≡ true
     pub flies : (spoken : Spoken) → In world.flying spoken → may_peer topology reflectors spoken.from spoken.to ≡ true
 
-  live_peers : (config : Config) → ((a b : ℕ) → config.bgp_on a b ≡ true → may_peer topology reflectors a b ≡ true) →
+  pub live_peers : (config : Config) → ((a b : ℕ) → config.bgp_on a b ≡ true → may_peer topology reflectors a b ≡ true) →
       (n p : ℕ) → peers_live config n p ≡ true → may_peer topology reflectors n p ≡ true
   live_peers config live n p = by (nat_lt n p)
     where
@@ -205,16 +205,18 @@ module _ (topology : Network) (reflectors : List ℕ) where
       takes_of (Some done) = takes topology reflectors done
       takes_of None = true
 
+  -- what was said first of all is the first from the one to the other
+  pub first_flies : (spoken : Spoken) (more : List Spoken) → first_word spoken.from spoken.to (spoken ∷ more) ≡ Some spoken.word
+  first_flies spoken more = ap (λ b. cond b (Some spoken.word) (first_word spoken.from spoken.to more))
+      (and_on (spoken.from == spoken.from) (spoken.to == spoken.to) (test_same spoken.from spoken.from refl) (test_same spoken.to spoken.to refl))
+
   pub hearing_flies : (world : ReflectWorld) (hearing : Step) → first_hearing world.flying ≡ Some hearing → refusal topology world hearing ≡ None
   hearing_flies world hearing e = by world.flying refl e
     where
       by : (flying : List Spoken) → world.flying ≡ flying → first_hearing flying ≡ Some hearing → refusal topology world hearing ≡ None
       by [] is e = cc
       by (spoken ∷ more) is e =
-          let own : is_from_to spoken.from spoken.to spoken ≡ true =
-          and_on (spoken.from == spoken.from) (spoken.to == spoken.to) (test_same spoken.from spoken.from refl) (test_same spoken.to spoken.to refl) in
-          let word : first_word spoken.from spoken.to world.flying ≡ Some spoken.word =
-          ap (first_word spoken.from spoken.to) is ∙ ap (λ b. cond b (Some spoken.word) (first_word spoken.from spoken.to more)) own in
+          let word : first_word spoken.from spoken.to world.flying ≡ Some spoken.word = ap (first_word spoken.from spoken.to) is ∙ first_flies spoken more in
           subst unrefused e (ap causes word)
         where
           unrefused : Option Step → Type 0

@@ -4,6 +4,7 @@ pub mod Taken
 pub mod Courses
 pub mod Hearings
 pub mod Sound
+pub mod Drains
 pub mod Holding
 pub mod Routed
 pub mod Rows

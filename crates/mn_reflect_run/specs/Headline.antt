@@ -9,7 +9,7 @@ use Rattle.mn_reflect_telling.specs.Mentions.{numbers_of}
 use Rattle.mn_reflect_run.specs.Language.{Script, script_of}
 use Rattle.mn_reflect_run.specs.Course.{ReflectRun}
 use Rattle.mn_reflect_run.specs.Report.{course_of, report}
-use Rattle.mn_reflect_run.specs.Laws.{AreOfTheMesh}
+use Rattle.mn_reflect_run.specs.Laws.{AreOfTheMesh, AreDrained}
 
 -- the lines of the file's script are played over a topology, and what was put is the report of that course
 pub record TellsScript (topology : Network) (script_name : List ℕ) (files : Files) (before : List ℕ) (written : Option (List ℕ)) : Type 0 where
@@ -18,6 +18,7 @@ pub record TellsScript (topology : Network) (script_name : List ℕ) (files : Fi
   pub script_read : option_map (script_of topology) (file files script_name) ≡ Some (Ok script)
   pub played : run ≡ course_of topology script
   pub mesh : AreOfTheMesh topology (numbers_of script.reflectors) run
+  pub drained : AreDrained topology script
   pub told : written ≡ Some (before ++ report topology (numbers_of script.reflectors) run)
 
 -- over that of a file

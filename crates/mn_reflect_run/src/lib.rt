@@ -36,6 +36,8 @@ mod run;
 mod script;
 
 pub use command::{ReflectCommand, ReflectLine};
-pub use laws::where_none_flies_the_printed_tables_are_those_of_the_mesh;
+pub use laws::{
+    each_drain_of_a_script_is_bounded, where_none_flies_the_printed_tables_are_those_of_the_mesh,
+};
 pub use run::reflect;
 pub use script::{Script, read_script};

@@ -7,7 +7,9 @@ ghost use Rattle.mn_reflect_run.specs.Report.{report, course_of};
 ghost use Rattle.mn_reflect_run.specs.Headline.{IsScriptTold, IsReflectTold};
 ghost use Rattle.mn_reflect_run.specs.Answer.{outcome_of, reflect_done, reflect_over, reflect_answer, ScriptIs, ScriptFits};
 
-use crate::laws::where_none_flies_the_printed_tables_are_those_of_the_mesh;
+use crate::laws::{
+    each_drain_of_a_script_is_bounded, where_none_flies_the_printed_tables_are_those_of_the_mesh,
+};
 use crate::play::{Ended, play};
 use crate::report::put_total;
 use crate::script::{Script, read_script};
@@ -157,6 +159,7 @@ fn reflect_script<S: Shelf, O: Sink>(
 {
     topology.laws();
     where_none_flies_the_printed_tables_are_those_of_the_mesh();
+    each_drain_of_a_script_is_bounded();
     match load_script(alloc, topology, script, shelf) {
         Ok(Ok(lines)) => reflect_lines(alloc, topology, &lines, out),
         Ok(Err(outcome)) => refuse(alloc, out, outcome),
@@ -177,7 +180,8 @@ pub fn reflect<S: Shelf, O: Sink>(
     // The outcome and the text are the answer's; a fault or want of memory may come in its place, and then a first part of the text stands.
     ensures answers { ForSome (S.files shelf.old) (λ files. Answers (reflect_answer topology.now script.now files) files (S.files shelf.new) (O.written out.old) (O.written out.new) result) }
     // Where all was done, the report is that of the script's course over the topology. Each table that is printed where no message
-    // flies, each edge has a living session with a reflector and each two reflectors have one, is that of a full mesh.
+    // flies, each edge has a living session with a reflector and each two reflectors have one, is that of a full mesh; and each drain is
+    // bounded by messages in flight, reflectors, edges, directions of living sessions and routes as it begins.
     ensures told { ForSome (S.files shelf.old) (λ files. ForSome (O.written out.old) (λ before.
         IsReflectTold topology.now script.now files before (O.written out.new) result)) }
     // No file changes.

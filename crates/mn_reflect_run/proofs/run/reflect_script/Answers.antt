@@ -14,6 +14,7 @@ returns-in-Ok-Ok-clause-told g c = λ files is before begun.
     let fit = subst (ScriptFits t) c.in-Ok-Ok.field-0-is c.in-Ok-Ok.ensures.fits in
     script_told t c.in-Ok-Ok.lines c.args.script.now files before _ c.reflect_lines.result read.0
     (c.where_none_flies_the_printed_tables_are_those_of_the_mesh.ensures t c.in-Ok-Ok.lines c.laws.ensures fit.0)
+    (c.each_drain_of_a_script_is_bounded.ensures t c.in-Ok-Ok.lines c.laws.ensures fit.0)
     (c.reflect_lines.ensures.text before begun)
 
 pub returns-in-Err-Failed-clause-answers : goal.returns-in-Err-Failed-clause-answers

@@ -1,0 +1,5 @@
+pub mod Talk
+pub mod Laws
+pub mod Keys
+pub mod Alike
+pub mod Joining
