@@ -1,9 +1,10 @@
 -- What is asked of a pair, as it was planned.
-use Rattle.std.proofs.Common.{ℕ, ◌≡◌, ◌<◌, Bool, true, false, List, map, length, get_or, arith, sym, ◌∙◌, ap, Option}
-use Rattle.std.specs.Prelude.{◌&&◌, not}
-use Rattle.std.specs.List.{list_all}
+use Rattle.std.proofs.Common.{ℕ, ◌≡◌, ◌<◌, Bool, true, false, List, map, length, get_or, arith, sym, ◌∙◌, ap, Option, [], ◌∷◌, refl}
+use Rattle.std.specs.Prelude.{◌&&◌, if◌then◌else◌, nat_lt, not}
+use Rattle.std.specs.List.{list_all, list_any}
 use Rattle.std.proofs.lemmas.List.{get_or_default}
 use Rattle.std.proofs.lemmas.List.Folds.{list_all-map}
+use Rattle.mn_base.proofs.Bools.{and_on}
 use Rattle.mn_base.specs.declared.numbers.LinkNo.{LinkNo}
 use Rattle.mn_topo.specs.Network.{Network}
 use Rattle.mn_ledger.specs.Places.{home_of}
@@ -17,8 +18,17 @@ use Rattle.mn_candidates.specs.declared.pairs.Pair.{Pair}
 use Rattle.mn_reach.specs.declared.plan.Candidate.{Candidate}
 use Rattle.mn_reach.specs.declared.plan.Prospect.{Prospect}
 use Rattle.mn_reach.specs.Plans.{IsOf, held_in, links_between, no_pair, no_prospect, pair_at, prospect_at}
-use Rattle.mn_reach.specs.Reaching.{Reaching, failure_of}
+use Rattle.mn_reach.specs.Reaching.{Reaching, failure_of, is_between}
 use Rattle.mn_reach.specs.Spared.{is_whole, is_spared}
+
+-- where no session was ended, none of an edge with a candidate's was
+pub none_ended : (r : Reaching) (h : ℕ) (cs : List Candidate) → r.ended ≡ [] → list_all (λ (c : Candidate). not (is_session_off (failure_of r) h c.route.edge.0)) cs ≡ true
+none_ended r h [] e = refl
+none_ended r h (c ∷ cs) e = and_on _ _ (ap not (never (nat_lt h c.route.edge.0))) (none_ended r h cs e)
+  where
+    never : (b : Bool) → (if b then list_any (is_between h c.route.edge.0) r.ended else list_any (is_between c.route.edge.0 h) r.ended) ≡ false
+    never true = ap (list_any (is_between h c.route.edge.0)) e
+    never false = ap (list_any (is_between c.route.edge.0 h)) e
 
 module _ (t : Network) (r : Reaching) (of : IsOf t r.plan) (k : ℕ) (there : k < length r.plan.pairs) (prospect : Prospect) (is_prospect : prospect ≡ get_or r.plan.prospects k prospect) where
   at_prospect : prospect ≡ prospect_at r.plan k

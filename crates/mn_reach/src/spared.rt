@@ -1,6 +1,7 @@
 //! Pairs whose packets need nothing that failed.
 ghost use Rattle.std.specs.Prelude.{ℕ, ◌≡◌, ◌<◌, length, not, true};
 ghost use Rattle.std.specs.List.{list_all};
+ghost use Rattle.mn_topo.specs.Homes.{home_of};
 ghost use Rattle.mn_failure_laws.specs.Failures.{is_session_off};
 ghost use Rattle.mn_failure_laws.specs.Fates.{fate_under};
 ghost use Rattle.mn_reach.specs.Plans.{IsOf, pair_at};
@@ -9,7 +10,7 @@ ghost use Rattle.mn_reach.specs.Spared.{is_whole, is_spared};
 
 use crate::plan::Candidate;
 use crate::reach::Reach;
-use mn_base::{LinkNo, NodeNo};
+use mn_base::{LinkNo, NodeNo, SiteNo};
 use mn_topo::Topology;
 use mn_way_laws::a_path_that_is_spared_stays;
 
@@ -33,13 +34,21 @@ impl Reach {
             .all(|link| is_on(&self.up, *link) && is_on(&self.ldp, *link))
     }
 
-    /// Whether no session of an edge with those of the candidates was ended.
-    fn keeps_sessions(&self, home: NodeNo, candidates: &[Candidate]) -> bool
+    /// Whether no session of an edge with those of the candidates was ended: each is looked at.
+    fn keeps_each(&self, home: NodeNo, candidates: &[Candidate]) -> bool
         ensures { result ≡ list_all (λ candidate. not (is_session_off (failure_of self.now) home.0 candidate.route.edge.0)) candidates.now }
     {
         candidates
             .iter()
             .all(|candidate| !self.is_ended(home, candidate.route.edge))
+    }
+
+    /// Whether no session of a site's edge with those of the candidates was ended. Mostly none was at all.
+    fn keeps_sessions(&self, topology: &Topology, site: SiteNo, candidates: &[Candidate]) -> bool
+        requires { site.0 < length topology.now.sites }
+        ensures { result ≡ list_all (λ candidate. not (is_session_off (failure_of self.now) (home_of topology.now site.0) candidate.route.edge.0)) candidates.now }
+    {
+        self.ended.is_empty() || self.keeps_each(topology.home_of(site), candidates)
     }
 
     /// Whether nothing failed of what a pair's packets may need: they then fare as if nothing had failed at all.
@@ -54,7 +63,8 @@ impl Reach {
         let prospect = &self.prospects[pair];
         self.are_whole(prospect.links.as_slice())
             && self.keeps_sessions(
-                topology.home_of(self.pairs[pair].site),
+                topology,
+                self.pairs[pair].site,
                 prospect.candidates.as_slice(),
             )
     }
