@@ -157,7 +157,7 @@ module _ (t : Network) (reflectors : List ℕ) where
   EndsQuiet last = last.is_stopped ≡ false → (world_of t reflectors last.steps).flying ≡ []
 
   drain_quiet : (count : ℕ) (run : ReflectRun) → AreFew run → most_steps < length run.steps + count → EndsQuiet (drain_for count t reflectors run)
-  drain_quiet zero run few many goes = absurd (omega (arith, few, many))
+  drain_quiet zero run few many = λ goes. absurd (omega (arith, few, many))
   drain_quiet (suc count) run few many = by (next_hearing t reflectors run) refl (λ r f m. drain_quiet count r f m)
     where
       past : (next : ReflectRun) → EndsQuiet (drain_for count t reflectors next) → (b : Bool) → next.is_stopped ≡ b →

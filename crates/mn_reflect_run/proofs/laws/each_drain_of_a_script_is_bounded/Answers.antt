@@ -1,4 +1,4 @@
-use Rattle.std.proofs.Common.{◌≡◌, ◌∷◌, ◌∙◌, true, ap, arith, length, length-append, subst, sym}
+use Rattle.std.proofs.Common.{◌≡◌, ◌∷◌, true, ap, arith, length, length-append, subst, sym}
 use Rattle.mn_base.proofs.Members.{In, in_front}
 use Rattle.mn_reflect_telling.specs.Mentions.{numbers_of}
 use Rattle.mn_reflect_run.specs.declared.command.ReflectLine.{ReflectLine}
