@@ -6,6 +6,7 @@
 //! | `words` | `text` |
 //! | `topologies`, `network`, `steps` | `topo` |
 //! | `scripts`, `journals` | `script`, `script_lines`, `journal` |
+//! | `failures` | `failures`, `failures_exchange` |
 //! | `generated` | `gen` |
 //! | `devices`, `memory`, `short`, `gathers` | `shelf`, `sink`, `short`, `gather` |
 //!
@@ -14,6 +15,7 @@
 
 mod devices;
 mod escapes;
+mod failures;
 mod gathers;
 mod generated;
 mod journals;
@@ -25,6 +27,7 @@ mod steps;
 mod topologies;
 mod words;
 
+use failures::{exchange_row, failures_row};
 use gathers::{Gathering, gather_row};
 use generated::generated_row;
 use journals::journal_row;
@@ -63,6 +66,8 @@ impl World for Readers {
             b"topo" => topology_row(alloc, &mut self.topologies, call),
             b"script" => script_row(alloc, &self.topologies, call),
             b"script_lines" => lines_row(alloc, call),
+            b"failures" => failures_row(alloc, &self.topologies, call),
+            b"failures_exchange" => exchange_row(alloc, &self.topologies, call),
             b"journal" => journal_row(alloc, &self.topologies, call),
             b"gen" => generated_row(alloc, &mut self.topologies, call),
             b"shelf" => shelf_row(alloc, &mut self.memory, call),
