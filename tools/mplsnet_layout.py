@@ -292,6 +292,8 @@ BETWEEN = {0: 340, 1: 320}  # the way between them, by the axis along which they
 
 def joined(one, other, joints, axis):
     """The places of two networks (nodes, sites) beside each other (axis 0) or one below the other (1), their joined sites as near as may be."""
+    if not one[0] or not other[0]:
+        return one, other
     across = 1 - axis
     marks = [one[1][a] for a, _ in joints], [other[1][b] for _, b in joints]
     one, other = turned_to(one, marks[0], axis, 1), turned_to(other, marks[1], axis, -1)

@@ -2,6 +2,7 @@
 // they can be read at any: `form.size` is how many units one of their own takes.
 
 const SVG = "http://www.w3.org/2000/svg";
+// Makes an element of the drawing.
 function make(name, attributes = {}, parent, text) {
   const element = document.createElementNS(SVG, name);
   for (const [key, value] of Object.entries(attributes)) element.setAttribute(key, value);
@@ -22,16 +23,22 @@ const layer = Object.fromEntries(LAYERS.map(name => [name, make("g", {id: name},
 // Sizes: half the width and half the height, in their own units, in full or with the name alone. A name is 15 or 12 of them high.
 
 for (const one of nodes) Object.assign(one, {full: [Math.max(52, 4.4 * one.name.length + 12), 23], short: [3.6 * one.name.length + 7, 11]});
-for (const one of sites) Object.assign(one, {full: [Math.max(58, 3.7 * (one.name.length + 5) + 8, 3.4 * (one.vrf.length + 4) + 8), 27], short: [3.5 * one.name.length + 6, 9]});
+for (const one of sites) {
+  const wide = Math.max(58, 3.7 * (one.name.length + 5) + 8, 3.4 * (one.vrf.length + 4) + 8);
+  Object.assign(one, {full: [wide, 27], short: [3.5 * one.name.length + 6, 9]});
+}
 const all = [...nodes, ...sites];
 const SMALLEST = 9.6 / 12;  // of the screen: names of 9.6 pixels
 let form = {full: true, size: 1}, scale = 1;
 
+// Whether two boxes lie on each other.
 function clash(one, other) {
   const far = Math.abs(one.y - other.y) - (one.half[1] + other.half[1]);
   return far < 0 && Math.abs(one.x - other.x) - (one.half[0] + other.half[0]) < 0;
 }
+// The boxes of nodes or sites, whole or with their names alone, at a size.
 function boxes(some, kind, size) { return some.map(one => ({x: one.x, y: one.y, half: one[kind].map(half => (half + 1.5) * size)})); }
+// Whether no box lies on another at this size.
 function isClear(kind, size) {
   const placed = boxes(all, kind, size).sort((one, other) => one.x - other.x), widest = Math.max(0, ...placed.map(one => one.half[0]));
   return placed.every((one, at) => {
@@ -56,24 +63,29 @@ function crowd() {
   }
 }
 
+// A place between two.
 function between(a, b, share) { return {x: a.x + (b.x - a.x) * share, y: a.y + (b.y - a.y) * share}; }
+// The direction across the way from one place to another.
 function normal(a, b) {
   const length = Math.hypot(b.x - a.x, b.y - a.y) || 1;
   return {x: -(b.y - a.y) / length, y: (b.x - a.x) / length};
 }
 // Above a level link where it goes from left to right, below it where it goes back.
 function side(a, b) { const n = normal(a, b); return {x: -n.x, y: -n.y}; }
+// Where the way to another node leaves the node's box, and somewhat farther.
 function rim(from, to, more) {
   const dx = to.x - from.x, dy = to.y - from.y, length = Math.hypot(dx, dy) || 1;
   const reach = Math.min(from.wide / (Math.abs(dx / length) || 1e-9), from.high / (Math.abs(dy / length) || 1e-9)) + more * form.size;
   return {x: from.x + dx / length * Math.min(reach, length * .45), y: from.y + dy / length * Math.min(reach, length * .45)};
 }
+// A place on a link, a share of the way from a to b.
 function onLink(a, b, share) { return between(rim(a, b, 12), rim(b, a, 12), share); }
 const linkBetween = {};
 links.forEach((link, at) => { linkBetween[`${link.a} ${link.b}`] = linkBetween[`${link.b} ${link.a}`] = at; });
 
 // What is written at a link; nothing where costs and delays say nothing.
 const linkWords = link => (told === "reflect" ? "" : told ? `cost ${link.cost}` : runWords(link));
+// What a run's link has: cost, delay and loss.
 const runWords = link => `cost ${link.cost} \u00b7 delay ${link.delay}${link.loss ? ` \u00b7 loses 1 in ${link.loss}` : ""}`;
 const counted = {};
 for (const link of links) counted[linkWords(link)] = (counted[linkWords(link)] || 0) + 1;
@@ -177,19 +189,24 @@ function frameNets() {
 // Sessions of BGP, as arcs that keep away from the middle: all of a small network, and else the chosen node's.
 const FEW_SESSIONS = 15;
 const bgpPairs = new Set(sessions.filter(([kind]) => kind === "bgp").map(one => pair(...one)));
-const middle = nodes.length ? {x: nodes.reduce((sum, one) => sum + one.x, 0) / nodes.length, y: nodes.reduce((sum, one) => sum + one.y, 0) / nodes.length} : {x: 0, y: 0};
+// The mean of the nodes' places.
+const meanOf = axis => nodes.reduce((sum, one) => sum + one[axis], 0) / (nodes.length || 1);
+const middle = {x: meanOf("x"), y: meanOf("y")};
+// Where the arc between two nodes bends to.
 function bend(a, b) {
   const mid = between(a, b, .5), n = normal(a, b), length = Math.hypot(b.x - a.x, b.y - a.y);
   const away = (mid.x - middle.x) * n.x + (mid.y - middle.y) * n.y;
   const sign = Math.abs(away) > 8 ? Math.sign(away) : n.y < 0 ? 1 : -1;
   return {x: mid.x + n.x * sign * (60 + length * .22), y: mid.y + n.y * sign * (60 + length * .22)};
 }
+// A place on the way of a message, a share of it.
 function along(kind, a, b, share) {
   if (kind === "ldp") return between(rim(a, b, 16), rim(b, a, 16), share);
   const c = bend(a, b);
   return between(between(a, c, share), between(c, b, share), share);
 }
 const arcs = {};
+// Draws the sessions of BGP that are shown.
 function drawArcs(state, step) {
   const shown = {};
   for (const [key, session] of Object.entries(state.living)) {
@@ -206,6 +223,7 @@ function drawArcs(state, step) {
 // Frames: a pile of labels, the top one first, over the packet.
 
 const CHIP = {w: 78, h: 19};
+// A frame over its place: its labels with their TTLs, and the packet.
 function chip(parent, place, away, stack, packet, ttl) {
   const rows = stack.length + 1, high = rows * CHIP.h, number = packets[packet].n;
   const reach = 11 + Math.abs(away.x) * CHIP.w / 2 + Math.abs(away.y) * high / 2;
@@ -258,10 +276,12 @@ function drawFlying(state, without) {
     }
   }
 }
+// A frame as a dot.
 function dot(place, frame) {
   const circle = make("circle", {cx: place.x, cy: place.y, r: 4 * form.size, class: `frame ${told ? CHIP_KINDS[frame.kind] : ""}`}, layer.flying);
   make("title", {}, circle, told ? frame.rows.join(" ") : `packet ${packets[frame.p].n}: labels ${frame.st.map(entry => entry[0]).join(" ")}`);
 }
+// Where a frame stands.
 function spotOf(state, flight) {
   const key = `${flights[flight].a} ${flights[flight].b}`;
   return spots(state, key).find(one => one.flight === flight);
@@ -274,12 +294,15 @@ function inSight(x, half) {
 
 // What moves in a step, a share of the way through it.
 
+// Words at a place, in sight.
 function mark(place, words, kind, parent = layer.moving) {
   const x = inSight(place.x, words.length * 4.4 * form.size) / form.size;
   make("text", {class: `mark ${kind}`, x, y: 5}, make("g", {transform: `translate(${place.x} ${place.y}) scale(${form.size})`}, parent), words);
 }
+// A place below a node or site.
 function below(one) { return {x: one.x, y: one.y + one.high + 16 * form.size}; }
 
+// Draws what moves in a step, a share of the way through it.
 function drawMove(before, after, step, share) {
   layer.moving.replaceChildren();
   if (!step) return;
@@ -310,6 +333,7 @@ function ring(one, share) {
   make("rect", {...place, class: "ring", opacity: 1 - share * .55}, layer.moving);
 }
 
+// Marks the links whose frames time has passed.
 function drawOverdue(late) {
   const ends = flight => `${flights[flight].a} ${flights[flight].b}`;
   for (const way of new Set(late.map(ends))) {
@@ -320,6 +344,7 @@ function drawOverdue(late) {
   }
 }
 
+// Draws a packet's step: it comes to a node, and then goes on or ends.
 function drawPacket(before, after, step, share) {
   const turn = .45, up = {x: 0, y: -1}, one = nodes[step.n], name = `#${packets[step.p].n}`;
   const first = Math.min(1, share / turn), second = Math.max(0, (share - turn) / (1 - turn));
@@ -357,6 +382,7 @@ function drawPacket(before, after, step, share) {
 
 // One state on the page.
 
+// Draws links, nodes and sites as they stand after a step.
 function drawState(state, step) {
   const way = followed === null ? null : state.ways[followed], used = new Set();
   if (way) way.path.slice(1).forEach((to, hop) => used.add(linkBetween[`${way.path[hop]} ${to}`]));

@@ -1,16 +1,24 @@
 // The panels, the way through the journal, the keys, and what of the drawing is seen.
 
+// Makes an element of the page.
 function node(name, attributes = {}, ...inner) {
   const element = document.createElement(name);
-  for (const [key, value] of Object.entries(attributes)) key === "class" ? element.className = value : key === "click" ? element.addEventListener("click", value) : element.setAttribute(key, value);
+  for (const [key, value] of Object.entries(attributes)) {
+    if (key === "class") element.className = value;
+    else if (key === "click") element.addEventListener("click", value);
+    else element.setAttribute(key, value);
+  }
   element.append(...inner.filter(one => one != null));
   return element;
 }
+// A table; the first of each row says whether it is marked.
 function table(heads, rows) {
   const body = rows.map(([hot, ...cells]) => node("tr", {class: hot ? "hot" : ""}, ...cells.map(cell => node("td", {}, cell))));
   return node("table", {}, node("thead", {}, node("tr", {}, ...heads.map(head => node("th", {}, head)))), node("tbody", {}, ...body));
 }
+// A state of a session.
 const pill = name => node("span", {class: `state ${grade(name)}`}, name);
+// A remark.
 const muted = (...words) => node("p", {class: "muted"}, ...words);
 const MOST = 200;  // rows of a table
 const FEW = 60;  // sessions that are all told
@@ -27,7 +35,8 @@ const runPanels = {
     const body = rows.map(p => {
       const row = node("tr", {class: p === followed || step && step.p === p ? "hot" : "", click: () => follow(p)});
       const way = state.ways[p] || finals[p], later = state.ways[p] ? "" : "later: ";
-      const number = node("button", {class: "packet", title: "follow this packet"}, `${packets[p].n}`), path = way.path.map(n => nodes[n].name).join(" \u2192 ");
+      const number = node("button", {class: "packet", title: "follow this packet"}, `${packets[p].n}`);
+      const path = way.path.map(n => nodes[n].name).join(" \u2192 ");
       row.append(node("td", {}, number), node("td", {}, packetWords(p)), node("td", {}, path), node("td", {}, later, outcome(way)));
       return row;
     });
@@ -70,7 +79,8 @@ const runPanels = {
     return [
       node("h2", {}, `${run.nets ? `Network ${one.net + 1}: ` : ""}${one.name} ${one.loopback}`), ...one.vrfs.map(vrf => node("div", {class: "line"}, vrf)),
       ...here.map(site => node("div", {class: "line"}, `site ${site.name}, VRF ${site.vrf}: ${site.prefixes.join(" ")}`)),
-      node("h2", {}, links.length > FEW ? "Links by its view: its own, and those that aren't up or have changed" : "Links by its view"), table(["link", "its view", "is", ""], views),
+      node("h2", {}, links.length > FEW ? "Links by its view: its own, and those that aren't up or have changed" : "Links by its view"),
+      table(["link", "its view", "is", ""], views),
       node("h2", {}, "Labels that it gives in this run"), table(["label", "for"], one.labels.map(([label, what]) => [false, `${label}`, what])),
     ];
   },
@@ -97,21 +107,26 @@ const runPanels = {
 const panels = told ? toldPanels(runPanels) : runPanels;
 const placeOf = Object.fromEntries(packets.map((packet, p) => [packet.n, p]));
 
+// Where a packet came from.
 function packetWords(p) {
   const {site, record, ip} = packets[p];
   return node("span", {}, `site ${site}`, node("br"), node("span", {class: "muted"}, ip || `record ${record}`));
 }
+// What became of a packet so far.
 function outcome(way) {
   if (way.end === "delivered") return node("span", {class: "good"}, `\u2713 delivered ${way.words}`);
   if (way.end) return node("span", {class: "poor"}, `\u2715 ${way.words}`);
   return "flying";
 }
+// The steps of the packet that is followed.
 function followedSteps() {
   if (followed === null) return [];
   const {n, why} = packets[followed];
-  const lines = stepsOf[followed].map(s => node("div", {class: `line step ${s === at - 1 ? "hot" : s < at ? "done" : "later"}`, click: () => go(s + 1)}, `step ${FIRST + s + 1}: ${steps[s].w}`));
+  const when = s => (s === at - 1 ? "hot" : s < at ? "done" : "later");
+  const lines = stepsOf[followed].map(s => node("div", {class: `line step ${when(s)}`, click: () => go(s + 1)}, `step ${FIRST + s + 1}: ${steps[s].w}`));
   const all = node("button", {class: "plain", click: () => follow(null)}, "all packets");
-  return [node("section", {class: "followed"}, node("h2", {}, `Packet ${n}: `, outcome(finals[followed]), " ", all), ...(why ? [node("p", {class: "why"}, why)] : []), ...lines)];
+  const head = node("h2", {}, `Packet ${n}: `, outcome(finals[followed]), " ", all), reason = why ? [node("p", {class: "why"}, why)] : [];
+  return [node("section", {class: "followed"}, head, ...reason, ...lines)];
 }
 
 // What is sought: a site, a VPN, a verdict, and words.
@@ -119,6 +134,7 @@ const sought = {site: "", vpn: "", verdict: "", words: ""};
 let matches = [];
 const boxOf = {site: $("by-site"), vpn: $("by-vpn"), verdict: $("by-verdict"), words: $("search")};
 const kinds = ["delivered", "dropped", "flying"];
+// The order of names, with numbers in them by their size.
 const byName = (one, other) => one.localeCompare(other, "en", {numeric: true});
 const offered = {
   site: [...new Set(packets.map(packet => packet.site))].sort(byName), vpn: [...new Set(packets.map(packet => vpns[sites[packet.s].vpn]))].sort(byName),
@@ -129,7 +145,9 @@ for (const [key, box] of Object.entries(boxOf)) {
   const word = () => (key === "words" ? box.value : box.selectedIndex ? box.value : "");
   box.addEventListener(key === "words" ? "input" : "change", () => { sought[key] = word(); seek(); });
 }
+// Finds the packets that are sought.
 function seek() { matches = found(sought); $("panel").dataset.tab = ""; show(); }
+// Lets go of what was sought and of the packet that is followed.
 function clear() {
   for (const [key, box] of Object.entries(boxOf)) { sought[key] = ""; key === "words" ? box.value = "" : box.selectedIndex = 0; }
   follow(null);
@@ -139,12 +157,14 @@ function next(way) {
   const some = Object.values(sought).some(Boolean) ? matches : packets.map((_, p) => p), here = some.indexOf(followed);
   if (some.length) follow(some[here < 0 ? 0 : (here + way + some.length) % some.length]);
 }
+// Follows a packet, from its first step.
 function follow(p) {
   followed = p;
   if (p !== null) { halt(); tab = "Packets"; chosen = true; at = (stepsOf[p][0] ?? at - 1) + 1; }
   $("panel").dataset.tab = "";
   show();
 }
+// Goes to a box in which packets are sought.
 function ask(key) { if (told) return; choose("Packets"); boxOf[key].focus(); }
 
 // Sessions until a packet is sent, unless the reader has chosen.
@@ -155,7 +175,9 @@ for (const name of NAMES) {
   button.addEventListener("click", event => { if (event.detail) button.blur(); choose(name); });
   $("tabs").append(button);
 }
+// Shows a panel.
 function choose(name) { tab = name; chosen = true; $("panel").dataset.tab = ""; show(); }
+// Chooses a node, and tells of it.
 function pick(at, stay) {
   picked = at;
   shape();
@@ -163,6 +185,7 @@ function pick(at, stay) {
   else choose(tab === "Sessions" ? "Sessions" : "Node");
 }
 
+// Fills the panel and the head of the page.
 function drawPanels(state, step, at) {
   if (!chosen && (state.ways.length || run.start)) tab = "Packets";
   [...$("tabs").children].forEach(button => button.setAttribute("aria-selected", button.textContent === tab));
@@ -187,16 +210,21 @@ function runCounts(state) {
   const flying = sent - delivered - dropped - refused;
   return `packets ${sent} \u00b7 delivered ${delivered} \u00b7 dropped ${dropped} \u00b7 flying ${flying}${refused ? ` \u00b7 refused ${refused}` : ""}`;
 }
+// The sentence of a step, with why a packet fell.
 function saidOf(step) { return step.drop !== undefined && packets[step.p].why ? `${step.x} ${packets[step.p].why}` : step.x; }
 
 // Going through the journal.
 
 let at = 0, moving = null, playing = false;
+// How many times faster than usual it plays.
 const pace = () => +$("pace").value;
 const still = matchMedia("(prefers-reduced-motion: reduce)").matches;
+// Whether the long keys stop at a step.
 const isPacket = step => (told ? step.k !== "hear" : step.p !== undefined || (step.cut || []).length > 0);
+// How long a step's motion takes, in milliseconds.
 const length = step => (step.p !== undefined || told && step.k === "hear" ? (told ? 1000 : 1500) : step.k === "hear" ? 650 : 450) / pace();
 
+// Shows the state after the present step.
 function show() {
   const step = steps[at - 1], before = at ? stateAfter(at - 1) : null, state = stateAfter(at);
   drawState(state, step);
@@ -206,7 +234,9 @@ function show() {
   $("slider").value = at;
   history.replaceState(null, "", `#${FIRST + at}`);
 }
+// Ends a motion.
 function rest() { if (moving) cancelAnimationFrame(moving); moving = null; }
+// Goes to a step.
 function go(to) { rest(); at = Math.max(0, Math.min(steps.length, to)); show(); }
 
 // One step on, with its motion; then what follows.
@@ -237,6 +267,7 @@ function setWait(then, time) {
   const look = now => { if (now - begun >= time) then(); else moving = requestAnimationFrame(look); };
   return requestAnimationFrame(look);
 }
+// Plays on from the present step, from the start where that is the last.
 function play() {
   if (at >= steps.length) go(0);
   playing = true;
@@ -244,7 +275,9 @@ function play() {
   const next = () => { if (playing) stepOn(next); };
   next();
 }
+// Plays no further.
 function stop() { playing = false; $("play").textContent = "Play"; }
+// Stops at once, with the step that was under way done.
 function halt() { const was = playing; stop(); if (was || moving) { rest(); show(); } }
 // On or back to a step of the packet that is followed, or else of any.
 function hop(way) {
@@ -254,11 +287,13 @@ function hop(way) {
   else while (to > 0 && to < steps.length && !isPacket(steps[to - 1])) to += way;
   go(to);
 }
+// A faster or slower pace.
 function change(way) { const box = $("pace"); box.selectedIndex = Math.max(0, Math.min(box.options.length - 1, box.selectedIndex + way)); }
 
 const act = {
   first: () => { halt(); go(0); }, last: () => { halt(); go(steps.length); }, back: () => { halt(); go(at - 1); }, on: () => { halt(); stepOn(); },
-  "hop-back": () => hop(-1), "hop-on": () => hop(1), play: () => playing ? halt() : play(), help: () => $("keys").open ? $("keys").close() : $("keys").showModal(),
+  "hop-back": () => hop(-1), "hop-on": () => hop(1), play: () => playing ? halt() : play(),
+  help: () => $("keys").open ? $("keys").close() : $("keys").showModal(),
 };
 // A button keeps the focus only where the keyboard brought it there, so that the blank plays.
 for (const [id, does] of Object.entries(act)) $(id).addEventListener("click", event => { if (event.detail) $(id).blur(); does(); });
@@ -275,7 +310,8 @@ addEventListener("keydown", event => {
   if (isBox && event.key === "Escape") { target.blur(); clear(); return; }
   if (isBox) return;
   if (event.key === " " && target.tagName === "BUTTON") return;
-  const key = event.key, keys = {ArrowRight: event.shiftKey ? "hop-on" : "on", ArrowLeft: event.shiftKey ? "hop-back" : "back", " ": "play", Home: "first", End: "last"};
+  const key = event.key, [on, back] = event.shiftKey ? ["hop-on", "hop-back"] : ["on", "back"];
+  const keys = {ArrowRight: on, ArrowLeft: back, " ": "play", Home: "first", End: "last"};
   if (key === "Enter" && drawn.nodes.includes(target)) pick(drawn.nodes.indexOf(target));
   else if (keys[key]) act[keys[key]]();
   else if (KEYS[key]) KEYS[key]();
@@ -298,6 +334,7 @@ marked.forEach((kind, part) => { if (kind) make("rect", {x: part + .1, y: 0, wid
 
 // What of the drawing is in view: all of it, or what keys, wheel, mouse and fingers choose.
 let view, dragged = false, isWhole = true;
+// Shows all of the drawing.
 function whole() {
   const bottom = $("legend").open ? 46 : 26, frame = run.nets ? 56 : 0, whole = fit(true, bottom, frame);
   // Names alone where whole boxes have no room; not so large that boxes would be whole again, and out of view.
@@ -312,7 +349,8 @@ function fit(isFull, bottom, frame) {
   let pixels = 1, view;
   for (let turn = 0; turn < 5; turn++) {
     const reach = (one, which) => (isFull ? one.full[which] * Math.max(1, .82 / pixels) : one.short[which] * .85 / pixels);
-    const span = (axis, which) => [Math.min(0, ...all.map(one => one[axis] - reach(one, which))), Math.max(0, ...all.map(one => one[axis] + reach(one, which)))];
+    const ends = (axis, which, way) => all.map(one => one[axis] + way * reach(one, which));
+    const span = (axis, which) => [Math.min(0, ...ends(axis, which, -1)), Math.max(0, ...ends(axis, which, 1))];
     const [left, right] = span("x", 0), [top, below] = span("y", 1), most = all.length > 30 ? 2 : 1.1;
     pixels = Math.max(.01, Math.min((width - 20 - frame) / (right - left || 1), (height - 24 - bottom - frame) / (below - top || 1), most));
     const wide = width / pixels, high = (height - bottom) / pixels;
@@ -320,6 +358,7 @@ function fit(isFull, bottom, frame) {
   }
   return {view, isFull: formAt(pixels).full};
 }
+// Shows what is to be seen, with names as large as it takes.
 function look() {
   net.setAttribute("viewBox", `${view.x} ${view.y} ${view.w} ${view.h}`);
   const {width, height} = net.getBoundingClientRect(), was = scale;
@@ -331,10 +370,12 @@ function look() {
   if (started) show();
 }
 let shaped = false, started = false;
+// The place in the drawing where the mouse or a finger is.
 function inView(event) {
   const place = new DOMPoint(event.clientX, event.clientY).matrixTransform(net.getScreenCTM().inverse());
   return {x: place.x, y: place.y};
 }
+// Shows more or less around a place.
 function zoom(share, here = {x: view.x + view.w / 2, y: view.y + view.h / 2}) {
   const most = 8 / scale, least = .04 / scale;
   share = 1 / Math.max(least, Math.min(most, 1 / share));
@@ -344,8 +385,11 @@ function zoom(share, here = {x: view.x + view.w / 2, y: view.y + view.h / 2}) {
 net.addEventListener("wheel", event => { event.preventDefault(); zoom(Math.exp(Math.sign(event.deltaY) * .15), inView(event)); }, {passive: false});
 // One finger, or the mouse, moves the drawing; two also change how large it is.
 const held = new Map();
+// The mean of numbers.
 const mean = numbers => numbers.reduce((sum, one) => sum + one, 0) / numbers.length;
+// The middle of the fingers.
 const centre = () => ({clientX: mean([...held.values()].map(one => one.clientX)), clientY: mean([...held.values()].map(one => one.clientY))});
+// How far two fingers are apart.
 const spread = () => { const [one, other] = [...held.values()]; return other ? Math.hypot(one.clientX - other.clientX, one.clientY - other.clientY) : 0; };
 net.addEventListener("pointerdown", event => { if (!held.size) dragged = false; held.set(event.pointerId, event); });
 net.addEventListener("pointermove", event => {
@@ -376,6 +420,7 @@ for (const [colour, words, shape] of told ? toldLegend() : runLegend) {
 if (links.length > 1 && common) $("legend").append(node("span", {}, `links without words: ${common}`));
 if (told) {
   $("keys").querySelectorAll("[data-run]").forEach(row => row.remove());
+  $("hop-keys").textContent = "on or back to a step that isn't a reception";
   $("hop-back").title = "back to a step that isn't a reception (Shift and left)";
   $("hop-on").title = "on to a step that isn't a reception (Shift and right)";
 }

@@ -96,6 +96,7 @@ function apply(state, step, number) {
 // Some states are kept, so that one can go back without doing all steps again.
 const kept = [start()];
 let last = {count: 0, state: kept[0]};
+// The state after so many steps.
 function stateAfter(count) {
   const slot = Math.min(Math.floor(count / EVERY), kept.length - 1), near = last.count <= count && last.count >= slot * EVERY;
   const from = near ? last.count : slot * EVERY, state = copy(near ? last.state : kept[slot]);
@@ -131,6 +132,7 @@ steps.forEach((step, number) => {
   if (!told) for (const flight of step.cut || []) stepsOf[flights[flight].p].push(number);
 });
 const finals = stateAfter(steps.length).ways;
+// How a packet ends: its rule where it is dropped.
 const verdictOf = p => finals[p].end === "dropped" ? finals[p].words.split(" at ")[0] || "dropped" : finals[p].end || "flying";
 const verdicts = [...new Set(packets.map((_, p) => verdictOf(p)))].sort();
 

@@ -134,6 +134,7 @@ function toldMove(before, step, share) {
 
 // A message as a chip: its rows of words over its place.
 const CHIP_KINDS = {advert: "outer", announce: "outer", withdraw: "gone", open: "ip", keepalive: "ip"};
+// A message over its place, in rows of words.
 function wordChip(parent, place, away, {kind, rows}) {
   const few = rows.map(row => (row.length > 20 ? `${row.slice(0, 18)}\u2026` : row)).filter(Boolean);
   const wide = Math.max(...few.map(row => row.length)) * 6.9 + 14, high = few.length * CHIP.h;

@@ -12,13 +12,16 @@ EXAMPLES = Path(__file__).resolve().parents[1] / "examples"
 if (EXAMPLES / "reference.py").is_file():
     sys.path.append(str(EXAMPLES))
 
-import reference  # noqa: E402
-import reference_flood  # noqa: E402, F401
-import reference_inputs  # noqa: E402
-import reference_join  # noqa: E402, F401
-import reference_reflect  # noqa: E402, F401
-import reference_routes  # noqa: E402, F401
-import reference_walks  # noqa: E402, F401
+try:
+    import reference
+    import reference_flood  # noqa: F401
+    import reference_inputs
+    import reference_join  # noqa: F401
+    import reference_reflect  # noqa: F401
+    import reference_routes  # noqa: F401
+    import reference_walks  # noqa: F401
+except ModuleNotFoundError as error:
+    raise Fault(f"there is no {error.name}.py: it stands in examples/ of the source, and beside the tools where 'make install' put them") from None
 
 
 def read(path, reader, *known):

@@ -332,6 +332,16 @@ class InABrowser(unittest.TestCase):
         total = report[-1].split()
         self.assertEqual([int(total[at]) for at in (2, 4, 6, 8)], browser.value("(s => [s.sent, s.delivered, s.dropped, s.sent - s.delivered - s.dropped])(stateAfter(steps.length))"))
 
+    def test_networks_without_a_node(self):
+        empty = self.folder / "empty"
+        empty.write_text("")
+        capture = EXAMPLES["join"] / "capture.pcap"
+        for command, inputs in (("flood", [empty] * 2), ("reflect", [empty] * 2), ("join", [empty, EXAMPLES["join"] / "topology1.toml", empty, empty, capture])):
+            self.pages["empty"] = self.folder / f"empty-{command}.html"
+            subprocess.run([sys.executable, TOOL, command, *inputs, self.pages["empty"]], check=True)
+            self.assertEqual(0, self.opened("empty").value("(act.on(), at)"), command)
+        del self.pages["empty"]
+
     def test_it_plays_to_the_end(self):
         browser = self.opened("flood", at=7)
         browser.value("$('pace').value = 8")
