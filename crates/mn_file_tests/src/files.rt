@@ -82,9 +82,13 @@ fn each_file_has_the_name_of_its_number(rt: HostRuntime) -> Result<(), Fail> {
     assert!(rt; is_named(&names, back, "f/a.bgp+p.pcap.ldp"));
     let forth = said_file(&topology, LinkNo(2), Dir::Forth);
     assert!(rt; is_named(&names, forth, "f/c+p.pcap.ldp"));
-    assert!(rt; is_named(&names, told(alloc, &topology, 0, 2)?, "f/a.bgp+b.bgp"));
-    assert!(rt; is_named(&names, told(alloc, &topology, 2, 0)?, "f/b+a.bgp.bgp"));
-    assert!(rt; is_named(&names, told(alloc, &topology, 2, 3)?, "f/b+c.bgp"));
+    for (edge, peer, name) in [
+        (0, 2, "f/a.bgp+b.bgp"),
+        (2, 0, "f/b+a.bgp.bgp"),
+        (2, 3, "f/b+c.bgp"),
+    ] {
+        assert!(rt; is_named(&names, told(alloc, &topology, edge, peer)?, name));
+    }
     assert!(rt; told(alloc, &topology, 3, 2)? == 17);
     assert!(rt; is_named(&names, 17, "f/c+b.bgp"));
     Ok(())

@@ -1,8 +1,8 @@
 //! One line of each table, as it is to be read.
-ghost use Rattle.std.specs.Prelude.{◌≡◌, length};
+ghost use Rattle.std.specs.Prelude.{◌≡◌, ◌<◌, length, IsTrue};
 
 use mn_base::{LinkNo, NodeNo, SiteNo, VrfNo};
-use mn_edge::MemSink;
+use mn_edge::{DeviceBad, MemSink};
 use mn_lines::Page;
 use mn_states::{BgpState, LdpState};
 use mn_tables::{
@@ -28,83 +28,103 @@ route red1 10.2.0.0/16 vrf red2 site b\n\
 route red1 10.3.0.0/16 edge pe2 label 18\n\
 route red1 10.4.0.0/16 edge pe2 label 19 unresolved\n";
 
-fn link_count(topology: &Topology) -> usize
-    ensures { result ≡ length topology.now.links }
+const PE1: NodeNo = NodeNo(0);
+
+const P: NodeNo = NodeNo(1);
+
+const PE2: NodeNo = NodeNo(2);
+
+/// The links from pe1 to p and from p to pe2.
+const FIRST: LinkNo = LinkNo(0);
+
+const SECOND: LinkNo = LinkNo(1);
+
+const RED1: VrfNo = VrfNo(0);
+
+const RED2: VrfNo = VrfNo(1);
+
+/// A line, by what it is given.
+#[derive(Clone, Copy)]
+enum Line<'a> {
+    Link(LinkNo, bool, u32),
+    Walk(NodeNo, NodeNo, Option<u32>, Option<NodeNo>),
+    Ldp(LinkNo, Option<LdpState>, Option<LdpState>),
+    Bgp(NodeNo, NodeNo, BgpState, BgpState),
+    Counts(u64, u64),
+    Frames(LinkNo, Dir, u64),
+    Own(VrfNo, &'a [u8], SiteNo),
+    Near(VrfNo, &'a [u8], VrfNo, SiteNo),
+    Far(VrfNo, &'a [u8], NodeNo, u32, bool),
+}
+
+use Line::{Bgp, Counts, Far, Frames, Ldp, Link, Near, Own, Walk};
+
+const GIVEN: [Line<'static>; 13] = [
+    Link(SECOND, false, 2),
+    Walk(PE1, PE2, Some(30), Some(P)),
+    Walk(PE1, PE2, None, None),
+    Ldp(FIRST, Some(LdpState::Operational), Some(LdpState::OpenRec)),
+    Ldp(SECOND, None, None),
+    Bgp(PE1, PE2, BgpState::OpenConfirm, BgpState::OpenSent),
+    Counts(3, 0),
+    Frames(FIRST, Dir::Forth, 0),
+    Frames(SECOND, Dir::Back, 5),
+    Own(RED1, b"10.1.0.0/16", SiteNo(0)),
+    Near(RED1, b"10.2.0.0/16", RED2, SiteNo(1)),
+    Far(RED1, b"10.3.0.0/16", PE2, 18, false),
+    Far(RED1, b"10.4.0.0/16", PE2, 19, true),
+];
+
+fn is_there(topology: &Topology, link: LinkNo) -> bool
+    ensures { IsTrue result → link.0 < length topology.now.links }
 {
-    topology.links().len()
+    usize::from(link.0) < topology.links().len()
+}
+
+/// Puts a line. One of a link that isn't there counts as a put that fails.
+fn put(
+    out: &mut MemSink,
+    page: &mut Page,
+    topology: &Topology,
+    line: Line<'_>,
+) -> Result<(), DeviceBad> {
+    match line {
+        Link(link, up, changes) if is_there(topology, link) => {
+            put_link(out, page, topology, link, up, changes)
+        }
+        Walk(from, to, cost, hop) => put_walk(out, page, topology, from, to, cost, hop),
+        Ldp(link, first, second) if is_there(topology, link) => {
+            put_ldp(out, page, topology, link, first, second)
+        }
+        Bgp(a, b, first, second) => put_bgp(out, page, topology, a, b, first, second),
+        Counts(notices, messages) => put_counts(out, page, notices, messages),
+        Frames(link, dir, count) if is_there(topology, link) => {
+            put_frames(out, page, topology, link, dir, count)
+        }
+        Own(vrf, prefix, site) => put_own_route(out, page, topology, vrf, prefix, site),
+        Near(vrf, prefix, from, site) => {
+            put_near_route(out, page, topology, vrf, prefix, from, site)
+        }
+        Far(vrf, prefix, edge, label, unresolved) => {
+            put_far_route(out, page, topology, vrf, prefix, edge, label, unresolved)
+        }
+        _ => Err(DeviceBad::Failed),
+    }
+}
+
+fn put_all(out: &mut MemSink, page: &mut Page, topology: &Topology) -> Result<(), DeviceBad> {
+    for line in GIVEN {
+        put(out, page, topology, line)?;
+    }
+    page.end(out)
 }
 
 #[test]
 fn lines_say_what_they_are_given(rt: HostRuntime) -> Result<(), Fail> {
-    let topology: Topology = row(rt.alloc())?;
+    let topology = row(rt.alloc())?;
     let mut page = Page::new(rt.alloc())?;
     let mut sink = MemSink::new(rt.alloc(), Vec::new(rt.alloc()));
-    let out = &mut sink;
-    let (pe1, pe2) = (NodeNo(0), NodeNo(2));
-    let (first, second) = (LinkNo(0), LinkNo(1));
-    assert_eq!(rt; link_count(&topology), 2);
-    put_link(out, &mut page, &topology, second, false, 2)?;
-    put_walk(
-        out,
-        &mut page,
-        &topology,
-        pe1,
-        pe2,
-        Some(30),
-        Some(NodeNo(1)),
-    )?;
-    put_walk(out, &mut page, &topology, pe1, pe2, None, None)?;
-    put_ldp(
-        out,
-        &mut page,
-        &topology,
-        first,
-        Some(LdpState::Operational),
-        Some(LdpState::OpenRec),
-    )?;
-    put_ldp(out, &mut page, &topology, second, None, None)?;
-    put_bgp(
-        out,
-        &mut page,
-        &topology,
-        pe1,
-        pe2,
-        BgpState::OpenConfirm,
-        BgpState::OpenSent,
-    )?;
-    put_counts(out, &mut page, 3, 0)?;
-    put_frames(out, &mut page, &topology, first, Dir::Forth, 0)?;
-    put_frames(out, &mut page, &topology, second, Dir::Back, 5)?;
-    put_own_route(
-        out,
-        &mut page,
-        &topology,
-        VrfNo(0),
-        b"10.1.0.0/16",
-        SiteNo(0),
-    )?;
-    put_near_route(
-        out,
-        &mut page,
-        &topology,
-        VrfNo(0),
-        b"10.2.0.0/16",
-        VrfNo(1),
-        SiteNo(1),
-    )?;
-    for (prefix, label, unresolved) in [(b"10.3.0.0/16", 18, false), (b"10.4.0.0/16", 19, true)] {
-        put_far_route(
-            out,
-            &mut page,
-            &topology,
-            VrfNo(0),
-            prefix,
-            pe2,
-            label,
-            unresolved,
-        )?;
-    }
-    page.end(out)?;
+    put_all(&mut sink, &mut page, &topology)?;
     assert_eq!(rt; sink.bytes(), LINES);
     Ok(())
 }
