@@ -56,8 +56,9 @@ class Dask:
         with tempfile.TemporaryDirectory() as folder:
             modules = Path(folder) / "mplsnet_tools.zip"
             with zipfile.ZipFile(modules, "w") as archive:
-                for path in HERE.glob("mplsnet_*.py"):
-                    archive.write(path, path.name)
+                # (what is loaded here: a worker loads all that it is sent, and has nothing of examples/)
+                for name in sorted(name for name in sys.modules if name.startswith("mplsnet_")):
+                    archive.write(HERE / f"{name}.py", f"{name}.py")
             self.client.upload_file(str(modules))
         self.as_completed = lambda futures: distributed.as_completed(futures, loop=self.client.loop)
         self.futures = []
