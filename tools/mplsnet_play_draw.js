@@ -17,7 +17,7 @@ function put(element, values) {
 }
 const COLOURS = ["#0f766e", "#b45309", "#9333ea", "#be185d", "#4d7c0f", "#0369a1", "#a16207", "#7f1d1d", "#0e7490", "#6d28d9"];
 const net = $("net");
-const LAYERS = ["frames", "arcs", "joints", "spokes", "links", "costs", "sites", "nodes", "dots", "flying", "moving"];
+const LAYERS = ["frames", "arcs", "joints", "spokes", "links", "costs", "specks", "sites", "nodes", "dots", "flying", "moving"];
 const layer = Object.fromEntries(LAYERS.map(name => [name, make("g", {id: name}, net)]));
 
 // Sizes: half the width and half the height, in their own units, in full or with the name alone. A name is 15 or 12 of them high.
@@ -242,7 +242,8 @@ function chip(parent, place, away, stack, packet, ttl) {
 function spots(state, key) {
   const queue = state.queues[key] || [], [a, b] = key.split(" ").map(Number), link = links[linkBetween[key]];
   const from = onLink(nodes[a], nodes[b], 0), to = onLink(nodes[a], nodes[b], 1), length = Math.hypot(to.x - from.x, to.y - from.y) || 1;
-  const gap = Math.min(.5, form.size * (Math.abs(to.x - from.x) * (CHIP.w + 6) + Math.abs(to.y - from.y) * (3 * CHIP.h + 5)) / length / length);
+  const wide = 6 + (told ? Math.max(0, ...queue.map(flight => wordChipWide(flights[flight].rows))) : CHIP.w);
+  const gap = Math.min(told ? .67 : .5, form.size * (Math.abs(to.x - from.x) * wide + Math.abs(to.y - from.y) * (3 * CHIP.h + 5)) / length / length);
   const room = Math.min(queue.length - 1, Math.floor(.66 / gap));
   let place = null;
   return queue.map(flight => {
@@ -256,6 +257,7 @@ const FEW_FRAMES = 8;
 // Where many fly over a large network a frame is a dot, but for those of the packet that is followed.
 function drawFlying(state, without) {
   layer.flying.replaceChildren();
+  layer.specks.replaceChildren();
   const isDots = !form.full && Object.values(state.queues).reduce((sum, queue) => sum + queue.length, 0) > FEW_FRAMES;
   for (const key of Object.keys(state.queues)) {
     const shown = spots(state, key), held = {};
@@ -276,9 +278,9 @@ function drawFlying(state, without) {
     }
   }
 }
-// A frame as a dot.
+// A frame as a dot, which covers no node.
 function dot(place, frame) {
-  const circle = make("circle", {cx: place.x, cy: place.y, r: 4 * form.size, class: `frame ${told ? CHIP_KINDS[frame.kind] : ""}`}, layer.flying);
+  const circle = make("circle", {cx: place.x, cy: place.y, r: 4 * form.size, class: `frame ${told ? CHIP_KINDS[frame.kind] : ""}`}, layer.specks);
   make("title", {}, circle, told ? frame.rows.join(" ") : `packet ${packets[frame.p].n}: labels ${frame.st.map(entry => entry[0]).join(" ")}`);
 }
 // Where a frame stands.

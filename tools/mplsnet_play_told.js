@@ -132,12 +132,15 @@ function toldMove(before, step, share) {
   }
 }
 
-// A message as a chip: its rows of words over its place.
+// How a message is coloured.
 const CHIP_KINDS = {advert: "outer", announce: "outer", withdraw: "gone", open: "ip", keepalive: "ip"};
-// A message over its place, in rows of words.
+// The rows of a message as they are shown.
+const wordRows = rows => rows.map(row => (row.length > 20 ? `${row.slice(0, 18)}\u2026` : row)).filter(Boolean);
+// How wide a message is, in its own units.
+const wordChipWide = rows => Math.max(...wordRows(rows).map(row => row.length)) * 6.9 + 14;
+// A message as a chip: its rows of words over its place.
 function wordChip(parent, place, away, {kind, rows}) {
-  const few = rows.map(row => (row.length > 20 ? `${row.slice(0, 18)}\u2026` : row)).filter(Boolean);
-  const wide = Math.max(...few.map(row => row.length)) * 6.9 + 14, high = few.length * CHIP.h;
+  const few = wordRows(rows), wide = wordChipWide(rows), high = few.length * CHIP.h;
   const reach = 11 + Math.abs(away.x) * wide / 2 + Math.abs(away.y) * high / 2, x = away.x * reach - wide / 2, y = away.y * reach - high / 2;
   const group = make("g", {class: "chip", transform: `translate(${place.x} ${place.y}) scale(${form.size})`}, parent);
   make("circle", {cx: 0, cy: 0, r: 5, class: "ip"}, group);
