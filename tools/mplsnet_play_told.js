@@ -137,7 +137,9 @@ const CHIP_KINDS = {advert: "outer", announce: "outer", withdraw: "gone", open: 
 // The rows of a message as they are shown.
 const wordRows = rows => rows.map(row => (row.length > 20 ? `${row.slice(0, 18)}\u2026` : row)).filter(Boolean);
 // How wide a message is, in its own units.
-const wordChipWide = rows => Math.max(...wordRows(rows).map(row => row.length)) * 6.9 + 14;
+const wordChipWide = rows => Math.max(...wordRows(rows).map(rowWide)) + 14;
+// How wide a row is, where capitals are wider than other signs.
+const rowWide = row => [...row].reduce((wide, sign) => wide + (/[A-Z]/.test(sign) ? 9 : 6.9), 0);
 // A message as a chip: its rows of words over its place.
 function wordChip(parent, place, away, {kind, rows}) {
   const few = wordRows(rows), wide = wordChipWide(rows), high = few.length * CHIP.h;
