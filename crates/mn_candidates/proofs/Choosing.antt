@@ -1,18 +1,29 @@
 -- Routes for an address are found one by one.
-use Rattle.std.proofs.Common.{ℕ, ◌≡◌, ◌+◌, ◌<◌, inl, inr, true, false, List, [], ◌∷◌, ◌++◌, length, get_or, map, take, sym, ◌∙◌, ap, subst}
+use Rattle.std.proofs.Common.{ℕ, ◌≡◌, ◌+◌, ◌<◌, inl, inr, Bool, true, false, List, [], ◌∷◌, ◌++◌, cond, length, get_or, map, filter, take, refl, sym, ◌∙◌, ap, subst}
 use Rattle.std.specs.List.{insert, position_or_len}
-use Rattle.std.proofs.lemmas.List.{take_more, map-append}
+use Rattle.std.proofs.lemmas.List.{append-nil, length-append, take_more, map-append}
+use Rattle.std.proofs.lemmas.List.Elements.{filter-append}
 use Rattle.mn_base.proofs.Bools.{no}
 use Rattle.mn_ledger.specs.Held.{HeldRoute, is_better}
 use Rattle.mn_ledger.specs.Eligible.{covers}
 use Rattle.mn_ledger.proofs.Members.{in_contained, contained_in, in_append, in_front, in_rest}
 use Rattle.mn_candidates.specs.declared.route.Route.{Route}
 use Rattle.mn_candidates.specs.Routes.{held_as, AreFor}
-use Rattle.mn_candidates.proofs.Preferring.{put, put_ordered, put_in, in_put, inserted}
+use Rattle.mn_candidates.proofs.Preferring.{put, put_ordered, put_in, in_put, length_put, inserted}
 
 module _ (address : ℕ) where
   pub none_yet : AreFor address [] []
-  none_yet = record { only = λ r h. absurd (in_contained [] r h); all = λ r h c. h; ordered = tt }
+  none_yet = record { only = λ r h. absurd (in_contained [] r h); all = λ r h c. h; each = refl; ordered = tt }
+
+  -- so many of these contain the address
+  abbrev count : List HeldRoute → ℕ
+  count routes = length (filter (covers address) routes)
+
+  count_more : (routes : List HeldRoute) (route : HeldRoute) (b : Bool) → covers address route ≡ b
+      → count (routes ++ route ∷ []) ≡ length (filter (covers address) routes ++ cond b (route ∷ []) [])
+  count_more routes route b e =
+      ap length (filter-append (covers address) routes (route ∷ []))
+      ∙ ap (λ c. length (filter (covers address) routes ++ cond c (route ∷ []) [])) e
 
   -- a route that doesn't contain the address
   pub passed_over : (routes found : List HeldRoute) (route : HeldRoute) → covers address route ≡ false → AreFor address routes found
@@ -23,6 +34,7 @@ module _ (address : ℕ) where
       | inl i ↦ so_far.all r (contained_in routes r i) c
       | inr i ↦ elim i [ inl e ↦ absurd (no (sym misses ∙ ap (covers address) e ∙ c)) | inr j ↦ absurd j ]
     ];
+    each = so_far.each ∙ sym (count_more routes route false misses ∙ ap length (append-nil (filter (covers address) routes)));
     ordered = so_far.ordered;
   }
 
@@ -40,6 +52,8 @@ module _ (address : ℕ) where
       | inl i ↦ in_put route found r (inr (in_contained found r (so_far.all r (contained_in routes r i) c)))
       | inr i ↦ elim i [ inl e ↦ in_put route found r (inl e) | inr j ↦ absurd j ]
     ]);
+    each = length_put route found ∙ ap (λ n. n + 1) so_far.each
+        ∙ sym (count_more routes route true hits ∙ length-append (filter (covers address) routes) (route ∷ []));
     ordered = put_ordered route found so_far.ordered;
   }
 

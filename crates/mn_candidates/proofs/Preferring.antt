@@ -156,6 +156,14 @@ module _ (route : HeldRoute) where
   put [] = route ∷ []
   put (other ∷ others) = cond (is_better route other) (route ∷ other ∷ others) (other ∷ put others)
 
+  pub length_put : (xs : List HeldRoute) → length (put xs) ≡ length xs + 1
+  length_put [] = refl
+  length_put (x ∷ xs) = by (length_put xs) (is_better route x)
+    where
+      by : length (put xs) ≡ length xs + 1 → (b : Bool) → length (cond b (route ∷ x ∷ xs) (x ∷ put xs)) ≡ length (x ∷ xs) + 1
+      by more true = omega arith
+      by more false = omega (arith, more)
+
   all_behind : (x : HeldRoute) → is_better route x ≡ true → (xs : List HeldRoute) → AllByRecursion (λ later. is_better later x ≡ false) xs
       → AllByRecursion (λ later. is_better later route ≡ false) xs
   all_behind x h [] a = tt

@@ -1,5 +1,5 @@
 -- The routes of a VRF, whatever is down or switched off, and those of them for an address.
-use Rattle.std.specs.Prelude.{ℕ, ◌≡◌, ◌==◌, true, if◌then◌else◌, List, [], map, length}
+use Rattle.std.specs.Prelude.{ℕ, ◌≡◌, ◌==◌, true, if◌then◌else◌, List, [], map, filter, length}
 use Rattle.std.specs.List.{flat_map, Contains, range_with_len}
 use Rattle.mn_prefix.specs.Prefix.{AddressBlock}
 use Rattle.mn_topo.specs.Network.{Network}
@@ -52,8 +52,9 @@ routes_for topology v = flat_map (routes_over topology v) (range_with_len 0 (len
 
 -- 2. Those for an address
 
--- of these routes those that contain the address, none better than one before it
+-- of these routes those that contain the address, as many as there are, none better than one before it
 pub record AreFor (address : ℕ) (routes found : List HeldRoute) : Type 0 where
   pub only : (route : HeldRoute) → Contains found route → Contains routes route × (covers address route ≡ true)
   pub all : (route : HeldRoute) → Contains routes route → covers address route ≡ true → Contains found route
+  pub each : length found ≡ length (filter (covers address) routes)
   pub ordered : AreInPreference found
