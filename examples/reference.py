@@ -1,6 +1,7 @@
 #!/usr/bin/env python3
 """Works out what `mplsnet run` leaves and reports for any topology, script and capture, what `mplsnet flood` and `mplsnet
-reflect` report for any topology and script, and what `mplsnet join` leaves and reports for two joined networks, without the program.
+reflect` report for any topology and script, what `mplsnet reach` reports for any topology and file of failures, and what
+`mplsnet join` leaves and reports for two joined networks, without the program.
 
 It is a second telling of the rules of docs/FORMATS.md and docs/WIRE.md (texts, bytes) and docs/LEDGER.md (who says
 what, and when), written from these and not from the program's source. It goes by the definitions and not by speed:
@@ -8,7 +9,8 @@ the best route is chosen from the whole list, what a neighbour mentioned last is
 comes next in all that is in flight. The inputs are read by reference_inputs.py, messages and frames that come in their
 place by reference_readers.py, a node's labels are in reference_labels.py; here are IPv4, the network and its steps, a
 script's course, the bytes of frames, LDP and BGP, the report, the files. Flooding is in reference_flood.py, reflected
-routes are in reference_reflect.py, what crosses from one network into another in reference_join.py.
+routes are in reference_reflect.py, what crosses from one network into another in reference_join.py, what failures cut in
+reference_reach.py, a file of which is read by reference_failures.py.
 """
 
 import argparse
@@ -19,7 +21,9 @@ from pathlib import Path
 
 import reference_flood
 import reference_join
+import reference_reach
 import reference_reflect
+from reference_failures import read_failures
 from reference_inputs import FLOOD_FORMS, ROUTES, TARGETS, Refused, address_text, contains, is_unicast, prefix_text
 from reference_inputs import read_capture, read_reflect_script, read_script, read_topology, target_text
 from reference_labels import Labels
@@ -30,12 +34,13 @@ from reference_walks import costs_to, first_hop, tree_lines
 USAGE = """\
 reference.py [--compare] TOPOLOGY SCRIPT CAPTURE FOLDER
        reference.py [--compare] flood|reflect TOPOLOGY SCRIPT FOLDER
+       reference.py [--compare] reach TOPOLOGY [FAILURES] FOLDER
        reference.py [--compare] join TOPOLOGY1 TOPOLOGY2 JOINTS SCRIPT CAPTURE FOLDER"""
 HELP = """\
-Writes every file of the run and its report, as report.txt, into FOLDER, which is made where it isn't there; flood and
-reflect have report.txt alone, join that and delivered.pcap. With --compare nothing is written: the files of FOLDER, report.txt among them, are compared with
-those that are due, and the first difference is told. A refused input leaves report.txt alone, with the line of the
-refusal.
+Writes every file of the run and its report, as report.txt, into FOLDER, which is made where it isn't there; flood,
+reflect and reach have report.txt alone, join that and delivered.pcap. With --compare nothing is written: the files of
+FOLDER, report.txt among them, are compared with those that are due, and the first difference is told. A refused input
+leaves report.txt alone, with the line of the refusal.
 
 Not covered: the words of the command line, faults of reading and writing, want of memory; and of TOML what 1.1 has
 beyond 1.0, the limit of 80 on nesting, numbers like 1e309, and a byte order mark. It is for small networks: a
@@ -1006,6 +1011,15 @@ def reflect_of(topology_bytes, script_bytes):
         return text_of([str(refused)]), {}
 
 
+def reach_of(topology_bytes, failures_bytes=b""):
+    """The report of `reach`, which has no files."""
+    try:
+        topology = read_topology(topology_bytes)
+        return text_of(reference_reach.report_of(topology, read_failures(topology, failures_bytes))), {}
+    except Refused as refused:
+        return text_of([str(refused)]), {}
+
+
 def read_second(bytes_):
     """The second topology of two."""
     try:
@@ -1032,8 +1046,9 @@ def join_of(first_bytes, second_bytes, joints_bytes, script_bytes, capture_bytes
     return text_of(report), {"delivered.pcap": pcap(228, pair.exits)}
 
 
-COMMANDS = {"run": run_of, "flood": flood_of, "reflect": reflect_of, "join": join_of}
-INPUTS = {"run": 3, "flood": 2, "reflect": 2, "join": 5}
+COMMANDS = {"run": run_of, "flood": flood_of, "reflect": reflect_of, "reach": reach_of, "join": join_of}
+INPUTS = {"run": 3, "flood": 2, "reflect": 2, "reach": 2, "join": 5}
+LEAST = INPUTS | {"reach": 1}  # it may have no failures
 
 
 # The command line
@@ -1076,9 +1091,9 @@ def words_given():
     form.add_argument("words", nargs="+", metavar="WORD", help="an input, a command before the first, or FOLDER")
     form.add_argument("--compare", action="store_true", help="compare FOLDER with what is due, and write nothing")
     given = form.parse_args()
-    command = given.words.pop(0) if given.words[0] in ("flood", "reflect", "join") else "run"
+    command = given.words.pop(0) if given.words[0] in COMMANDS and given.words[0] != "run" else "run"
     *inputs, folder = given.words or [""]
-    if len(inputs) != INPUTS[command]:
+    if not LEAST[command] <= len(inputs) <= INPUTS[command]:
         form.error(f"{command} has {INPUTS[command]} inputs, and then FOLDER")
     return command, inputs, Path(folder), given.compare
 

@@ -1,4 +1,5 @@
-"""The routes of a VRF as the reference has them: what is held, which take part, and the lines of `show vrf`. reference.py and reference_reflect.py import it."""
+"""The routes of a VRF as the reference has them: what is held, which take part, and the lines of `show vrf`. reference.py, reference_reach.py and
+reference_reflect.py import it."""
 
 from dataclasses import dataclass
 

@@ -1,4 +1,4 @@
-"""Least walks for reference.py and reference_flood.py, over the links that a node takes for up."""
+"""Least walks for reference.py, reference_flood.py and reference_reach.py, over the links that a node takes for up."""
 
 
 def costs_to(links, nodes, view, to):
