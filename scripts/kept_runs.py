@@ -8,6 +8,7 @@ INPUTS = {
     "run": ["topology.toml", "script.txt", "capture.pcap"],
     "flood": ["topology.toml", "script.txt"],
     "reflect": ["topology.toml", "script.txt"],
+    "reach": ["topology.toml", "failures.txt"],
     "join": ["topology1.toml", "topology2.toml", "joints.txt", "script.txt", "capture.pcap"],
 }
 WRITERS = ("run", "join")  # the commands that write files, into a folder

@@ -13,7 +13,7 @@ import reference_inputs  # noqa: E402
 NAMES = ("topology.toml", "script.txt", "capture.pcap")
 STAND_IN = """\
 #!{python} -B
-# What 'mplsnet run', 'mplsnet flood', 'mplsnet reflect' and 'mplsnet join' do, by examples/reference.py.
+# What 'mplsnet run', 'mplsnet flood', 'mplsnet reflect', 'mplsnet join' and 'mplsnet reach' do, by examples/reference.py.
 import sys
 sys.path.insert(0, {examples!r})
 import reference
@@ -21,7 +21,7 @@ words = sys.argv[1:]
 if words[:1] == ["check"]:  # of any topology
     print("topology ok nodes 0")
     sys.exit(0)
-if words[:1] + [len(words)] not in (["run", 5], ["flood", 3], ["reflect", 3], ["join", 7]):
+if words[:1] + [len(words)] not in (["run", 5], ["flood", 3], ["reflect", 3], ["join", 7], ["reach", 2], ["reach", 3]):
     print("usage: mplsnet run TOPOLOGY SCRIPT CAPTURE FOLDER | check TOPOLOGY | generate NUMBER | flood TOPOLOGY SCRIPT"
           " | reflect TOPOLOGY SCRIPT | join TOPOLOGY1 TOPOLOGY2 JOINTS SCRIPT CAPTURE FOLDER")
     sys.exit(2)
@@ -36,7 +36,7 @@ sys.exit({{"topology": 3, "script": 4, "capture": 5, "too": 9, "joints": 11, "se
 
 
 def stand_in(folder):
-    """A program that answers 'run', 'flood', 'reflect' and 'join' as mplsnet does, for small networks, and takes any topology for a good one."""
+    """A program that answers each command but 'generate' as mplsnet does, for small networks, and by 'check' takes any topology for a good one."""
     path = Path(folder) / "mplsnet"
     path.write_text(STAND_IN.format(python=sys.executable, examples=str(ROOT / "examples")))
     path.chmod(0o755)

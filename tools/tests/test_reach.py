@@ -1,5 +1,6 @@
 """What failures cut, by examples/reference_reach.py: each kind, each rule and each line, worked out by hand."""
 
+import os
 import subprocess
 import sys
 import tempfile
@@ -8,8 +9,10 @@ from pathlib import Path
 from unittest import mock
 
 sys.path.insert(0, str(Path(__file__).resolve().parent))
-from runs import ROOT, reference, reference_inputs  # noqa: E402
+from runs import ROOT, reference, reference_inputs, stand_in  # noqa: E402
 
+import random_reach  # noqa: E402
+import reach_by_runs  # noqa: E402
 import reference_reach  # noqa: E402
 
 LINKS = ROOT / "examples/two-links/topology.toml"
@@ -244,6 +247,90 @@ class Reference(unittest.TestCase):
         self.assertEqual(2, self.run_it("reach", LINKS)[0])
         self.assertEqual(2, self.run_it("reach", LINKS, LINKS, LINKS, LINKS)[0])
         self.assertIn("reference.py [--compare] reach TOPOLOGY [FAILURES] FOLDER", self.run_it("--help")[1])
+
+
+def by_run(*inputs):
+    return reference.run_of(*inputs)[0]
+
+
+class ByRuns(unittest.TestCase):
+    """What the network at rest is told to do is what its steps come to, in any order."""
+
+    def test_random_failures(self):
+        compared = 0
+        for seed in range(int(os.environ.get("MPLSNET_RANDOM", "40")) // 6):
+            inputs = random_reach.random_reach(seed)
+            with self.subTest(seed=seed):
+                differs, verdicts = reach_by_runs.difference(inputs, reference.reach_of(*inputs)[0], by_run, seed)
+                self.assertIsNone(differs)
+                compared += verdicts
+        self.assertLess(300, compared)
+
+    def test_what_differs_is_told(self):
+        failures = "ldp off n0 n1, link down n3 n0\ncounts\nlink down n0 n1\nsessions end\nttl 5\nbgp down n0 n2, node down n2"
+        inputs = square(at_node(3, 9, "b-too", ["10.2.0.0/16"])), failures.encode()
+        said = reference.reach_of(*inputs)[0]
+        self.assertEqual((None, 18), reach_by_runs.difference(inputs, said, by_run))
+        for was, now, due in (
+            (b"lost 1 a 10.2.0.0/16 NoLsp at n0\n", b"", "says delivered b ttl 61 path n0 n1 n2, a run comes to dropped NoLsp at n0"),
+            (b"lost 1 a 10.2.0.0/16 NoLsp at n0", b"lost 1 a 10.2.0.0/16 NoRoute at n0", "reach says dropped NoRoute at n0"),
+            (b"lost 1 a 10.2.0.0/16 NoLsp at n0", b"lost 2 a 10.2.0.0/16 NoLsp at n0", "no pair of failure 1: lost 2 a 10.2.0.0/16 NoLsp at n0"),
+            (b"lost 1 a 10.2.0.0/16 NoLsp at n0", b"lost 1 a 10.3.0.0/16 NoLsp at n0", "no pair of failure 1: lost 1 a 10.3.0.0/16"),
+            (b"ttl 61 path n0 n1 n2", b"ttl 61 path n0 n3 n2", "no failure: a 10.2.0.0/16: reach says delivered b ttl 61 path n0 n3 n2, a run comes to "),
+            (b"lost 0 part 0 moved 2\nprofile", b"lost 1 part 0 moved 2\nprofile", "n0 n1 lost 1 part 0 moved 2: a run comes to lost 0 moved 2"),
+            (b"total pairs 3", b"total pairs 4", "the total due is total pairs 3"),
+            (b"total pairs", b"lost 9\ntotal pairs", "no pair of failure 3: lost 9"),
+            (b"profile", b"pair", "a line profile is due"),
+            (b"pair b 10.1.0.0/16", b"pair b 10.1.0.0/17", "no failure: b 10.1.0.0/16: reach says pair b 10.1.0.0/17"),
+        ):  # fmt: skip
+            self.assertIn(was, said)
+            differs, _ = reach_by_runs.difference(inputs, said.replace(was, now, 1), by_run)
+            self.assertIn(due, differs or "nothing")
+
+    def test_what_a_run_refuses_is_told(self):
+        differs, _ = reach_by_runs.difference((TWO,), reference.reach_of(TWO)[0], lambda *inputs: b"line 3 refused Unchanged\n")
+        self.assertEqual("the run says: line 3 refused Unchanged", differs)
+        differs, _ = reach_by_runs.difference((TWO,), reference.reach_of(TWO)[0], lambda *inputs: b"total packets 0\n")
+        self.assertEqual("1 states of 2 pairs, and 0 packets", differs)
+
+    def test_what_is_refused_is_not_run(self):
+        self.assertEqual((None, 0), reach_by_runs.difference((b"x = 1",), b"", by_run))
+        self.assertEqual((None, 0), reach_by_runs.difference((TWO, b"each"), b"", by_run))
+
+
+class Compare(unittest.TestCase):
+    """The script that compares program and reference, by a program that is the reference, whole or with a fault in it."""
+
+    def setUp(self):
+        room = tempfile.TemporaryDirectory()
+        self.addCleanup(room.cleanup)
+        self.room = Path(room.name)
+        self.program = stand_in(self.room)
+
+    def compare(self, *words):
+        ran = subprocess.run([ROOT / "scripts/compare", "--program", self.program, *map(str, words)], capture_output=True, text=True)
+        return ran.returncode, ran.stdout, ran.stderr
+
+    def test_random_failures(self):
+        status, said, err = self.compare("--random", "5", "--command", "reach", "--simulate")
+        self.assertEqual((0, "5 random runs of reach, 0 differences", ""), (status, said.splitlines()[0], err))
+        for what in ("failure of node down", "lost NoLsp", "moved delivered", "pair delivered", "table profile", "verdicts that a run comes to"):
+            self.assertIn(f" {what}\n", said)
+
+    def test_failures_that_differ_are_told_and_kept(self):
+        fault = "import reference, reference_reach\nreference_reach.is_dropped = lambda verdict: False\n"
+        self.program.write_text(self.program.read_text().replace("import reference\n", fault))
+        status, said, err = self.compare("--random", "4", "--command", "reach", "--keep", self.room / "kept")
+        self.assertEqual((1, ""), (status, err))
+        self.assertRegex(said, r"seed \d+: report.txt at line \d+: due is\n  lost 1 \S+ \S+ No\w+ at .*\nfound\n  moved 1 ")
+        kept = next((self.room / "kept").iterdir())
+        self.assertEqual(["due", "failures.txt", "found", "topology.toml"], sorted(path.name for path in kept.iterdir()))
+
+    def test_other_words(self):
+        for words in (["--simulate"], ["--random", "1", "--simulate"], ["--command", "reach", "--simulate"]):
+            status, said, err = self.compare(*words)
+            self.assertEqual((2, ""), (status, said))
+            self.assertIn("--simulate goes with --random and --command reach", err)
 
 
 if __name__ == "__main__":
