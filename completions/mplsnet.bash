@@ -179,10 +179,11 @@ _mplsnet_whatif() {
         --of) _mplsnet_words 'links nodes ldp bgp' "$word"; return ;;
         --html) _mplsnet_files "$word" .html; return ;;
         --program | --resume) _mplsnet_files "$word"; return ;;
-        --only | --site | --budget | --jobs | --dask) return ;;
+        --only | --site | --check | --seed | --budget | --jobs | --dask) return ;;
     esac
     if [[ $word == -* ]]; then
-        _mplsnet_words '--help --of --double --only --site --keep-bgp --resolve --no-resolve --json --csv --matrix --all --html --resume --budget --jobs --dask --program --quiet' "$word"
+        local asked='--help --of --double --triple --only --site --keep-bgp --resolve --no-resolve --json --csv --matrix --all --html --resume --simulate --check --seed'
+        _mplsnet_words "$asked --budget --jobs --dask --program --quiet" "$word"
     else
         _mplsnet_files "$word" .toml
     fi

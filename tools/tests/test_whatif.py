@@ -16,11 +16,15 @@ import tomllib
 import unittest
 from collections import Counter
 from pathlib import Path
+from unittest import mock
 
 from runs import ROOT, random_runs, reference, stand_in
 
+import random_reach
+
+import mplsnet_reach as reach
 import mplsnet_whatif as whatif
-from mplsnet_files import read_topology
+from mplsnet_files import Fault, read_topology
 from mplsnet_knowledge import Net
 from mplsnet_topology import topology_text
 
@@ -81,6 +85,11 @@ name = "b-too"
 vrf = "red3"
 prefixes = ["10.2.0.0/16"]
 """
+# Two edges that import of pe2 and export nothing, whose own sites have one half each of its prefix.
+VIEWS = DUAL.replace('export = ["65000:1"]', "export = []").replace('rd = "65000:2"\nimport = ["65000:1"]\nexport = []', 'rd = "65000:2"\nexport = ["65000:1"]')
+VIEWS = VIEWS.replace("loss = 2\n", "").replace("10.1.0.0/16", "10.2.0.0/17").replace('"red3"\nprefixes = ["10.2.0.0/16"]', '"red3"\nprefixes = ["10.2.128.0/17"]')
+# The first address of a prefix is that of another site, and the others are sent to elsewhere.
+CROWDED = VIEWS.replace("10.2.0.0/16", "10.2.0.0/30").replace("10.2.0.0/17", "10.2.0.1/32").replace('"10.2.128.0/17"', '"10.2.0.2/32", "10.2.0.3/32"')
 
 
 class ByReference(whatif.Reading):
@@ -92,6 +101,20 @@ class ByReference(whatif.Reading):
         (self.folder / "report").write_bytes(report)
         for name, content in files.items():
             (self.out / name).write_bytes(content)
+
+
+class ByDefinitions(reach.Asking):
+    """Reads what examples/reference.py puts of reach in place of the program."""
+
+    def answered(self):
+        report, _ = reference.reach_of(self.part.topology, self.part.text())
+        return self.read(iter(report.decode("latin-1").splitlines()))
+
+
+def by_reach(net, tables, probes, failures, keep_bgp=False, start=0, lines=None, everything=True):
+    pairs, lines = reach.Pairs(net, tables, probes), list(map(reach.line_of, failures)) if lines is None else lines
+    about = "", "net", pairs.topology(), tables, whatif.bring_up(net, keep_bgp), keep_bgp, probes, pairs.of_pair
+    return ByDefinitions(reach.Part(*about, start, lines, tuple(failures), everything, paths=True), None).answered()
 
 
 def outcomes(net, tables, probes, failures, keep_bgp=False):
@@ -198,6 +221,133 @@ class Runs(unittest.TestCase):
         self.assertGreater(compared, len(SEEDS))
         self.assertGreater(lost, 0)
 
+    def test_reach_says_what_a_run_says(self):
+        """What is lost and why, how many move, each way: of networks with defaults, and others; sessions end and stay, routes stand aside or don't."""
+        seen = Counter()
+        for seed in SEEDS:
+            rng = random.Random(f"reach {seed}")
+            tables = rng.choice([random_with_defaults, random_reach.reach_topology])(rng) | {"resolve": rng.random() < 0.5}
+            for link in tables["link"]:
+                link.pop("loss", None)
+            net, keep_bgp = Net("net", tables), tables["resolve"] or rng.random() < 0.3
+            probes = whatif.probes_of(net)
+            failures = whatif.failures_of(net, whatif.KINDS, keep_bgp)
+            failures = rng.sample(failures, min(len(failures), 12)) + whatif.double_of(net, keep_bgp)[:4] + [*reach.Many(net, 3, keep_bgp)][:2]
+            try:
+                answered = by_reach(net, tables, probes, failures, keep_bgp) if probes else None
+            except reach.CantAsk:
+                seen["can't be asked"] += 1
+                continue
+            base, *rest = outcomes(net, tables, probes, failures, keep_bgp) if probes else [None]
+            with self.subTest(seed=seed):
+                self.assertEqual(probes and (base.lost, base.paths), probes and (answered.base.lost, answered.base.paths))
+                for one, (number, other) in zip(rest, answered.outcomes if probes else ()):
+                    self.assertEqual((one.failure, one.lost, one.moved), (other.failure, other.lost, other.moved))
+                    was_kept = [at for at, path in enumerate(one.paths) if base.paths[at].partition(" ")[0] in net.number]
+                    self.assertEqual([one.paths[at] for at in was_kept], [other.paths[at] for at in was_kept])
+                    seen.update([loss.rule for loss in one.lost] + ["moved"] * one.moved)
+        for what in ("NoLsp", "NoRoute", "NodeDown", "Astray", "moved"):
+            self.assertGreater(seen[what], 0, seen)
+        self.assertLess(seen["can't be asked"], 2)
+
+    def test_an_address_of_a_prefix_whose_first_is_of_a_longer_one(self):
+        """It is asked for by a prefix of its own, at each site that has the one that is meant."""
+        tables = tomllib.loads(DUAL.replace("loss = 2\n", "").replace('["10.2.0.0/16"]', '["10.0.0.0/8"]').replace("10.1.0.0/16", "10.0.0.0/16"))
+        net = Net("net", tables)
+        probes = whatif.probes_of(net)
+        pairs = reach.Pairs(net, tables, probes)
+        self.assertEqual({"a 10.1.0.1/32": [0], "b 10.0.0.0/16": [1], "b-too 10.0.0.0/16": [2]}, pairs.of_pair)
+        prefixes = [site["prefixes"] for site in tomllib.loads(pairs.topology().decode())["site"]]
+        self.assertEqual([["10.0.0.0/16"], ["10.0.0.0/8", "10.1.0.1/32"], ["10.0.0.0/8", "10.1.0.1/32"]], prefixes)
+        failures = whatif.failures_of(net, whatif.KINDS, False)
+        for (_, one), other in zip(by_reach(net, tables, probes, failures).outcomes, outcomes(net, tables, probes, failures)[1:], strict=True):
+            self.assertEqual(told(other), told(one))
+
+    def test_addresses_of_one_prefix_for_two_views(self):
+        """Each sender's address is in none of the longer ones that its VRF knows; the other's is asked for beside it."""
+        tables = tomllib.loads(VIEWS)
+        net = Net("net", tables)
+        probes = whatif.probes_of(net)
+        pairs = reach.Pairs(net, tables, probes)
+        self.assertEqual({"a 10.2.128.0/32": [0], "b-too 10.2.0.0/16": [1]}, pairs.of_pair)
+        failures = whatif.failures_of(net, whatif.KINDS, False)
+        for (_, one), other in zip(by_reach(net, tables, probes, failures).outcomes, outcomes(net, tables, probes, failures)[1:], strict=True):
+            self.assertEqual(told(other), told(one))
+        tables = tomllib.loads(CROWDED)
+        with self.assertRaisesRegex(reach.CantAsk, "no address of 10.2.0.0/30 is left"):
+            reach.Pairs(Net("net", tables), tables, whatif.probes_of(Net("net", tables)))
+
+    def test_more_than_reach_answers(self):
+        net = Net("net", tomllib.loads(DUAL))
+        for name, most, said in (("MOST_PAIRS", 2, "more than 2 pairs"), ("MOST_PREFIXES", 2, "more than 2 prefixes")):
+            with mock.patch.object(reach, name, most), self.assertRaisesRegex(reach.CantAsk, said):
+                reach.Pairs(net, tomllib.loads(DUAL), whatif.probes_of(net))
+            with mock.patch.object(reach, name, most + 1):
+                reach.Pairs(net, tomllib.loads(DUAL), whatif.probes_of(net))
+
+    def test_many_links(self):
+        """Their numbers, names and parts are those of all of them in order."""
+        net = Net("net", random_reach.reach_topology(random.Random(16)))
+        for many in (2, 3):
+            of = reach.Many(net, many, True)
+            everything = [*of]
+            self.assertEqual(whatif.double_of(net, True) if many == 2 else len(everything), everything if many == 2 else len(of))
+            self.assertGreater(len(of), 20)
+            self.assertEqual(everything, [of.at(number) for number in range(len(of))])
+            self.assertEqual([*range(len(of))], [of.number(str(failure)) for failure in everything])
+            for failure in everything[::7]:
+                names = failure.name.split(" and ")
+                self.assertEqual(failure, of.named(" and ".join(names[::-1])))
+            for name in ("", "links ", names[0], " and ".join([names[0]] * many), " and ".join([*names, names[0]]), f"{names[0]} and x-y"):
+                self.assertIsNone(of.named(name))
+                self.assertIsNone(of.number(name))
+            for workers in (1, 3, 100):
+                parts = [*of.cut(set(), workers)]
+                self.assertEqual([0, *(end for _, end, _, _ in parts)], [*(start for start, _, _, _ in parts), len(of)])
+                for start, end, lines, (_, first, last) in parts:
+                    self.assertEqual([f"each {many} links from {first} to {last - 1}"], lines)
+                    ends = (tuple(map(net.number.get, failure.down[0].split()[2:])) for failure in everything[start:end])
+                    self.assertTrue(all(first <= net.link_of[pair] < last for pair in ends))
+            self.assertEqual([], [*of.cut({*range(len(of))}, 3)])
+
+    def test_parts_leave_out_what_is_known(self):
+        failures = whatif.links_of(Net("net", random_reach.reach_topology(random.Random(3))), True)
+        listed, all_ = reach.Listed(failures), range(len(failures))
+        for known in (set(), {0}, {2, 3}, {*all_} - {4}, {*all_}):
+            parts = [*listed.cut(known, 1)]
+            self.assertEqual(sorted({*all_} - known), [number for start, end, _, _ in parts for number in range(start, end)])
+            self.assertEqual([failures[number] for number in sorted({*all_} - known)], [failure for _, _, _, some in parts for failure in some])
+
+    def test_a_part_of_many_links(self):
+        """The same as one by one, by the numbers that all have; what cuts nothing comes back where it is asked for."""
+        tables = tomllib.loads(DUAL)
+        net = Net("net", tables)
+        probes, of = whatif.probes_of(net), reach.Many(net, 2, False)
+        alone = by_reach(net, tables, probes, [*of])
+        for everything in (True, False):
+            found = [(end - start, by_reach(net, tables, probes, some, False, start, lines, everything)) for start, end, lines, some in of.cut(set(), 1)]
+            self.assertEqual([count for count, _ in found], [answered.count for _, answered in found])
+            due = [(number, outcome) for number, outcome in alone.outcomes if everything or outcome.lost]
+            self.assertEqual(due, [one for _, answered in found for one in answered.outcomes])
+
+    def test_what_reach_puts_otherwise_is_a_fault(self):
+        tables = tomllib.loads(DUAL)
+        net = Net("net", tables)
+        probes, failures = whatif.probes_of(net), whatif.links_of(net, False)
+        pairs = reach.Pairs(net, tables, probes)
+        about = "", "net", pairs.topology(), tables, whatif.bring_up(net, False), False, probes, pairs.of_pair
+        asking = reach.Asking(reach.Part(*about, 0, list(map(reach.line_of, failures)), tuple(failures)), None)
+        lines = reference.reach_of(asking.part.topology, asking.part.text())[0].decode().splitlines()
+        self.assertEqual(3, asking.read(iter(lines)).count)
+        self.assertIsNone(asking.read(iter(lines[:-1])))
+        self.assertIsNone(asking.read(iter([line for line in lines if not line.startswith("failure 3")])))
+        for was, now, said in (
+            ("pair a", "pair x", "tells of no pair a 10.2.0.0/16"), ("failure 2", "failure 3", "tells of failure 3 behind 1"),
+            ("line 2 link down pe1 p", "line 2 link down p pe1", "tells of link down p pe1"),
+        ):  # fmt: skip
+            with self.assertRaisesRegex(Fault, said):
+                asking.read(iter([line.replace(was, now) for line in lines]))
+
     def test_a_second_telling_by_sets(self):
         """Reached, dropped or astray: in networks with default routes, of each failure and of none; with `resolve` and without."""
         seen = Counter()
@@ -258,7 +408,8 @@ class Runs(unittest.TestCase):
 
     def test_addresses(self):
         for prefix, due in (
-            ((0x0A010000, 16), 0x0A010001), ((0x0A010000, 32), 0x0A010000), ((0x0A010002, 31), 0x0A010002), ((0, 0), 0x01000001), ((0x7F000000, 8), None), ((0xE0000000, 4), None),
+            ((0x0A010000, 16), 0x0A010001), ((0x0A010000, 32), 0x0A010000), ((0x0A010002, 31), 0x0A010002), ((0, 0), 0x01000001), ((0x7F000000, 8), None),
+            ((0xE0000000, 4), None),
         ):  # fmt: skip
             self.assertEqual(due, whatif.first_address(prefix))
         for longer, due in (
@@ -380,6 +531,79 @@ class Tool(unittest.TestCase):
         whole = self.answer(1, self.dual)
         self.assertEqual(whole, self.answer(1, "--budget", "300", "--jobs", "3", self.dual))
 
+    def test_runs_say_the_same(self):
+        """In each form; only runs have steps."""
+        for words in ((), ("--csv",), ("--matrix",), ("--all",), ("--double",), ("--no-resolve",), ("--keep-bgp", "--of", "links,bgp")):
+            self.assertEqual(self.answer(1, *words, self.dual), self.answer(1, "--simulate", *words, self.dual), words)
+        answered, ran = (json.loads(self.answer(1, "--json", *words, self.dual)) for words in ((), ("--simulate",)))
+        self.assertEqual({None}, {failure.pop("steps") for failure in answered["failures"]})
+        self.assertTrue(all(failure.pop("steps") > 0 for failure in ran["failures"]))
+        self.assertEqual(ran, answered)
+
+    def test_check(self):
+        """Some failures are run too; where that comes to something else both answers are told."""
+        words = ("--check", "3", "--seed", "5", "--of", "links,nodes")
+        ran = self.run_tool(*words, self.dual)
+        self.assertEqual((1, self.answer(1, "--of", "links,nodes", self.dual)), (ran.returncode, ran.stdout))
+        self.assertEqual("--check: 3 of 7 failures: runs of the network come to the same", ran.stderr.splitlines()[-1])
+        self.assertIn("--check: 1 of 1 failures: runs of the network come to the same", self.run_tool("--check", "9", "--double", LINKS).stderr)
+        fault = "import reference, reference_reach\nreference_reach.AtRest.lives = lambda *_: True\n"
+        self.program.write_text(self.program.read_text().replace("import reference\n", fault))
+        ran = self.run_tool("--quiet", "--check", "9", "--of", "bgp", self.dual)
+        self.assertEqual(3, ran.returncode)
+        for line in (
+            "bgp pe1-pe2: 'mplsnet reach' and a run of the network differ", "reach: 0 lost, 0 by another way",
+            "a run: bgp pe1-pe2: 1 pair lost, 1 by another way",
+            "a run:   1 NoRoute at pe2: there is no BGP session between pe2 and pe1: b -> a",
+        ):  # fmt: skip
+            self.assertIn(f"mplsnet-whatif: {line}\n", ran.stderr)
+        self.assertEqual(3, self.run_tool("--quiet", "--check", "1", "--of", "bgp", "--json", self.dual).returncode)
+
+    def test_what_reach_cannot_answer_is_run(self):
+        net = self.folder / "covered.toml"
+        net.write_text(CROWDED)
+        ran = self.run_tool("--only", "bgp pe1-pe2", net)
+        due = "bgp pe1-pe2: 1 pair lost\n  1 NoRoute at pe1: there is no BGP session between pe1 and pe2: a -> b\n"
+        self.assertEqual((1, due), (ran.returncode, "".join(ran.stdout.splitlines(keepends=True)[:2])))
+        self.assertEqual(ran.stdout, self.answer(1, "--simulate", "--only", "bgp pe1-pe2", net))
+        said = "no address of 10.2.0.0/30 is left beside those of longer prefixes: 'mplsnet reach' can't answer, and the network is run\n"
+        self.assertIn(f"mplsnet-whatif: {said}", ran.stderr)
+        self.refused(3, "there is nothing to --check", "--check", "1", net)
+
+    def test_a_program_that_knows_no_reach(self):
+        self.program.write_text(self.program.read_text().replace('["reach", 3]', '["reach", 9]'))
+        self.refused(3, "doesn't know 'reach': --simulate asks by runs", "--quiet", LINKS)
+        self.assertIn("8 failures of 2 pairs", self.answer(1, "--simulate", LINKS))
+
+    def test_nothing_that_may_fail(self):
+        """What isn't reached without a failure is told all the same."""
+        net = self.folder / "alone.toml"
+        nodes = '[[node]]\nname = "{0}"\nloopback = "192.0.2.{1}"\n[[vrf]]\nname = "v{1}"\nnode = "{0}"\nrd = "1:{1}"\nimport = ["1:1"]\nexport = ["1:1"]\n'
+        sites = '[[site]]\nname = "s{0}"\nvrf = "v{0}"\nprefixes = ["10.{0}.0.0/16"]\n'
+        net.write_text("".join(nodes.format(name, at) for at, name in enumerate("ab", 1)) + "".join(sites.format(at) for at in (1, 2)))
+        said = "without a failure: 2 pairs of 2 not reached\n  1 NoLsp at a: a sees no walk to b: s1 -> s2\n  1 NoLsp at b: b sees no walk to a: s2 -> s1\n"
+        for words in (("--of", "links"), ("--double",), ("--triple",)):
+            self.assertEqual(said + "0 failures of 2 pairs: 0 verdicts\n0 failures cut 0 pairs; 0 cut none\n", self.answer(0, *words, net))
+
+    def test_triple(self):
+        said = self.answer(1, "--triple", self.dual)
+        self.assertIn("links pe1-p and p-pe2 and p-pe3: 3 pairs lost\n", said)
+        self.assertIn("1 failure of 3 pairs: 3 verdicts\n", said)
+        one = self.answer(1, "--triple", "--only", "p-pe3 and pe2-p and pe1-p", self.dual)
+        self.assertEqual(said, one)
+        self.refused(3, "no failure is named 'p-pe3 and pe2-p'", "--triple", "--only", "p-pe3 and pe2-p", self.dual)
+        self.refused(2, "not allowed with argument", "--triple", "--double", self.dual)
+
+    def test_parts_of_many_links_are_kept(self):
+        """A part of which something is known is asked of again, and told once."""
+        whole, kept = self.answer(1, "--double", self.dual), self.folder / "known.jsonl"
+        self.assertEqual(whole, self.answer(1, "--double", "--resume", kept, "--jobs", "1", self.dual))
+        lines = kept.read_text().splitlines(keepends=True)
+        for left in ([lines[0], lines[2]], lines[:1], lines, [lines[0], *lines[:0:-1]]):
+            kept.write_text("".join(left))
+            self.assertEqual(whole, self.answer(1, "--double", "--resume", kept, "--jobs", "1", self.dual))
+            self.assertEqual(sorted(lines), sorted(kept.read_text().splitlines(keepends=True)))
+
     def test_double(self):
         said = self.answer(1, "--double", self.dual)
         self.assertIn("links p-pe2 and p-pe3: 3 pairs lost\n", said)
@@ -388,7 +612,10 @@ class Tool(unittest.TestCase):
     def test_wrong_words(self):
         self.refused(2, "'x' is none of links, nodes, ldp, bgp", "--of", "links,x", LINKS)
         self.refused(2, "'0' isn't a number of steps", "--budget", "0", LINKS)
-        self.refused(2, "it doesn't go with --of", "--double", "--of", "ldp", LINKS)
+        self.refused(2, "they don't go with --of", "--double", "--of", "ldp", LINKS)
+        self.refused(2, "they don't go with --of", "--triple", "--of", "ldp", LINKS)
+        self.refused(2, "it doesn't go with --simulate", "--check", "1", "--simulate", LINKS)
+        self.refused(2, "'0' isn't a number of failures", "--check", "0", LINKS)
         self.refused(3, "did you mean 'ldp pe1-p'?", "--only", "ldp pe1-pp", LINKS)
         self.refused(3, "there is no site 'c'", "--site", "c", LINKS)
 
@@ -460,9 +687,10 @@ class Tool(unittest.TestCase):
         tool = self.begun("--quiet", "--jobs", "1", "--resume", kept, "--html", page, LINKS)
         tool.terminate()
         out, err = tool.communicate(timeout=120)
-        self.assertEqual((143, "mplsnet-whatif: ended by SIGTERM after 2 of 8 failures\n"), (tool.returncode, err))
-        self.assertEqual(["link pe1-p: 2 pairs lost", "node pe1: 2 pairs lost", "ended early: 6 of 8 failures aren't known", "2 failures of 2 pairs: 4 verdicts", "2 failures cut 2 pairs; 0 cut none"],
-                         [line for line in out.splitlines() if not line.startswith(" ")])  # fmt: skip
+        self.assertEqual((143, "mplsnet-whatif: ended by SIGTERM after 4 of 8 failures\n"), (tool.returncode, err))
+        lost = [f"{one}: 2 pairs lost" for one in ("link pe1-p", "link p-pe2", "node pe1", "node p")]
+        totals = ["ended early: 4 of 8 failures aren't known", "4 failures of 2 pairs: 8 verdicts", "4 failures cut 2 pairs; 0 cut none"]
+        self.assertEqual([*lost, *totals], [line for line in out.splitlines() if not line.startswith(" ")])
         self.assertIn("ended early", page.read_text())
         with open(kept, "a") as file:
             file.write('{"failure": "link p')  # as where it is cut off while it writes
@@ -477,8 +705,9 @@ class Tool(unittest.TestCase):
         kept = self.folder / "known.jsonl"
         self.answer(1, "--resume", kept, "--of", "links", LINKS)
         for text, words, said in (
-            (kept.read_text(), ("--no-resolve", LINKS), "its results are of another question"), ("dear\n", (LINKS,), "line 1: no result that mplsnet-whatif --resume left"),
-            ("dear", (LINKS,), "line 1: no result"), (kept.read_text() + '{"failure": 1}\n', (LINKS,), "line 4: no result"),
+            (kept.read_text(), ("--no-resolve", LINKS), "its results are of another question"),
+            ("dear\n", (LINKS,), "line 1: no result that mplsnet-whatif --resume left"), ("dear", (LINKS,), "line 1: no result"),
+            (kept.read_text() + '{"failure": 1}\n', (LINKS,), "line 4: no result"),
         ):  # fmt: skip
             kept.write_text(text)
             self.refused(3, said, "--quiet", "--resume", kept, *words)
