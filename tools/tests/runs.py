@@ -31,7 +31,10 @@ for name, content in files.items():
         file.write(content)
 sys.stdout.buffer.write(report)
 first = report.decode("latin-1").splitlines()[-1].split()[0]
-sys.exit({{"topology": 3, "script": 4, "capture": 5, "too": 9, "joints": 11, "second": 12}}.get(first, 0))
+status = {{"topology": 3, "script": 4, "capture": 5, "too": 9, "joints": 11, "second": 12}}.get(first, 0)
+if status == 9:
+    print("mplsnet: more than there may be", file=sys.stderr)
+sys.exit(status)
 """
 
 

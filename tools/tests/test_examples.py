@@ -10,7 +10,7 @@ from pathlib import Path
 
 EXAMPLES = Path(__file__).resolve().parents[2] / "examples"
 RUNS = "first two-links overlap hub-and-spoke extranet micro-loop maintenance dual-homing ordered-control site-moves loss late labels-again damaged ring".split()
-REPORTED = {"flood": "flood", "older-database": "flood", "reflectors": "reflect"}  # of a report alone, by example the command
+REPORTED = {"flood": "flood", "older-database": "flood", "reflectors": "reflect", "reach": "reach"}  # of a report alone, by example the command
 JOINS = ["two-providers"]
 OF_ALL = ["README.md", "topology.toml", "script.txt", "expected/report.txt"]
 OF_RUNS = [*OF_ALL, "capture.py", "capture.pcap", "drawing.svg"]
@@ -29,6 +29,7 @@ class Examples(unittest.TestCase):
         for names, parts in ((RUNS, OF_RUNS), (REPORTED, OF_REPORTED), (JOINS, OF_JOINS)):
             for name in names:
                 for part in parts:
+                    part = "failures.txt" if (name, part) == ("reach", "script.txt") else part
                     self.assertTrue((EXAMPLES / name / part).is_file(), f"{name}/{part}")
 
     def test_all_are_run(self):
@@ -55,6 +56,7 @@ class Examples(unittest.TestCase):
     def test_what_is_expected_is_what_the_reference_works_out(self):
         inputs = ["topology.toml", "script.txt"]
         words = dict.fromkeys(RUNS, [*inputs, "capture.pcap"]) | {name: [command, *inputs] for name, command in REPORTED.items()}
+        words["reach"] = ["reach", "topology.toml", "failures.txt"]
         words |= dict.fromkeys(JOINS, ["join", "topology1.toml", "topology2.toml", "joints.txt", "script.txt", "capture.pcap"])
         for name in words:
             with self.subTest(name):

@@ -138,6 +138,8 @@ class Pages(unittest.TestCase):
     def test_each_stored_run_has_the_report_that_the_program_put(self):
         count = 0
         for folder in sorted(file.parent for file in STORED.glob("*/command.txt")):
+            if command_of(folder) == "reach":  # of which there is nothing to step through
+                continue
             report, place = folder / "expected/report.txt", self.folder / folder.name
             shutil.copytree(folder, place)
             if (folder / "capture.hex").exists():

@@ -16,6 +16,7 @@ import reach_by_runs  # noqa: E402
 import reference_reach  # noqa: E402
 
 LINKS = ROOT / "examples/two-links/topology.toml"
+STORED = sorted(path.parent for path in ROOT.glob("crates/mn_stored_runs/data/runs/*/command.txt") if path.read_text().strip() == "reach")
 TWO = LINKS.read_bytes()
 STAY = "profile equal least edges one order least interior no resolve topology sync no control ordered bare avoid labels site sessions stay"
 END = STAY.removesuffix("stay") + "end"
@@ -310,6 +311,10 @@ class Compare(unittest.TestCase):
     def compare(self, *words):
         ran = subprocess.run([ROOT / "scripts/compare", "--program", self.program, *map(str, words)], capture_output=True, text=True)
         return ran.returncode, ran.stdout, ran.stderr
+
+    def test_the_stored_failures(self):
+        self.assertEqual(17, len(STORED))
+        self.assertEqual((0, "17 runs: program and reference leave what is expected\n", ""), self.compare(*STORED))
 
     def test_random_failures(self):
         status, said, err = self.compare("--random", "5", "--command", "reach", "--simulate")
