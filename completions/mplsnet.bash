@@ -56,9 +56,9 @@ _mplsnet() {
     COMPREPLY=()
     case $COMP_CWORD:${COMP_WORDS[1]} in
         1:-*) _mplsnet_words '--help --version' "$word" ;;
-        1:*) _mplsnet_words 'run check generate flood reflect join' "$word" ;;
-        2:run | 2:check | 2:flood | 2:reflect | [23]:join) _mplsnet_files "$word" .toml ;;
-        3:run | 3:flood | 3:reflect | [45]:join) _mplsnet_files "$word" ;;
+        1:*) _mplsnet_words 'run check generate flood reflect join reach' "$word" ;;
+        2:run | 2:check | 2:flood | 2:reflect | 2:reach | [23]:join) _mplsnet_files "$word" .toml ;;
+        3:run | 3:flood | 3:reflect | 3:reach | [45]:join) _mplsnet_files "$word" ;;
         4:run | 6:join) _mplsnet_files "$word" .pcap ;;
         5:run | 7:join) _mplsnet_folders "$word" ;;
     esac

@@ -1,8 +1,8 @@
 """Works out what `mplsnet reach` puts for any topology and file of failures, without the program.
 
-It goes by the definitions and not by speed: what is left under a failure, by which nodes packets go over it, which routes
-a VRF holds, what becomes of each pair, the lines. Nothing is sent and nobody learns: this is the network at rest.
-reference.py calls it; the inputs are read by reference_inputs.py and reference_failures.py.
+It is a second telling of docs/REACH.md, told without the program's source: what is left under a failure, by which nodes
+packets go over it, which routes a VRF holds, what becomes of each pair, the lines. Nothing is sent and nobody learns:
+this is the network at rest. reference.py calls it; the inputs are read by reference_inputs.py and reference_failures.py.
 """
 
 from reference_failures import SETTINGS, failures_of

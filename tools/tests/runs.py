@@ -23,7 +23,7 @@ if words[:1] == ["check"]:  # of any topology
     sys.exit(0)
 if words[:1] + [len(words)] not in (["run", 5], ["flood", 3], ["reflect", 3], ["join", 7], ["reach", 2], ["reach", 3]):
     print("usage: mplsnet run TOPOLOGY SCRIPT CAPTURE FOLDER | check TOPOLOGY | generate NUMBER | flood TOPOLOGY SCRIPT"
-          " | reflect TOPOLOGY SCRIPT | join TOPOLOGY1 TOPOLOGY2 JOINTS SCRIPT CAPTURE FOLDER")
+          " | reflect TOPOLOGY SCRIPT | join TOPOLOGY1 TOPOLOGY2 JOINTS SCRIPT CAPTURE FOLDER | reach TOPOLOGY [FAILURES]")
     sys.exit(2)
 report, files = reference.COMMANDS[words[0]](*(open(path, "rb").read() for path in words[1 : 1 + reference.INPUTS[words[0]]]))
 for name, content in files.items():

@@ -34,7 +34,7 @@ def section(name):
 def commands():
     """The first words of the command lines that docs/FORMATS.md says something is done for."""
     table = FORMATS.split("## Command line")[1].split("##")[0]
-    return set(re.findall(r"^\| `(\w+) [A-Z0-9 ]+` \|", table, re.M))
+    return set(re.findall(r"^\| `(\w+) [A-Z0-9 \[\]]+` \|", table, re.M))
 
 
 class Page(unittest.TestCase):
@@ -68,6 +68,7 @@ class Bash(unittest.TestCase):
     def test_commands(self):
         self.assertEqual(commands(), self.completed("examples/first", "mplsnet", ""))
         self.assertEqual({"check"}, self.completed("examples/first", "mplsnet", "c"))
+        self.assertEqual({"reflect", "reach"}, self.completed("examples/first", "mplsnet", "re"))
 
     def test_files_by_their_place(self):
         first = "examples/first"
@@ -81,6 +82,9 @@ class Bash(unittest.TestCase):
         self.assertEqual(set(), self.completed(first, "mplsnet", "flood", "topology.toml", "script.txt", ""))
         self.assertEqual({"topology.toml", "expected"}, self.completed(first, "mplsnet", "reflect", ""))
         self.assertEqual(set(), self.completed(first, "mplsnet", "reflect", "topology.toml", "script.txt", ""))
+        self.assertEqual({"topology.toml", "expected"}, self.completed("examples/reach", "mplsnet", "reach", ""))
+        self.assertIn("failures.txt", self.completed("examples/reach", "mplsnet", "reach", "topology.toml", ""))
+        self.assertEqual(set(), self.completed("examples/reach", "mplsnet", "reach", "topology.toml", "failures.txt", ""))
         joined, given = "examples/two-providers", []
         for name in ("topology1.toml", "topology2.toml", "joints.txt", "script.txt", "capture.pcap"):
             self.assertIn(name, self.completed(joined, "mplsnet", "join", *given, ""))

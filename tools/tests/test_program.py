@@ -1,4 +1,4 @@
-"""The program by hand: help and version, the line on standard error after a failed call or a limit, `flood`, `reflect` and `join`.
+"""The program by hand: help and version, the line on standard error after a failed call or a limit, `flood`, `reflect`, `join` and `reach`.
 
 It is the proved one where it is built, else the trial build, or what MPLSNET names; where neither is there these are passed over. So are
 those of a command that an older program doesn't know.
@@ -21,6 +21,7 @@ PROGRAM = Path(os.environ["MPLSNET"]) if "MPLSNET" in os.environ else next(iter(
 FIRST = ROOT / "examples/first"
 FLOOD = ROOT / "examples/flood"
 REFLECT = ROOT / "examples/reflectors"
+REACH = ROOT / "examples/reach"
 JOINED = ROOT / "examples/two-providers"
 JOINS = [JOINED / name for name in ("topology1.toml", "topology2.toml", "joints.txt", "script.txt", "capture.pcap")]
 INPUTS = [FIRST / "topology.toml", FIRST / "script.txt", FIRST / "capture.pcap"]
@@ -34,8 +35,10 @@ def run(*words, **how):
 KNOWS_FLOOD, KNOWS_REFLECT = (bool(PROGRAM) and f"{word} TOPOLOGY SCRIPT" in run()[1] for word in ("flood", "reflect"))
 JOIN = "join TOPOLOGY1 TOPOLOGY2 JOINTS SCRIPT CAPTURE FOLDER"
 KNOWS_JOIN = bool(PROGRAM) and JOIN in run()[1]
+KNOWS_REACH = bool(PROGRAM) and "reach TOPOLOGY" in run()[1]
 FORMS = ["run TOPOLOGY SCRIPT CAPTURE FOLDER", "check TOPOLOGY", "generate NUMBER"]
 FORMS += ["flood TOPOLOGY SCRIPT"] * KNOWS_FLOOD + ["reflect TOPOLOGY SCRIPT"] * KNOWS_REFLECT + [JOIN] * KNOWS_JOIN
+FORMS += ["reach TOPOLOGY [FAILURES]"] * KNOWS_REACH
 USAGE = f"usage: mplsnet {' | '.join(FORMS)}\n"
 
 
@@ -185,6 +188,48 @@ class Reflect(unittest.TestCase):
         script = b"reflector rr1\n" + b"bgp up pe1 rr1\ndrain 4\nbgp down pe1 rr1\n" * 700_000 + b"bgp down pe1 rr1\n"
         lines = self.file("lines", script)
         self.assertEqual((9, "too large steps\n"), run("reflect", REFLECT / "topology.toml", lines)[:2])
+
+
+@unittest.skipUnless(KNOWS_REACH, "the program isn't built, or doesn't know 'reach' yet")
+class Reach(unittest.TestCase):
+    def setUp(self):
+        self.room = tempfile.TemporaryDirectory()
+        self.addCleanup(self.room.cleanup)
+
+    def file(self, name, content):
+        path = Path(self.room.name) / name
+        path.write_bytes(content)
+        return path
+
+    def test_puts_the_report_and_writes_nothing(self):
+        report = (REACH / "expected/report.txt").read_text()
+        self.assertEqual((0, report, ""), run("reach", REACH / "topology.toml", REACH / "failures.txt", cwd=self.room.name))
+        pairs = report.split("failure 1 ")[0]
+        self.assertEqual((0, f"{pairs}total pairs 5 failures 0 verdicts 0 lost 0 part 0 moved 0\n", ""), run("reach", REACH / "topology.toml"))
+        self.assertEqual([], list(Path(self.room.name).iterdir()))
+
+    def test_other_words_are_usage(self):
+        topology, failures = REACH / "topology.toml", REACH / "failures.txt"
+        for words in (["reach"], ["reach", topology, failures, failures], ["Reach", topology]):
+            self.assertEqual((2, USAGE, ""), run(*words), words)
+
+    def test_inputs_are_those_of_a_run(self):
+        topology, gone = REACH / "topology.toml", Path(self.room.name) / "gone"
+        line = f"mplsnet: {gone}: can't be read: No such file or directory (os error 2)\n"
+        for words in ([gone], [topology, gone], [gone, topology]):
+            self.assertEqual((6, "", line), run("reach", *words))
+        bad = self.file("bad", b"each link\nbgp down pe1 p1\n")
+        self.assertEqual((4, "script refused S6 NotEdge at line 2\n", ""), run("reach", topology, bad))
+        lines = self.file("lines", b"\n" * 3_000_001)
+        told = (9, "too large script lines\n", f"mplsnet: {lines}: more than 3000000 lines\n")
+        self.assertEqual(told, run("reach", topology, lines))
+
+    def test_too_many_pairs_are_told_after_a_refused_line(self):
+        topology = ROOT / "crates/mn_stored_runs/data/runs/more-pairs-than-are-told/topology.toml"
+        status, out, err = run("reach", topology)
+        self.assertEqual((9, "too large pairs\n"), (status, out))
+        self.assertTrue(err.startswith("mplsnet: ") and err.endswith(": more than 100000 pairs\n"), err)
+        self.assertEqual((4, "script refused S3 BadNumber at line 1\n", ""), run("reach", topology, self.file("bad", b"ttl 1\n")))
 
 
 @unittest.skipUnless(KNOWS_JOIN, "the program isn't built, or doesn't know 'join' yet")

@@ -229,6 +229,24 @@ class Lines(unittest.TestCase):
             self.assertEqual(["too large script lines"], report(TWO, "nonsense"))
 
 
+class Told(unittest.TestCase):
+    def test_the_page_shows_what_is_put(self):
+        blocks = (ROOT / "docs/REACH.md").read_text().split("```")[1::2]
+        self.assertEqual("\n".join(["console", "$ mplsnet reach examples/two-links/topology.toml", STAY, A, B, NOTHING, ""]), blocks[0])
+        found = (ROOT / "examples/reach/expected/report.txt").read_text().splitlines()
+        shown = blocks[1].splitlines()[1:]
+        self.assertEqual(4, sum(line.startswith("failure ") for line in shown))
+        for at, line in enumerate(shown):
+            self.assertIn(line, found)
+            if not line.startswith("failure "):
+                self.assertEqual(shown[at - 1], found[found.index(line) - 1])
+
+    def test_the_man_page_shows_what_is_put(self):
+        page = (ROOT / "man/mplsnet.1").read_text()
+        for line in report(TWO, "each link"):
+            self.assertEqual(line.startswith(("lost", "total")), f"\n{line}\n" in page, line)
+
+
 class Reference(unittest.TestCase):
     def run_it(self, *words):
         ran = subprocess.run([sys.executable, "-B", ROOT / "examples/reference.py", *map(str, words)], capture_output=True, text=True)
