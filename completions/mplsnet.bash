@@ -216,7 +216,7 @@ _mplsnet_expect() {
         --budget | --jobs) return ;;
     esac
     if [[ $word == -* ]]; then
-        _mplsnet_words '--help --json --all --junit --budget --jobs --program --quiet' "$word"
+        _mplsnet_words '--help --json --all --junit --simulate --budget --jobs --program --quiet' "$word"
         return
     fi
     case $(_mplsnet_place --junit --budget --jobs --program) in

@@ -1,10 +1,8 @@
-"""Answers expectations by the program: runs of their packets without a failure and with each, and what falls short of what is expected."""
+"""Answers expectations by the program: what becomes of their packets without a failure and with each, and what falls short of what is expected."""
 
-import shutil
-import tempfile
 from dataclasses import dataclass, field
-from pathlib import Path
 
+import mplsnet_reach as reach
 import mplsnet_whatif as whatif
 from mplsnet_files import Fault, way_of
 from mplsnet_knowledge import contains, prefix_text
@@ -14,9 +12,15 @@ SIZES = {"link": 1, "ldp": 2, "bgp": 3, "node": 4, "links": 5}  # which failure 
 
 @dataclass
 class Job(whatif.Job):
-    """A run, with the numbers of those of its packets that are to arrive: why they don't is told."""
+    """Packets under failures, with the numbers of those that are to arrive: why they don't is told.
+
+    Where `mplsnet reach` answers, `topology` is the one that it is asked of, `of_pair` has the packets by its pairs, and `fixed` how others end always.
+    """
 
     wanted: frozenset = frozenset()
+    keep_bgp: bool = False
+    of_pair: dict | None = None
+    fixed: dict = field(default_factory=dict)
 
 
 @dataclass(frozen=True)
@@ -94,16 +98,84 @@ def reason_of(end):
 
 def run_job(job):
     """The outcome without a failure, and then that of each failure; none where the run takes too many steps."""
-    with whatif.deaf():
-        whatif.WORKING["room"] = job.room
-        folder = whatif.WORKING["folder"] = tempfile.mkdtemp(prefix="mplsnet-expect-", dir=job.room)
     try:
-        return Reading(job, Path(folder)).outcomes()
+        with whatif.working(job.room, "mplsnet-expect-") as folder:
+            return Reading(job, folder).outcomes()
     except whatif.TooLarge:
         return None
-    finally:
-        shutil.rmtree(folder, ignore_errors=True)
-        whatif.WORKING.pop("folder", None)
+
+
+# By `mplsnet reach`.
+
+
+class Pairs(reach.Pairs):
+    """Which pair of reach tells of which packet: that of the longest prefix around its address of which the sender's VRF knows."""
+
+    def __init__(self, net, tables, packets):
+        super().__init__(net, tables, [])
+        self.pairs, self.fixed = {}, {}
+        for number, packet in enumerate(packets):
+            self.place(number, packet)
+        self.check()
+
+    def place(self, number, packet):
+        """The packet's pair; or how it ends always: with no route, or at its own site, which has the prefix."""
+        site, at = self.net.site_number[packet.site], int.from_bytes(packet.address, "big")
+        vrf, edge = self.net.vrf_of[site], self.net.nodes[self.net.edge_of(site)]
+        of = max((one for one in self.reaches[vrf].prefixes if contains(one, at)), key=lambda one: one[1], default=None)
+        if of is None:
+            self.fixed[number] = "dropped", f"NoRoute {edge}", edge
+        elif of in self.net.prefixes[site]:
+            self.fixed[number] = "delivered", packet.site, edge
+        else:
+            self.pairs[number] = f"{packet.site} {prefix_text(of if at == whatif.first_address(of) else self.free(of, vrf))}"
+
+    def of(self, numbers):
+        """Of these packets, by their places among them, which pairs tell of which, and how the others end."""
+        of_pair = {}
+        for at, number in enumerate(numbers):
+            if number in self.pairs:
+                of_pair.setdefault(self.pairs[number], []).append(at)
+        return of_pair, {at: self.fixed[number] for at, number in enumerate(numbers) if number in self.fixed}
+
+
+class Asking(reach.Asking):
+    """Asks reach of a job's failures, and reads how each packet ended."""
+
+    def __init__(self, job, folder):
+        lines, failures = list(map(reach.line_of, job.failures)), tuple(job.failures)
+        about = job.program, job.path, job.topology, job.tables, job.bring_up, job.keep_bgp, job.probes, job.of_pair
+        super().__init__(reach.Part(*about, 0, lines, failures), folder)
+        self.job = job
+
+    def base(self, ends):
+        self.ends = [self.job.fixed.get(at, end) for at, end in enumerate(ends)]
+        self.check(self.ends)
+        return reach.Answered(self.ended(None, self.ends))
+
+    def outcome(self, failure, changed):
+        ends = list(self.ends)
+        for pair, words in changed.items():
+            for at in self.part.of_pair.get(pair, ()):
+                ends[at] = self.end(at, words)
+        for at in self.job.wanted:
+            if ends[at] == self.ends[at] and ends[at][0] == "dropped" and ends[at][1].endswith(f" {self.edges[at]}"):
+                ends[at] = "dropped", f"{self.reasons.rule(failure, self.part.probes[at])} {self.edges[at]}", self.edges[at]
+        return self.ended(failure, ends)
+
+    def ended(self, failure, ends):
+        """The outcome, with the reasons why packets are lost that are to arrive."""
+        ends = [End(what, "", "", tuple(path.split())) if verdict == "delivered" else End(None, *what.split(), (path,)) for verdict, what, path in ends]
+        ends = [end if failure is None or failure.node != end.path[0] else down(failure, end) for end in ends]
+        lost = [whatif.Loss(at, ends[at].rule, ends[at].node, reason_of(ends[at])) for at in sorted(self.job.wanted) if ends[at].site is None]
+        return Outcome(failure, ends, self.reasons.told(failure, self.part.probes, lost), 1)
+
+
+def ask_job(job):
+    """The outcome without a failure, and then that of each failure, as reach answers."""
+    with whatif.working(job.room, "mplsnet-expect-") as folder:
+        answered = Asking(job, folder).answered()
+        return [answered.base, *(outcome for _, outcome in answered.outcomes)]
 
 
 # What falls short.
@@ -206,7 +278,7 @@ class Share:
 
 @dataclass
 class Runs:
-    """What is to be run for expectations; `pool` takes jobs, `make` makes one of failures and packets."""
+    """What is to be answered for expectations; `pool` takes jobs, `make` makes one of failures and packets, and `how` does it."""
 
     path: str  # of the file of expectations, for what is said of it
     lines: list
@@ -216,6 +288,7 @@ class Runs:
     budget: int
     workers: int
     progress: object = None
+    how: object = run_job
     steps: dict = field(default_factory=dict)
 
     def all(self):
@@ -255,7 +328,7 @@ class Runs:
         """Runs the shares; one that takes too many steps is halved. The steps without a failure."""
         base = 0
         while shares:
-            waiting = {self.pool.submit(run_job, self.make(share)): share for share in shares}
+            waiting = {self.pool.submit(self.how, self.make(share)): share for share in shares}
             shares = []
             for future in self.pool.as_completed(waiting):
                 outcomes, share = future.result(), waiting[future]

@@ -3,13 +3,10 @@
 `run_part` is a plain function of a part. It may be called in any process, and on any machine that has the program.
 """
 
-import shutil
 import subprocess
-import tempfile
 from dataclasses import dataclass, field
-from itertools import combinations
+from itertools import combinations, takewhile
 from math import comb
-from pathlib import Path
 
 import mplsnet_whatif as whatif
 from mplsnet_files import Fault
@@ -44,7 +41,7 @@ class Pairs:
             if int.from_bytes(probe.address, "big") != whatif.first_address(of):
                 of = self.free(of, net.vrf_of[net.site_number[probe.site]])
             self.of_pair.setdefault(f"{probe.site} {prefix_text(of)}", []).append(number)
-        self.check(sum(len(found) + sum(len(self.more.get(of, ())) for of in found) for found in net.prefixes))
+        self.check()
 
     def free(self, of, vrf):
         """An address of the prefix, as a prefix, that is in no longer one of which the VRF knows."""
@@ -59,8 +56,9 @@ class Pairs:
             self.more.setdefault(of, []).append(known)
         return known
 
-    def check(self, prefixes):
+    def check(self):
         """All pairs are told, also of sites that aren't asked for."""
+        prefixes = sum(len(found) + sum(len(self.more.get(of, ())) for of in found) for found in self.net.prefixes)
         known = [len(reach.prefixes) + sum(len(self.more.get(of, ())) for of in reach.prefixes) for reach in self.reaches]
         pairs = sum(known[vrf] - len(self.net.prefixes[site]) for site, vrf in enumerate(self.net.vrf_of))
         if prefixes > MOST_PREFIXES or pairs > MOST_PAIRS:
@@ -222,14 +220,8 @@ class Answered:
 
 def run_part(part):
     """What the failures of a part do."""
-    with whatif.deaf():
-        whatif.WORKING["room"] = part.room
-        folder = whatif.WORKING["folder"] = tempfile.mkdtemp(prefix="mplsnet-whatif-", dir=part.room)
-    try:
-        return Asking(part, Path(folder)).answered()
-    finally:
-        shutil.rmtree(folder, ignore_errors=True)
-        whatif.WORKING.pop("folder", None)
+    with whatif.working(part.room, "mplsnet-whatif-") as folder:
+        return Asking(part, folder).answered()
 
 
 class Asking:
@@ -243,8 +235,8 @@ class Asking:
         for number, edge in enumerate(self.edges):
             self.behind.setdefault(edge, []).append(number)
         self.reasons = Reasons(self.net, part.bring_up)
-        is_of_many = part.failures and isinstance(part.failures[0], int)
-        self.many = Many(self.net, part.failures[0], part.keep_bgp) if is_of_many else None
+        self.is_of_many = bool(part.failures) and isinstance(part.failures[0], int)
+        self.many = Many(self.net, part.failures[0], part.keep_bgp) if self.is_of_many else None
 
     def answered(self):
         """The program's lines, read; what is wrong with how it ended is a fault."""
@@ -288,15 +280,15 @@ class Asking:
             if found is None:
                 found = self.base(ends)
             if number is not None:
-                self.add(found, number, next(failures), changed, told)
+                self.add(found, number, next(failures, None), changed, told)
             changed, number, told = {}, int(words[1]) if words[0] == "failure" else None, " ".join(words[4:])
         return found if self.last.startswith("total ") and next(failures, None) is None else None
 
     def failures(self):
         """The failures in order, each as its links or itself."""
-        if self.many:
+        if self.is_of_many:
             many, first, end = self.part.failures
-            return (links for links in combinations(range(first, len(self.net.links)), many) if links[0] < end)
+            return takewhile(lambda links: links[0] < end, combinations(range(first, len(self.net.links)), many))
         return iter(self.part.failures)
 
     def end(self, probe, words):
@@ -305,11 +297,15 @@ class Asking:
             return "delivered", words[1], " ".join(words[words.index("path", 3) + 1 :])
         return "dropped", f"{words[1]} {words[3]}", self.edges[probe]
 
-    def base(self, ends):
-        """The outcome without a failure."""
+    def check(self, ends):
+        """That each probe has an end."""
         missing = next((number for number, end in enumerate(ends) if end is None), None)
         if missing is not None:
             raise Fault(f"{self.part.path}: the program tells of no pair {self.part.probes[missing].site} {self.part.probes[missing].prefix}", 3)
+
+    def base(self, ends):
+        """The outcome without a failure."""
+        self.check(ends)
         losses = [whatif.loss_of(None, number, probe, end) for number, (probe, end) in enumerate(zip(self.part.probes, ends))]
         self.words = [loss.words() if loss else end[2] for loss, end in zip(losses, ends)]
         self.kept = [loss is None for loss in losses]
@@ -318,12 +314,12 @@ class Asking:
 
     def add(self, found, number, failure, changed, told):
         """One failure more, of which these pairs have changed."""
-        if number != found.count + 1:
+        if number != found.count + 1 or failure is None:
             raise Fault(f"{self.part.path}: the program tells of failure {number} behind {found.count}", 3)
         found.count += 1
-        if not changed and not self.part.everything and (self.many or failure.node is None):
+        if not changed and not self.part.everything and (self.is_of_many or failure.node is None):
             return
-        if self.many:
+        if self.is_of_many:
             failure = self.many.failure(failure)
         if told != line_of(failure):
             raise Fault(f"{self.part.path}: the program tells of {told}, and {line_of(failure)} was asked for", 3)
@@ -343,5 +339,12 @@ class Asking:
         outcome.lost = self.reasons.told(failure, probes, lost) if lost else []
         outcome.moved = sum(self.kept[probe] and loss is None for probe, loss in losses.items())
         if self.part.paths:
-            outcome.paths = [(losses[at].words() if losses[at] else ends[at][2]) if at in ends else word for at, word in enumerate(self.words)]
+            words = {at: loss.words() if loss else ends[at][2] for at, loss in losses.items()}
+            outcome.paths = [words.get(at) or self.as_before(failure, at) for at in range(len(probes))]
         return outcome
+
+    def as_before(self, failure, at):
+        """What is told of a probe that is as without the failure, but that one which is dropped may be so by another rule."""
+        if self.kept[at] or not self.words[at].endswith(f" at {self.edges[at]}"):
+            return self.words[at]
+        return f"{self.reasons.rule(failure, self.part.probes[at])} at {self.edges[at]}"

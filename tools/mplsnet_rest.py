@@ -88,11 +88,23 @@ class Reasons:
     def __init__(self, net, bring_up):
         self.explainer = Explainer(net, {}, {}, {}, dated=False)
         self.known = self.explainer.known = AtRest(net, bring_up)
+        self.failure = None
+
+    def fail(self, failure):
+        if failure != self.failure:
+            self.known.fail(failure.down if failure else ())
+            self.failure = failure
 
     def told(self, failure, probes, losses):
         """The losses with their reasons."""
-        self.known.fail(failure.down if failure else ())
+        self.fail(failure)
         return [self.explained(probes[loss.probe], loss) for loss in losses]
+
+    def rule(self, failure, probe):
+        """Why a probe is dropped that is dropped with the failure and without it, of which nothing is told."""
+        self.fail(failure)
+        vrf = self.known.net.vrf_of[self.known.net.site_number[probe.site]]
+        return "NoLsp" if self.known.best(vrf, int.from_bytes(probe.address, "big")) else "NoRoute"
 
     def explained(self, probe, loss):
         net, known = self.known.net, self.known

@@ -319,22 +319,30 @@ def begun(words, report):
         return WORKING["program"]
 
 
+@contextlib.contextmanager
+def working(room, prefix):
+    """A folder in which the program works, and of which nothing is left however that ends."""
+    with deaf():
+        WORKING["room"] = room
+        folder = WORKING["folder"] = tempfile.mkdtemp(prefix=prefix, dir=room)
+    try:
+        yield Path(folder)
+    finally:
+        shutil.rmtree(folder, ignore_errors=True)
+        WORKING.pop("folder", None)
+
+
 class TooLarge(Exception):
     """The run takes more steps than a run may."""
 
 
 def run_job(job):
     """The outcome without a failure, and then that of each failure; none where the run takes too many steps."""
-    with deaf():
-        WORKING["room"] = job.room
-        folder = WORKING["folder"] = tempfile.mkdtemp(prefix="mplsnet-whatif-", dir=job.room)
     try:
-        return Reading(job, Path(folder)).outcomes()
+        with working(job.room, "mplsnet-whatif-") as folder:
+            return Reading(job, folder).outcomes()
     except TooLarge:
         return None
-    finally:
-        shutil.rmtree(folder, ignore_errors=True)
-        WORKING.pop("folder", None)
 
 
 class Reading:

@@ -15,9 +15,11 @@ from pathlib import Path
 
 from runs import ROOT, random_runs, stand_in
 
+import random_reach
+
 import mplsnet_expect as expect
 from mplsnet_files import read_topology
-from mplsnet_knowledge import Net
+from mplsnet_knowledge import Net, prefix_of
 from mplsnet_topology import topology_text
 
 TOOL = ROOT / "tools/mplsnet-expect"
@@ -216,9 +218,9 @@ class Random(unittest.TestCase):
         self.addCleanup(shutil.rmtree, self.folder)
         self.program = stand_in(self.folder)
 
-    def asked(self, topology, text):
+    def asked(self, topology, text, *words):
         (self.folder / "expect.txt").write_text(text)
-        words = [sys.executable, TOOL, "--quiet", "--json", "--jobs", "1", "--program", self.program, topology, self.folder / "expect.txt"]
+        words = [sys.executable, TOOL, "--quiet", "--json", "--jobs", "1", "--program", self.program, *words, topology, self.folder / "expect.txt"]
         ran = subprocess.run(words, capture_output=True, text=True)
         self.assertEqual("", ran.stderr, text)
         return json.loads(ran.stdout)["expectations"]
@@ -244,6 +246,29 @@ class Random(unittest.TestCase):
                     held, fell = held + found["holds"], fell + (not found["holds"])
         self.assertGreater(held, 0)
         self.assertGreater(fell, 0)
+
+    def test_reach_says_what_runs_say(self):
+        """Of what holds and what falls short, with each reason and path; of packets to what the sender knows no route to, too."""
+        fell, wanted = set(), len(SEEDS)
+        for seed in range(100):
+            tables = random_reach.reach_topology(random.Random(f"expect {seed}"))
+            prefixes = {site["name"]: [of for of in site.get("prefixes", []) if expect.whatif.first_address(prefix_of(of))] for site in tables["site"]}
+            sites = [site for site in prefixes if prefixes[site]]
+            others = [(site, of) for site in sites[:3] for other in sites for of in prefixes[other] if other != site and of not in prefixes[site]]
+            if len(sites) < 3 or len(others) < 2:
+                continue
+            path = self.folder / "net.toml"
+            path.write_text(topology_text(tables))
+            (one, of), (other, never) = others[0], others[-1]
+            text = f'all reach all after any ldp or any bgp\n"{sites[0]}" reaches none\n"{one}" reaches {of} after any failure\n"{other}" never reaches {never}\n'
+            with self.subTest(seed=seed):
+                found = self.asked(path, text)
+                self.assertEqual(found, self.asked(path, text, "--simulate"))
+                fell |= {short["what"] for one in found for short in one["short"]}
+            wanted -= 1
+            if not wanted:
+                break
+        self.assertLess({"NoRoute", "NoLsp", "Astray", "Arrives"}, fell | {"Path"})
 
 
 if __name__ == "__main__":

@@ -243,8 +243,7 @@ class Runs(unittest.TestCase):
                 self.assertEqual(probes and (base.lost, base.paths), probes and (answered.base.lost, answered.base.paths))
                 for one, (number, other) in zip(rest, answered.outcomes if probes else ()):
                     self.assertEqual((one.failure, one.lost, one.moved), (other.failure, other.lost, other.moved))
-                    was_kept = [at for at, path in enumerate(one.paths) if base.paths[at].partition(" ")[0] in net.number]
-                    self.assertEqual([one.paths[at] for at in was_kept], [other.paths[at] for at in was_kept])
+                    self.assertEqual(one.paths, other.paths)
                     seen.update([loss.rule for loss in one.lost] + ["moved"] * one.moved)
         for what in ("NoLsp", "NoRoute", "NodeDown", "Astray", "moved"):
             self.assertGreater(seen[what], 0, seen)
@@ -344,9 +343,10 @@ class Runs(unittest.TestCase):
         for was, now, said in (
             ("pair a", "pair x", "tells of no pair a 10.2.0.0/16"), ("failure 2", "failure 3", "tells of failure 3 behind 1"),
             ("line 2 link down pe1 p", "line 2 link down p pe1", "tells of link down p pe1"),
+            ("total pairs 3", "failure 4 line 5 each\ntotal pairs 3", "tells of failure 4 behind 3"),
         ):  # fmt: skip
             with self.assertRaisesRegex(Fault, said):
-                asking.read(iter([line.replace(was, now) for line in lines]))
+                asking.read(iter("\n".join(lines).replace(was, now).split("\n")))
 
     def test_a_second_telling_by_sets(self):
         """Reached, dropped or astray: in networks with default routes, of each failure and of none; with `resolve` and without."""
