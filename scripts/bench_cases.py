@@ -1,8 +1,11 @@
 """The cases of scripts/bench: each makes the topology, script and capture of a run. The inputs are the same every time."""
 
 import random
+import re
 import struct
+import subprocess
 import sys
+import tempfile
 from dataclasses import dataclass
 from pathlib import Path
 from typing import Callable, Iterator
@@ -371,6 +374,28 @@ def show_all(times=100):
     return Inputs(topology, script())
 
 
+EACH = "each link\neach node\neach ldp\neach bgp\n"
+
+
+def provider(failures):
+    """The provider of docs/WHATIF.md, as mplsnet-new makes it of its thirteen lines."""
+    short = re.search(r"```text\n(nodes: .*?)```", (ROOT / "docs/WHATIF.md").read_text(), re.S)[1]
+    with tempfile.TemporaryDirectory() as folder:
+        source, topology = Path(folder) / "provider.txt", Path(folder) / "topology.toml"
+        source.write_text(short)
+        subprocess.run([sys.executable, "-B", ROOT / "tools/mplsnet-new", "--from", source, "--topology", topology], check=True, stdout=subprocess.DEVNULL)
+        return Inputs(topology.read_text(), iter([failures]))
+
+
+def reached(failures):
+    """256 nodes with four links each; at each fourth an edge with four VRFs, and sixteen VPNs with sixteen sites each: 3,840 pairs."""
+    parts = [node(at) for at in range(256)]
+    parts += [link(a, b, cost=cost) for a, b, cost in random_links(256, 1_024)]
+    parts += [vrf(f"v{k}", 4 * (k // 4), 1 + k, f"65000:{k % 16}") for k in range(256)]
+    parts += [site(f"s{k}", f"v{k}", [prefix(k)]) for k in range(256)]
+    return Inputs("".join(parts), iter([failures]))
+
+
 def sized(name, says, make, sizes, **how):
     return [Case(f"{name}-{size}", says.format(f"{size:,}"), lambda size=size: make(size), size=size, **how) for size in sizes]
 
@@ -400,6 +425,10 @@ CASES = [
     Case("long-packets", "8,000 deliveries of packets of 65,535 bytes", long_packets),
     Case("long-path", "8,000 packets over 250 hops", long_path),
     *sized("middle", "2,000 carries from the middle of {} frames", carry_middle, (10_000, 100_000)),
+    Case("reach-provider", "38 nodes, all 332 single failures", lambda: provider(EACH), command="reach"),
+    Case("reach-provider-doubles", "38 nodes, each two of 68 links", lambda: provider("each 2 links\n"), command="reach"),
+    Case("reach-large", "256 nodes, 1,024 links, 3,840 pairs, all single failures", lambda: reached(EACH), command="reach"),
+    Case("reach-large-doubles", "the same, each two links, counted", lambda: reached("counts\neach 2 links\n"), command="reach"),
     Case("generate-50", "'generate 50'", number=50, size=58),
     Case("generate-99", "'generate 99'", number=99, size=107),
 ]  # fmt: skip

@@ -18,6 +18,8 @@ bench = importlib.util.module_from_spec(importlib.util.spec_from_loader("bench",
 sys.modules["bench"] = bench
 loader.exec_module(bench)
 bench_cases = sys.modules["bench_cases"]
+import reference_inputs  # noqa: E402
+import reference_reach  # noqa: E402
 
 # A program that writes one file of this text, puts a total line and ends with this status.
 FAKE = """#!/bin/sh
@@ -88,6 +90,16 @@ class Inputs(unittest.TestCase):
         inputs = case("reflect-8000").make()
         self.assertEqual(8_000, inputs.topology.count("/24"))
         self.assertEqual(129, "".join(inputs.script).count("bgp up"))
+
+    def test_failures_are_asked_of_networks_with_so_many_pairs(self):
+        for name, sites, links in (("reach-provider", 57, 68), ("reach-large", 256, 1_024)):
+            inputs = case(name).make()
+            self.assertEqual((sites, links), (inputs.topology.count("[[site]]"), inputs.topology.count("[[link]]")))
+            self.assertEqual("each link\neach node\neach ldp\neach bgp\n", "".join(inputs.script))
+            self.assertEqual(["reach", "in/topology.toml", "in/script.txt"], bench.words_of(case(name), Path("in"), Path("out")))
+        topology = reference_inputs.read_topology(inputs.topology.encode())
+        self.assertEqual(3_840, len(reference_reach.pairs_of(topology)))
+        self.assertEqual(64, len(topology.edges()))
 
     def test_names_of_cases_differ(self):
         names = [one.name for one in bench_cases.CASES]
