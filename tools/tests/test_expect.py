@@ -15,10 +15,10 @@ from pathlib import Path
 
 from runs import ROOT, random_runs, stand_in
 
-import mplsnet_expect as expect
-from mplsnet_files import read_topology
-from mplsnet_knowledge import Net
-from mplsnet_topology import topology_text
+import mplsnet.expect as expect
+from mplsnet.files import read_topology
+from mplsnet.knowledge import Net
+from mplsnet.topology import topology_text
 
 TOOL = ROOT / "tools/mplsnet-expect"
 HUB = ROOT / "examples/hub-and-spoke/topology.toml"

@@ -154,7 +154,7 @@ class Play(unittest.TestCase):
         (run / "pe1+p.pcap").write_bytes(header)
         self.assertEqual("Overslept", self.data(self.made(run, LINKS / "topology.toml"))["steps"][-1]["drop"])
 
-    @unittest.skipUnless((ROOT / "tools/mplsnet_why.py").exists(), "mplsnet-why isn't there")
+    @unittest.skipUnless((ROOT / "tools/mplsnet/why.py").exists(), "mplsnet-why isn't there")
     def test_why_a_packet_fell(self):
         example = ROOT / "examples/ordered-control"
         words = ("--capture", example / "capture.pcap", "--script", example / "script.txt")

@@ -19,10 +19,10 @@ from pathlib import Path
 
 from runs import ROOT, random_runs, reference, stand_in
 
-import mplsnet_whatif as whatif
-from mplsnet_files import read_topology
-from mplsnet_knowledge import Net
-from mplsnet_topology import topology_text
+import mplsnet.whatif as whatif
+from mplsnet.files import read_topology
+from mplsnet.knowledge import Net
+from mplsnet.topology import topology_text
 
 TOOL = ROOT / "tools/mplsnet-whatif"
 LINKS = ROOT / "examples/two-links/topology.toml"
