@@ -1,13 +1,12 @@
 """Scripts over a topology of one's own: it comes up step by step, packets are sent, and a link is taken out and put back."""
 
-import tomllib
-
 import mplsnet.expect as expect
 import mplsnet.whatif as whatif
 from mplsnet.files import Fault, bytes_of, read_topology
 from mplsnet.knowledge import Net
 from mplsnet.pcap import capture_of, udp_packet
 from mplsnet.rules import TopologyRules
+from mplsnet.toml import plain, read
 
 KINDS = ("node", "link", "vrf", "site")
 
@@ -16,7 +15,7 @@ class Network:
     """A topology with the packets that are sent over it: from each site one to each prefix of others that its VRF imports."""
 
     def __init__(self, name, text):
-        self.tables = tomllib.loads(text)
+        self.tables = plain(read(text.encode())[0])
         self.read = {kind: self.tables.get(kind, []) for kind in KINDS}
         self.resolve = self.tables.get("resolve") is True
         self.net = Net(name, self.read | {"resolve": self.resolve})

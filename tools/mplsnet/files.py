@@ -7,10 +7,10 @@ import sys
 from dataclasses import dataclass, field
 from pathlib import Path
 
-try:
-    import tomllib
-except ImportError:
-    sys.exit(f"{Path(sys.argv[0]).name}: needs Python 3.11 or later (for tomllib)")
+from mplsnet.toml import NotToml, plain, read
+
+if sys.version_info < (3, 11):
+    sys.exit(f"{Path(sys.argv[0]).name}: needs Python 3.11 or later")
 
 NAME = re.compile(r"[A-Za-z0-9._-]{1,32}\Z")
 
@@ -42,15 +42,20 @@ def lines_of(path, what):
 # The topology.
 
 
+def read_toml(path):
+    """The tables of the file, by TOML as the program reads it."""
+    content = bytes_of(path)
+    try:
+        return plain(read(content)[0])
+    except NotToml as error:
+        before = content.decode("utf-8", "replace")[: error.at]
+        line, column = before.count("\n") + 1, error.at - before.rfind("\n")
+        raise Fault(f"{path}: not TOML: {error} (at line {line}, column {column})") from None
+
+
 def read_topology(path):
     """The tables of the file, with what the tools need checked: names, and what they name."""
-    try:
-        with open(path, "rb") as file:
-            tables = tomllib.load(file)
-    except OSError as error:
-        raise Fault(f"{path}: {error.strerror}")
-    except (tomllib.TOMLDecodeError, UnicodeDecodeError) as error:
-        raise Fault(f"{path}: not TOML: {error}")
+    tables = read_toml(path)
     net = {kind: entries(path, tables, kind) for kind in ("node", "link", "vrf", "site")}
     nodes = names(path, net, "node")
     vrfs = names(path, net, "vrf")

@@ -57,6 +57,13 @@ def read(bytes_):
     return Reader(text).document(), text
 
 
+def plain(value):
+    """The value as dicts and lists, without places."""
+    if isinstance(value, dict):
+        return {key: plain(one) for key, one in value.items()}
+    return [plain(one) for one in value] if isinstance(value, list) else value
+
+
 class Reader:
     """What is left to be read begins at `at`."""
 
