@@ -9,10 +9,9 @@ from dataclasses import dataclass, field
 from heapq import heappop, heappush
 
 from mplsnet.files import Fault, done_by, lives_of
-from mplsnet.words import attributes
+from mplsnet.words import NO_SESSION, attributes, state_of
 
 INITIALIZATION, KEEPALIVE, ADDRESS, MAPPING, WITHDRAW, RELEASE = 0x0200, 0x0201, 0x0300, 0x0400, 0x0402, 0x0403
-STATES = {"ldp": ("openrec", "operational"), "bgp": ("openconfirm", "established")}
 START = None  # the step of what is so from the start
 
 
@@ -358,16 +357,12 @@ class Knowledge:
     def ldp_state(self, node, near, alive=None, heard=None):
         end = self.ends[node, near]
         alive, heard = (end.alive, end.heard) if alive is None else (alive, heard)
-        if not alive:
-            return "none"
-        first = "opensent" if self.is_active(node, near) else "initialized"
-        return first if heard == 0 else STATES["ldp"][min(heard, 2) - 1]
+        return state_of("ldp", self.is_active(node, near), heard) if alive else NO_SESSION["ldp"]
 
     def bgp_state(self, edge, peer):
         if self.pair(edge, peer) not in self.stand:
-            return "idle"
-        heard = self.listened[edge, peer][0]
-        return "opensent" if heard == 0 else STATES["bgp"][min(heard, 2) - 1]
+            return NO_SESSION["bgp"]
+        return state_of("bgp", True, self.listened[edge, peer][0])
 
     # Label paths.
 

@@ -311,9 +311,9 @@ function drawMove(before, after, step, share) {
   if (told) { toldMove(before, step, share); return; }
   if (step.k === "link") {
     const {a, b} = links[step.l], place = between(nodes[a], nodes[b], .5), cut = (step.cut || []).map(flight => `#${packets[flights[flight].p].n}`);
-    if (cut.length) mark({x: place.x, y: place.y - 14 * form.size}, `\u2715 LinkCut: ${cut.slice(0, 6).join(" ")}${cut.length > 6 ? " \u2026" : ""}`, "poor");
+    if (cut.length) mark({x: place.x, y: place.y - 14 * form.size}, `\u2715 ${step.rule}: ${cut.slice(0, 6).join(" ")}${cut.length > 6 ? " \u2026" : ""}`, "poor");
   } else if (step.k === "tick") {
-    drawOverdue(step.cut || []);
+    drawOverdue(step.rule, step.cut || []);
   } else if (step.k === "learn") {
     ring(nodes[step.n], share);
   } else if (step.k === "hear") {
@@ -336,12 +336,12 @@ function ring(one, share) {
 }
 
 // Marks the links whose frames time has passed.
-function drawOverdue(late) {
+function drawOverdue(rule, late) {
   const ends = flight => `${flights[flight].a} ${flights[flight].b}`;
   for (const way of new Set(late.map(ends))) {
     const [a, b] = way.split(" ").map(at => nodes[at]), place = between(a, b, .45), away = side(a, b);
     const names = late.filter(flight => ends(flight) === way).map(flight => `#${packets[flights[flight].p].n}`);
-    const words = `\u2715 Overdue: ${names.slice(0, 6).join(" ")}${names.length > 6 ? " \u2026" : ""}`;
+    const words = `\u2715 ${rule}: ${names.slice(0, 6).join(" ")}${names.length > 6 ? " \u2026" : ""}`;
     mark({x: place.x + away.x * 22 * form.size, y: place.y + away.y * 22 * form.size}, words, "poor");
   }
 }

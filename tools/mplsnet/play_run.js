@@ -81,7 +81,7 @@ function apply(state, step, number) {
   for (const flight of step.cut || []) {
     const {p, a} = flights[flight];
     leave(state, flight);
-    end(state, p, "dropped", `${step.k === "tick" ? "Overdue" : "LinkCut"} at ${nodes[a].name}`, number);
+    end(state, p, "dropped", `${step.rule} at ${nodes[a].name}`, number);
   }
   if (step.k === "inject" && !step.leg) { state.ways[step.p] = {path: [step.n]}; state.sent += 1; }
   if (step.f !== undefined && (step.k === "carry" || step.k === "lose")) leave(state, step.f);
@@ -108,14 +108,12 @@ function stateAfter(count) {
   return state;
 }
 
-// States of sessions, by the messages that each end has heard.
+// States of sessions, by the messages that each end has received and the table that the run's data has.
 function ends(state, kind, a, b) {
   const session = state.living[pair(kind, a, b)];
-  if (session === undefined) return kind === "ldp" ? ["none", "none"] : ["idle", "idle"];
+  if (session === undefined) return [run.none[kind], run.none[kind]];
   const opener = sessions[session][1], byOpener = state.heard[2 * session], byOther = state.heard[2 * session + 1];
-  const told = (count, isOpener) => kind === "bgp" ? ["opensent", "openconfirm", "established"][Math.min(count, 2)]
-    : [isOpener ? "opensent" : "initialized", "openrec", "operational"][Math.min(count, 2)];
-  const [one, other] = [told(byOpener, true), told(byOther, false)];
+  const [one, other] = [byOpener, byOther].map((count, end) => run.states[kind][end][Math.min(count, 2)]);
   return opener === a ? [one, other] : [other, one];
 }
 // The states of a line's two ends, as its two dots show them.

@@ -139,7 +139,7 @@ class Drawing:
     def ending(self, step, steps):
         """A mark where the step ends a packet."""
         if step["k"] == "tick":
-            self.overdue([(steps.flights[flight], steps.packets[packet]["n"]) for flight, packet in step["gone"]])
+            self.overdue(step.get("rule"), [(steps.flights[flight], steps.packets[packet]["n"]) for flight, packet in step["gone"]])
         if "p" not in step or "send" in step:
             return
         name = f"#{steps.packets[step['p']]['n']}"
@@ -154,14 +154,14 @@ class Drawing:
             (x, y), told = self.place(step["n"]), f"delivered, TTL {step['ttl']}" if "ttl" in step else step["drop"]
             self.text(f"{'✓' if 'ttl' in step else '✕'} {name} {told}", x, y + 44 * self.size, 15, GOOD if "ttl" in step else POOR, 700)
 
-    def overdue(self, late):
+    def overdue(self, rule, late):
         """A mark on each link whose frames time has passed."""
         ways = {}
         for flight, number in late:
             ways.setdefault((flight["a"], flight["b"]), []).append(f"#{number}")
         for (a, b), names in ways.items():
             (x, y), (far_x, far_y) = self.place(a), self.place(b)
-            self.text(f"\u2715 Overdue: {' '.join(names[:6])}", x + (far_x - x) * 0.45, y + (far_y - y) * 0.45 - 12 * self.size, 15, POOR, 700)
+            self.text(f"\u2715 {rule}: {' '.join(names[:6])}", x + (far_x - x) * 0.45, y + (far_y - y) * 0.45 - 12 * self.size, 15, POOR, 700)
 
     def words(self, step, at):
         """The step and its sentence, below the network."""

@@ -2,7 +2,7 @@
 
 from mplsnet.files import lives_of, passed
 from mplsnet.replay import Frames, sessions_of
-from mplsnet.words import bgp_words, ldp_words, packet_words
+from mplsnet.words import ENDED, NO_SESSION, bgp_words, ldp_words, packet_words, state_of
 
 
 class State:
@@ -80,10 +80,8 @@ class State:
         """The states of a session's two ends, by the messages that each has heard."""
         session = self.living.get(f"{kind} {min(a, b)} {max(a, b)}")
         if session is None:
-            return ("none", "none") if kind == "ldp" else ("idle", "idle")
-        first = {"ldp": ("opensent", "initialized"), "bgp": ("opensent", "opensent")}[kind]
-        then = ("openrec", "operational") if kind == "ldp" else ("openconfirm", "established")
-        told = [(first[end], *then)[min(self.heard[2 * session + end], 2)] for end in (0, 1)]
+            return NO_SESSION[kind], NO_SESSION[kind]
+        told = [state_of(kind, end == 0, self.heard[2 * session + end]) for end in (0, 1)]
         return tuple(told if self.sessions[session][1] == a else told[::-1])
 
 
@@ -134,7 +132,8 @@ class Steps:
             step["gone"] = [(self.flight_at.pop(flight), flight.packet - 1) for flight in self.moves[at].took]
             step["cut"] = [flight for flight, _ in step["gone"]]
             if step["cut"]:
-                said = "What flies on it is cut" if kind == "link" else "Overdue, each sent on its link longer ago than the link's life"
+                step["rule"] = ENDED[kind]
+                said = "What flies on it is cut" if kind == "link" else f"{ENDED[kind]}, each sent on its link longer ago than the link's life"
                 told["x"] += f" {said}: {', '.join(f'packet {self.number(packet + 1)}' for _, packet in step['gone'])}."
         if "ends" in step:
             told["x"] += self.unheard(self.lives[step["ends"]])

@@ -6,6 +6,20 @@ LDP = {0x0001: "Notification", 0x0200: "Initialization", 0x0201: "KeepAlive", 0x
 LABELS = {0x0400: "Label Mapping", 0x0402: "Label Withdraw", 0x0403: "Label Release"}
 PROTOCOLS = {1: "ICMP", 6: "TCP", 17: "UDP"}
 
+# The state of a session's end by how many messages it has received (RFC 5036, section 2.5.4; RFC 4271, section 8.2.2): of the end that
+# opens the session, and of the other; and of an end that has none.
+STATES = {
+    "ldp": (("opensent", "openrec", "operational"), ("initialized", "openrec", "operational")),
+    "bgp": (("opensent", "openconfirm", "established"), ("opensent", "openconfirm", "established")),
+}
+NO_SESSION = {"ldp": "none", "bgp": "idle"}
+ENDED = {"link": "LinkCut", "tick": "Overdue"}  # by which rule frames fall that a step of this kind takes from their links
+
+
+def state_of(protocol, is_opener, received):
+    """The state of an end of a session that lives."""
+    return STATES[protocol][0 if is_opener else 1][min(received, 2)]
+
 
 def address(data):
     return ".".join(map(str, data))
