@@ -10,7 +10,8 @@ it, with the link and without.
 
 from collections import deque
 from dataclasses import dataclass
-from heapq import heappop, heappush
+
+from mplsnet.knowledge import grown
 
 MOST_LOOPS, MOST_TRIES = 1_000, 100_000  # of a link and an edge: what is told, and what is tried
 WITH, WITHOUT = "with", "without"  # a next hop is that with the link, or that without it
@@ -18,17 +19,8 @@ WITH, WITHOUT = "with", "without"  # a next hop is that with the link, or that w
 
 def costs_to(net, edge, down=frozenset()):
     """Of each node that links lead to the edge from, without those that are down: the least cost."""
-    costs, heap = {edge: 0}, [(0, edge)]
-    while heap:
-        cost, node = heappop(heap)
-        if cost > costs[node]:
-            continue
-        for near, link in net.neighbours[node]:
-            longer = cost + net.links[link][2]
-            if link not in down and longer < costs.get(near, longer + 1):
-                costs[near] = longer
-                heappush(heap, (longer, near))
-    return costs
+    view = sum(1 << link for link in range(len(net.links)) if link not in down)
+    return grown(net, edge, view)[0]  # (a link costs the same in both directions)
 
 
 def hops_to(net, edge, costs, down=frozenset()):
