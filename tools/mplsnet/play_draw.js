@@ -311,7 +311,8 @@ function drawMove(before, after, step, share) {
   if (told) { toldMove(before, step, share); return; }
   if (step.k === "link") {
     const {a, b} = links[step.l], place = between(nodes[a], nodes[b], .5), cut = (step.cut || []).map(flight => `#${packets[flights[flight].p].n}`);
-    if (cut.length) mark({x: place.x, y: place.y - 14 * form.size}, `\u2715 ${step.rule}: ${cut.slice(0, 6).join(" ")}${cut.length > 6 ? " \u2026" : ""}`, "poor");
+    const words = `\u2715 ${step.rule}: ${cut.slice(0, 6).join(" ")}${cut.length > 6 ? " \u2026" : ""}`;
+    if (cut.length) mark({x: place.x, y: place.y - 14 * form.size}, words, "poor");
   } else if (step.k === "tick") {
     drawOverdue(step.rule, step.cut || []);
   } else if (step.k === "learn") {
