@@ -8,8 +8,9 @@
 # make examples   runs all examples and compares everything they write with what is expected (EXAMPLES="loss ring" for some)
 # make runs       compares the built program, and examples/reference.py, with the stored runs (crates/mn_stored_runs), in seconds
 # make tools      tests the tools, the scripts, the schema, the man page and the completions, and has tshark decode the examples' runs
-# make index      shows that all that docs/index.txt names is there, that it has every rule, and that docs/INDEX.md, docs/PROVED.md and the
-#                 pictures of the README and of crates/README.md, and the crates above in CONTRIBUTING, are as they are made
+# make index      shows that all that docs/INDEX.md names is there, that it has every rule, and that its table of RFCs, docs/PROVED.md, the
+#                 pictures of the README and of crates/README.md, and the crates above in CONTRIBUTING, are as they are made; and that
+#                 no count of scripts/readable is over its limit
 # make clean      removes what was built
 
 .PHONY: test trial build install uninstall demo examples runs tools index clean
@@ -49,6 +50,7 @@ index:
 	@python3 -B scripts/proved --check
 	@python3 -B scripts/layers --check
 	@python3 -B scripts/above --check
+	@python3 -B scripts/readable
 	@sh scripts/picture --check
 
 clean:

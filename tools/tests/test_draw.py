@@ -105,7 +105,7 @@ class Draw(unittest.TestCase):
         node = '[[node]]\nname = "x"\nloopback = "10.0.0.1"\n'
         self.refused(1, "nothing.toml: No such file", self.folder / "nothing.toml")
         for text, said in (
-            ("as = = 1", "not TOML: Invalid value (at line 1"),
+            ("as = = 1", "not TOML: '=' stands where a value has to stand (at line 1, column 6)"),
             ("[node]", "'node' isn't an array of tables"),
             ("node = [1]", "'node' isn't an array of tables"),
             (node + '[[link]]\na = "x"\nb = "y"\n', "link 0: b = 'y' names nothing"),
@@ -118,6 +118,12 @@ class Draw(unittest.TestCase):
         ):
             with self.subTest(text):
                 self.refused(1, f"net.toml: {said}", self.file(text))
+
+    def test_a_table_over_several_lines(self):
+        """TOML 1.1, which the program reads too."""
+        ran = self.run_draw(self.file('node = [{\n  name = "core",\n  loopback = "10.0.0.1",\n}]\n'))
+        self.assertEqual((0, ""), (ran.returncode, ran.stderr))
+        self.assertIn("core", ran.stdout)
 
     def test_wrong_reports(self):
         self.refused(1, "no line of packet 7: it has packets 1 to 6", "--report", self.report, "--packet", 7, LINKS)

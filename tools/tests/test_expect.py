@@ -17,10 +17,10 @@ from runs import ROOT, random_runs, stand_in
 
 import random_reach
 
-import mplsnet_expect as expect
-from mplsnet_files import read_topology
-from mplsnet_knowledge import Net, prefix_of
-from mplsnet_topology import topology_text
+import mplsnet.expect as expect
+from mplsnet.files import read_topology
+from mplsnet.knowledge import Net, prefix_of
+from mplsnet.topology import topology_text
 
 TOOL = ROOT / "tools/mplsnet-expect"
 HUB = ROOT / "examples/hub-and-spoke/topology.toml"

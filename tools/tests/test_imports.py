@@ -13,13 +13,13 @@ from pathlib import Path
 
 from runs import ROOT, reference
 
-import mplsnet_design as design_module
-import mplsnet_frr as frr
-import mplsnet_import as imports
-import mplsnet_left as left
-from mplsnet_files import Fault
-from mplsnet_rules import TopologyRules
-from mplsnet_topology import topology_text
+import mplsnet.design as design_module
+import mplsnet.frr as frr
+import mplsnet.imports as imports
+import mplsnet.left as left
+from mplsnet.files import Fault
+from mplsnet.rules import TopologyRules
+from mplsnet.topology import topology_text
 
 TOOL = ROOT / "tools/mplsnet-new"
 SEEDS = range(int(os.environ.get("MPLSNET_RANDOM", "40")))

@@ -37,19 +37,19 @@ class Index(unittest.TestCase):
         self.assertEqual((0, ""), (ran.returncode, ran.stderr))
 
     def test_a_definition_that_is_not_declared(self):
-        self.told("index.txt", "`IsPdu`", "`IsPdq`", "no such definition: mn_ldp_wire/specs/Grammar.antt IsPdq")
+        self.told("INDEX.md", "`IsPdu`", "`IsPdq`", "no such definition: mn_ldp_wire/specs/Grammar.antt IsPdq")
 
     def test_a_clause_that_the_call_has_not(self):
-        self.told("index.txt", "`first_fault`", "`last_fault`", "no such clause: mn_ipv4::check last_fault")
+        self.told("INDEX.md", "`first_fault`", "`last_fault`", "no such clause: mn_ipv4::check last_fault")
 
     def test_a_function_that_is_not_in_its_file(self):
-        self.told("index.txt", "mn_ipv4/src/header.rt `check`", "mn_ipv4/src/header.rt `chek`", "no such code: mn_ipv4/src/header.rt chek")
+        self.told("INDEX.md", "mn_ipv4/src/header.rt `check`", "mn_ipv4/src/header.rt `chek`", "no such code: mn_ipv4/src/header.rt chek")
 
     def test_a_rule_without_its_code(self):
-        self.told("index.txt", "    done     mn_ipv4/src/header.rt `check`\n", "", "a rule has its RFC, its text and below them 'defined, proved, done'")
+        self.told("INDEX.md", "- done: mn_ipv4/src/header.rt `check`\n", "", "a rule has its RFC, its text and below them 'defined, proved, done'")
 
     def test_a_rule_without_a_row(self):
-        self.told("FORMATS.md", "\n| T1 NotToml |", "\n| T17 NotNew |", "in no rule of docs/index.txt: T17 NotNew")
+        self.told("FORMATS.md", "\n| T1 NotToml |", "\n| T17 NotNew |", "in no rule of docs/INDEX.md: T17 NotNew")
 
     def test_a_rule_is_looked_up(self):
         ran = self.run_index("NoLsp")
@@ -85,20 +85,20 @@ class Index(unittest.TestCase):
                 self.assertIn(said, self.run_index(*words.split()).stdout.splitlines()[0])
 
     def test_a_synonym_stands_in_the_documents(self):
-        documents = "\n".join(path.read_text() for path in [ROOT / "docs/index.txt", *sorted((ROOT / "docs").glob("*.md"))]).lower()
+        documents = "\n".join(path.read_text() for path in sorted((ROOT / "docs").glob("*.md"))).lower()
         for line in (ROOT / "docs/synonyms.txt").read_text().splitlines():
             if line and not line.startswith("#"):
                 for words in line.split(" = ")[1].split("; "):
                     self.assertTrue(words.lower() in documents, line)
 
-    def test_a_row_of_the_page_is_taken(self):
+    def test_the_table_of_rfcs_is_made(self):
         page = self.root / "docs/INDEX.md"
-        row = "| 791, 3.1 | a rule that was added | mn_ipv4/specs/Header.antt `good` | mn_ipv4::check `passes` | mn_ipv4/src/header.rt `check` |\n"
-        page.write_text(page.read_text().replace("\n\n## Prefixes", "\n" + row.rstrip("\n") + "\n\n## Prefixes", 1))
-        self.assertIn("docs/INDEX.md: not as docs/index.txt has it", self.run_index().stderr)
-        self.assertEqual(0, self.run_index("--take").returncode)
-        self.assertIn("[791, 3.1] a rule that was added\n    defined  mn_ipv4/specs/Header.antt `good`\n", (self.root / "docs/index.txt").read_text())
-        self.assertEqual((0, ""), (self.run_index("--write").returncode, self.run_index().stderr))
+        rule = "[9999, 1] a rule that was added\n- defined: mn_ipv4/specs/Header.antt `good`\n- proved: mn_ipv4::check `passes`\n- done: mn_ipv4/src/header.rt `check`\n\n"
+        page.write_text(page.read_text().replace("## Prefixes", rule + "## Prefixes", 1))
+        self.assertIn("docs/INDEX.md: the table of RFCs isn't that of its rules", self.run_index().stderr)
+        self.assertEqual(0, self.run_index("--write").returncode)
+        self.assertIn("\n| 9999 | [IPv4 packets](#ipv4-packets) |\n", page.read_text())
+        self.assertEqual("", self.run_index().stderr)
 
 
 class Formats(unittest.TestCase):

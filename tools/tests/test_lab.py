@@ -20,17 +20,17 @@ from pathlib import Path
 
 from runs import ROOT, reference, stand_in
 
-import mplsnet_compare as compare
-import mplsnet_frr
-import mplsnet_import as imports
-import mplsnet_lab as lab
-import mplsnet_tables as tables
-import mplsnet_whatif as whatif
-from mplsnet_files import Fault
-from mplsnet_knowledge import Net
-from mplsnet_rules import TopologyRules
-from mplsnet_run import Run
-from mplsnet_topology import topology_text
+import mplsnet.compare as compare
+import mplsnet.frr
+import mplsnet.imports as imports
+import mplsnet.lab as lab
+import mplsnet.tables as tables
+import mplsnet.whatif as whatif
+from mplsnet.files import Fault
+from mplsnet.knowledge import Net
+from mplsnet.rules import TopologyRules
+from mplsnet.run import Run
+from mplsnet.topology import topology_text
 
 TOOL, LABS = ROOT / "tools/mplsnet-lab", Path(__file__).resolve().parent / "labs"
 TOPOLOGIES = [*sorted((ROOT / "examples").glob("*/topology*.toml")), *sorted(LABS.glob("*.toml"))]
@@ -109,7 +109,7 @@ class Export(Folder):
                 with self.subTest(f"{path} {form}"):
                     folder = self.folder / f"{form}-{path.parent.name}-{path.stem}"
                     written(folder, plan_of(path), form)
-                    came = (imports.netlab(folder / "topology.yml") if form == "netlab" else mplsnet_frr.frr(folder)).tables()
+                    came = (imports.netlab(folder / "topology.yml") if form == "netlab" else mplsnet.frr.frr(folder)).tables()
                     self.assertEqual([], TopologyRules(topology_text(came).encode()).broken)
                     self.assertEqual(essence(network(path)[1]), essence(came))
 

@@ -17,10 +17,10 @@ from runs import ROOT, left, random_runs, reference
 
 import reference_labels
 
-from mplsnet_files import done_by, lives_of, read_report, read_run, read_topology
-from mplsnet_pcap import capture_of, udp_packet
-from mplsnet_replay import Frames
-from mplsnet_wire import READERS, pieces
+from mplsnet.files import done_by, lives_of, read_report, read_run, read_topology
+from mplsnet.pcap import capture_of, udp_packet
+from mplsnet.replay import Frames
+from mplsnet.wire import READERS, pieces
 
 AGAIN = ROOT / "examples/labels-again"
 SEEDS = range(int(os.environ.get("MPLSNET_RANDOM", "40")))

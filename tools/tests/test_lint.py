@@ -11,8 +11,8 @@ from pathlib import Path
 
 ROOT = Path(__file__).resolve().parents[2]
 sys.path[:0] = [str(ROOT / "tools"), str(ROOT / "tools/tests"), str(ROOT / "scripts"), str(ROOT / "examples")]
-import mplsnet_rules  # noqa: E402
-import mplsnet_toml  # noqa: E402
+import mplsnet.rules  # noqa: E402
+import mplsnet.toml  # noqa: E402
 import random_runs  # noqa: E402
 import reference_inputs  # noqa: E402
 import test_schema  # noqa: E402
@@ -45,10 +45,10 @@ def topologies(name):
 
 def first_of(topology, script=None):
     """The words with which the program refuses the inputs, by what mplsnet-lint says first."""
-    rules = mplsnet_rules.TopologyRules(topology if isinstance(topology, bytes) else topology.encode())
+    rules = mplsnet.rules.TopologyRules(topology if isinstance(topology, bytes) else topology.encode())
     broken, what = rules.broken, "topology"
     if not broken and script is not None:
-        broken, what = mplsnet_rules.ScriptRules(script, rules.net).broken, "script"
+        broken, what = mplsnet.rules.ScriptRules(script, rules.net).broken, "script"
     if not broken:
         return None
     place = re.sub(" '.*", "", broken[0].place)
@@ -57,7 +57,7 @@ def first_of(topology, script=None):
 
 class First(unittest.TestCase):
     def refused(self, text, rule, place):
-        number = next(number for number, name in mplsnet_rules.RULES.items() if name == rule)
+        number = next(number for number, name in mplsnet.rules.RULES.items() if name == rule)
         self.assertEqual(f"topology refused T{number} {rule} at {place}", first_of(text), text[-200:])
 
     def test_is_the_programs_over_the_rows_of_refused_topologies(self):
@@ -183,7 +183,7 @@ class Life(unittest.TestCase):
 
     def first(self, figures):
         text = test_schema.GOOD.replace("cost = 65535\ndelay = 1000\nloss = 0\nlife = 1000000", figures)
-        return " ".join(one.rule for one in mplsnet_rules.TopologyRules(text.encode()).broken)
+        return " ".join(one.rule for one in mplsnet.rules.TopologyRules(text.encode()).broken)
 
     def test_ranges(self):
         for figures, rule in [
@@ -196,8 +196,8 @@ class Life(unittest.TestCase):
 class Toml(unittest.TestCase):
     def value(self, text):
         try:
-            return mplsnet_toml.read(text.encode())[0]
-        except mplsnet_toml.NotToml:
+            return mplsnet.toml.read(text.encode())[0]
+        except mplsnet.toml.NotToml:
             return None
 
     def test_reads_what_the_tests_of_the_reader_call_lawful(self):

@@ -12,7 +12,7 @@ FILES = {
     "crates/mn_high/src/lib.rt": "LinkCut\n\nlink_cut(x)\n",
     "crates/mn_low/specs/A.antt": "LinkCutter\n",
     "crates/mn_low/specs/B.antt": "-- LinkCut, and LinkCut\n",
-    "docs/INDEX.md": "`LinkCut`\n",
+    "docs/player.svg": "<!-- LinkCut -->\n",
     "tools/a.py": "linkcut LINK_CUT\n",
     "README.md": "LinkCut.\n",
     "ignored.txt": "LinkCut\n",
@@ -38,7 +38,7 @@ class Named(unittest.TestCase):
 
     def test_whole_words_in_the_order_of_the_crates(self):
         lines = ["crates/mn_low", "  crates/mn_low/specs/B.antt: 1", "crates/mn_high", "  crates/mn_high/src/lib.rt: 1 3"]
-        lines += ["docs", "  docs/INDEX.md: 1  (made by scripts/index --write)", "top", "  README.md: 1", "4 files, of 2 crates and 2 other places", ""]
+        lines += ["docs", "  docs/player.svg: 1  (made by scripts/picture)", "top", "  README.md: 1", "4 files, of 2 crates and 2 other places", ""]
         self.assertEqual((0, "\n".join(lines), ""), self.ran("LinkCut"))
 
     def test_what_is_named_nowhere_and_wrong_words(self):

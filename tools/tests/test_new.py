@@ -10,9 +10,9 @@ from pathlib import Path
 
 from runs import ROOT, reference
 
-import mplsnet_whatif as whatif
-from mplsnet_knowledge import Net
-from mplsnet_rules import TopologyRules
+import mplsnet.whatif as whatif
+from mplsnet.knowledge import Net
+from mplsnet.rules import TopologyRules
 
 TOOL = ROOT / "tools/mplsnet-new"
 SHORT = """\

@@ -18,11 +18,11 @@ from pathlib import Path
 from runs import ROOT, random_runs, reference, stand_in
 from test_whatif import CLUSTER, dask_python
 
-import mplsnet_loops as loops
-import mplsnet_orders as orders
-import mplsnet_whatif as whatif
-from mplsnet_files import read_topology
-from mplsnet_knowledge import Net, tree
+import mplsnet.loops as loops
+import mplsnet.orders as orders
+import mplsnet.whatif as whatif
+from mplsnet.files import read_topology
+from mplsnet.knowledge import Net, tree
 
 TOOL = ROOT / "tools/mplsnet-orders"
 MICRO = ROOT / "examples/micro-loop"

@@ -64,14 +64,6 @@ class Play(unittest.TestCase):
         self.assertEqual({"http://www.w3.org/2000/svg"}, set(re.findall(r"\w+://[^\"' ]*", page)))
         self.assertNotRegex(page, r"<link|<img|<iframe|<object|<embed|\ssrc=|\shref=|@import|url\(|fetch\(|XMLHttpRequest|import\(|eval\(")
 
-    def test_the_scripts_have_a_comment_for_each_function_and_no_long_line(self):
-        function = re.compile(r"(async )?function \w+\(|const \w+ = (\([^)]*\)|\w+) =>")
-        for script in sorted((ROOT / "tools").glob("mplsnet_play_*.js")):
-            lines = script.read_text().splitlines()
-            self.assertEqual([], [line for line in lines if len(line) > 160], script.name)
-            bare = [line for above, line in zip(["", *lines], lines) if function.match(line) and not above.startswith("//")]
-            self.assertEqual([], bare, script.name)
-
     def test_every_run_of_the_examples(self):
         self.assertIn(LINKS, RUNS)
         for run in RUNS:
@@ -162,7 +154,7 @@ class Play(unittest.TestCase):
         (run / "pe1+p.pcap").write_bytes(header)
         self.assertEqual("Overslept", self.data(self.made(run, LINKS / "topology.toml"))["steps"][-1]["drop"])
 
-    @unittest.skipUnless((ROOT / "tools/mplsnet_why.py").exists(), "mplsnet-why isn't there")
+    @unittest.skipUnless((ROOT / "tools/mplsnet/why.py").exists(), "mplsnet-why isn't there")
     def test_why_a_packet_fell(self):
         example = ROOT / "examples/ordered-control"
         words = ("--capture", example / "capture.pcap", "--script", example / "script.txt")

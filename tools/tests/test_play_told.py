@@ -18,7 +18,7 @@ from runs import ROOT, random_runs, reference
 from kept_runs import INPUTS, command_of, status_of  # noqa: E402
 
 sys.path.insert(0, str(ROOT / "tools"))
-from mplsnet_layout import cycle, drawing, joined, likely_edges  # noqa: E402
+from mplsnet.layout import cycle, drawing, joined, likely_edges  # noqa: E402
 
 TOOL = ROOT / "tools/mplsnet-play"
 STORED = ROOT / "crates/mn_stored_runs/data/runs"

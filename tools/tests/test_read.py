@@ -13,7 +13,7 @@ from pathlib import Path
 ROOT = Path(__file__).resolve().parents[2]
 TOOL = ROOT / "tools/mplsnet-read"
 sys.path.insert(0, str(ROOT / "tools"))
-from mplsnet_wire import READERS, Refused  # noqa: E402
+from mplsnet.wire import READERS, Refused  # noqa: E402
 
 sys.path.pop(0)
 FILES = {name: json.loads((ROOT / f"docs/vectors/{name}.json").read_text()) for name in ("ldp", "bgp", "bulk")}

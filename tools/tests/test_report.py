@@ -12,7 +12,7 @@ from pathlib import Path
 
 from runs import ROOT
 
-from mplsnet_run import KEYS, KINDS, Run
+from mplsnet.run import KEYS, KINDS, Run
 
 LINKS = ROOT / "examples/two-links/expected"
 AGAIN = ROOT / "examples/labels-again/expected"

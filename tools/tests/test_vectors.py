@@ -12,7 +12,7 @@ from pathlib import Path
 ROOT = Path(__file__).resolve().parents[2]
 FOLDER = ROOT / "docs/vectors"
 sys.path.insert(0, str(ROOT / "tools"))
-from mplsnet_wire import READERS, Refused  # noqa: E402
+from mplsnet.wire import READERS, Refused  # noqa: E402
 
 sys.path.pop(0)
 NAMES = ("ldp", "bgp", "bulk", "sessions")

@@ -10,13 +10,13 @@ from pathlib import Path
 
 ROOT = Path(__file__).resolve().parents[2]
 sys.path[:0] = [str(ROOT / "tools"), str(ROOT / "examples"), str(ROOT / "scripts")]
-import mplsnet_design  # noqa: E402
-import mplsnet_rules  # noqa: E402
-import mplsnet_warnings  # noqa: E402
+import mplsnet.design  # noqa: E402
+import mplsnet.rules  # noqa: E402
+import mplsnet.warnings  # noqa: E402
 import reference  # noqa: E402
 import reference_inputs  # noqa: E402
-from mplsnet_pcap import capture_of, udp_packet  # noqa: E402
-from mplsnet_topology import topology_text  # noqa: E402
+from mplsnet.pcap import capture_of, udp_packet  # noqa: E402
+from mplsnet.topology import topology_text  # noqa: E402
 
 LINT = ROOT / "tools/mplsnet-lint"
 # Two customers and a hub with two branches, over two inner nodes.
@@ -189,9 +189,9 @@ SLIPS = [
 
 class Slips(unittest.TestCase):
     def warned(self, text, script=b""):
-        rules = mplsnet_rules.TopologyRules(text.encode())
+        rules = mplsnet.rules.TopologyRules(text.encode())
         self.assertEqual([], rules.broken)
-        return mplsnet_warnings.TopologyWarnings(text.encode(), script).found
+        return mplsnet.warnings.TopologyWarnings(text.encode(), script).found
 
     def test_the_sound_network_has_none(self):
         self.assertEqual([], self.warned(NET))
@@ -225,11 +225,11 @@ class Slips(unittest.TestCase):
         self.assertEqual([], self.warned(of("b", ('["10.2.0.0/16"]', "[]")), b"route add b 10.2.0.0/16\r\n"))
 
     def test_made_topologies_have_none(self):
-        for family in mplsnet_design.FAMILIES:
-            text = mplsnet_design.family_text(family, 3, 4, 8, 4)
-            self.assertEqual([], self.warned(topology_text(mplsnet_design.Short("x").read(text).tables())), family)
+        for family in mplsnet.design.FAMILIES:
+            text = mplsnet.design.family_text(family, 3, 4, 8, 4)
+            self.assertEqual([], self.warned(topology_text(mplsnet.design.Short("x").read(text).tables())), family)
         text = "nodes: p[1-4] pe[01-05]\nlinks: ring p[1-4]; pe -> 2 of p\nvpn c1: pe01 pe02\nvpn c2: pe01 pe04; hub pe05\nvpn svc: pe03\nshare: svc with c1 c2\n"
-        self.assertEqual([], self.warned(topology_text(mplsnet_design.Short("x").read(text).tables())))
+        self.assertEqual([], self.warned(topology_text(mplsnet.design.Short("x").read(text).tables())))
 
 
 def record(packet, size=None):
@@ -245,7 +245,7 @@ class Captures(unittest.TestCase):
             good + b"\0" * 3, good + record(b"x", 262_145), good + record(b"x", 2), good,
             struct.pack(">IHHiIII", 0xA1B23C4D, 2, 4, 0, 0, 0, 101) + struct.pack(">4I", 0, 0, 1, 1) + b"\x45", good[:24],
         ):  # fmt: skip
-            found = mplsnet_warnings.Capture(content)
+            found = mplsnet.warnings.Capture(content)
             said = [re.sub("^", "capture refused ", one.words("").removeprefix(": ").partition(":")[0]) for one in found.broken]
             try:
                 due = reference_inputs.read_capture(content)
@@ -257,9 +257,9 @@ class Captures(unittest.TestCase):
         good = udp_packet(bytes((10, 1, 0, 1)), bytes((10, 2, 0, 1)))
         wrong_sum, short = good[:10] + b"\0\0" + good[12:], good[:2] + b"\0\x13" + good[4:]
         for packet in (b"", b"\x65" + good[1:], b"\x44" + good[1:], good[:19], good[:27], wrong_sum, good, short, b"\x4f" + good[1:]):
-            self.assertEqual(reference.fault_of(packet), mplsnet_warnings.drop_of(packet))
-        self.assertEqual("TtlExpired", mplsnet_warnings.drop_of(udp_packet(bytes((10, 1, 0, 1)), bytes((10, 2, 0, 1)), 1)))
-        self.assertEqual("NotUnicast", mplsnet_warnings.drop_of(udp_packet(bytes((10, 1, 0, 1)), bytes((224, 0, 0, 1)))))
+            self.assertEqual(reference.fault_of(packet), mplsnet.warnings.drop_of(packet))
+        self.assertEqual("TtlExpired", mplsnet.warnings.drop_of(udp_packet(bytes((10, 1, 0, 1)), bytes((10, 2, 0, 1)), 1)))
+        self.assertEqual("NotUnicast", mplsnet.warnings.drop_of(udp_packet(bytes((10, 1, 0, 1)), bytes((224, 0, 0, 1)))))
 
 
 class Tool(unittest.TestCase):
@@ -305,11 +305,11 @@ class Tool(unittest.TestCase):
     def test_the_examples_have_none(self):
         for path in sorted(ROOT.glob("examples/*/topology*.toml")):
             topology, folder = path.read_bytes(), path.parent
-            self.assertEqual([], mplsnet_warnings.TopologyWarnings(topology).found, path)
+            self.assertEqual([], mplsnet.warnings.TopologyWarnings(topology).found, path)
             if (folder / "capture.pcap").exists() and not (folder / "command.txt").exists():
-                script, capture = (folder / "script.txt").read_bytes(), mplsnet_warnings.Capture((folder / "capture.pcap").read_bytes())
-                found = mplsnet_warnings.TopologyWarnings(topology, script)
-                records = mplsnet_warnings.CaptureWarnings(script, capture.packets, {of for site in found.sites for of in site.prefixes})
+                script, capture = (folder / "script.txt").read_bytes(), mplsnet.warnings.Capture((folder / "capture.pcap").read_bytes())
+                found = mplsnet.warnings.TopologyWarnings(topology, script)
+                records = mplsnet.warnings.CaptureWarnings(script, capture.packets, {of for site in found.sites for of in site.prefixes})
                 self.assertEqual(([], [], [], []), (found.found, capture.broken, records.of_script, records.of_capture), folder)
 
 

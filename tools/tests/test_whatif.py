@@ -22,11 +22,11 @@ from runs import ROOT, random_runs, reference, stand_in
 
 import random_reach
 
-import mplsnet_reach as reach
-import mplsnet_whatif as whatif
-from mplsnet_files import Fault, read_topology
-from mplsnet_knowledge import Net
-from mplsnet_topology import topology_text
+import mplsnet.reach as reach
+import mplsnet.whatif as whatif
+from mplsnet.files import Fault, read_topology
+from mplsnet.knowledge import Net
+from mplsnet.topology import topology_text
 
 TOOL = ROOT / "tools/mplsnet-whatif"
 LINKS = ROOT / "examples/two-links/topology.toml"

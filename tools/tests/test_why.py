@@ -14,11 +14,11 @@ from pathlib import Path
 
 from runs import ROOT, left, random_runs, reference, reference_inputs
 
-from mplsnet_files import read_report, read_run, read_topology
-from mplsnet_knowledge import Net
-from mplsnet_pcap import capture_of, udp_packet
-from mplsnet_script import script_lines
-from mplsnet_why import WORDS, drops_of
+from mplsnet.files import read_report, read_run, read_topology
+from mplsnet.knowledge import Net
+from mplsnet.pcap import capture_of, udp_packet
+from mplsnet.script import script_lines
+from mplsnet.why import WORDS, drops_of
 
 TOOL = ROOT / "tools/mplsnet-why"
 SEEDS = range(int(os.environ.get("MPLSNET_RANDOM", "40")))

@@ -230,8 +230,8 @@ class Wireshark(unittest.TestCase):
         """By the lives of links where the topology is there; else as the report and the steps that follow have it."""
         sys.path.insert(0, str(TOOL.parent))
         self.addCleanup(sys.path.remove, str(TOOL.parent))
-        from mplsnet_files import lives_of, read_report, read_run, read_topology
-        from mplsnet_replay import Frames
+        from mplsnet.files import lives_of, read_report, read_run, read_topology
+        from mplsnet.replay import Frames
 
         late = ROOT / "examples/late"
         ways, lives = read_report(late / "expected/report.txt")[1], lives_of(read_topology(late / "topology.toml"))
