@@ -55,7 +55,7 @@ given : (a : Option Answer) (o : Outcome) → IsSomeAnd a (λ x. x.outcome ≡ o
 given None o h x e = absurd h
 given (Some y) o h x e = let s : y ≡ x = cc in sym h ∙ ap (λ z. z.outcome) s
 
--- an answer that comes is the one, or a fault that rose, or want of memory
+-- an answer that comes is the one, or a fault that rose, or out of memory
 pub completes : (a : Option Answer) (unread : Type 0) (old new : Counts) (o : Outcome) → (unread → a ≡ None) → OutcomeIs a o → CausedBy unread old new o →
     Completes a old new o
 completes a unread old new ReadFault missing h c x e none =
@@ -76,7 +76,7 @@ completes a unread old new (TooLarge which limit) missing h c x e none = inl (gi
 no_rise : (old new : Counts) → AreSound old → NoRise old new
 no_rise old new sound = (λ rose. subst (λ n. Rose n new.0) sound.0 rose, λ rose. subst (λ n. Rose n new.1) sound.1 rose, λ rose. subst (λ n. Rose n new.2) sound.2 rose)
 
--- over sound devices an answer that comes is the one, and where there is none a read's fault comes, or want of memory
+-- over sound devices an answer that comes is the one, and where there is none a read's fault comes, or out of memory
 pub soundly : (a : Option Answer) (unread : Type 0) (old new : Counts) (o : Outcome) → (unread → a ≡ None) → OutcomeIs a o → CausedBy unread old new o →
     EndsSoundly a old o
 soundly (Some x) unread old new o missing h c sound = completes (Some x) unread old new o missing h c x refl (no_rise old new sound)

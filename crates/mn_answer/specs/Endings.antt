@@ -17,7 +17,7 @@ PartFiles answer files after = MatchOption answer (after ≡ Some files) (λ a. 
 abbrev pub PartText : Option Answer → List ℕ → Option (List ℕ) → Type 0
 PartText answer before after = MatchOption answer (after ≡ Some before) (λ a. PartPut a.text before after)
 
--- the outcome is the answer's, but for faults and want of memory
+-- the outcome is the answer's, but for faults and out of memory
 abbrev pub OutcomeIs : Option Answer → Outcome → Type 0
 OutcomeIs answer ReadFault = ⊤
 OutcomeIs answer WriteFault = ⊤
@@ -76,7 +76,7 @@ SinkCausedBy old new outcome = CausedBy ⊥ (None, None, old) (None, None, new) 
 abbrev pub HasNone : (Files → Option Answer) → Option Files → Type 0
 HasNone answer files = ForSome files (λ m. answer m ≡ None)
 
--- usage is answered exactly where the words are no command line; the sink's fault and want of memory may come in its place
+-- usage is answered exactly where the words are no command line; the sink's fault and out of memory may come in its place
 abbrev pub UsageIff : Bool → Outcome → Type 0
 UsageIff is_good Usage = is_good ≡ false
 UsageIff is_good WriteFault = ⊤
@@ -87,7 +87,7 @@ UsageIff is_good outcome = is_good ≡ true
 abbrev pub NoRise : Counts → Counts → Type 0
 NoRise old new = (Rose old.0 new.0 → ⊥) × (Rose old.1 new.1 → ⊥) × (Rose old.2 new.2 → ⊥)
 
--- where there is an answer and no count rose, it comes, or want of memory
+-- where there is an answer and no count rose, it comes, or out of memory
 abbrev pub Completes : Option Answer → Counts → Counts → Outcome → Type 0
 Completes answer old new outcome = (a : Answer) → answer ≡ Some a → NoRise old new → (outcome ≡ a.outcome) ⊎ (outcome ≡ NoMemory)
 
@@ -95,7 +95,7 @@ Completes answer old new outcome = (a : Answer) → answer ≡ Some a → NoRise
 abbrev pub AreSound : Counts → Type 0
 AreSound counts = (counts.0 ≡ None) × (counts.1 ≡ None) × (counts.2 ≡ None)
 
--- over sound devices the answer comes, and where there is none, since an input isn't there, a read's fault; or want of memory
+-- over sound devices the answer comes, and where there is none, since an input isn't there, a read's fault; or out of memory
 abbrev pub EndsSoundly : Option Answer → Counts → Outcome → Type 0
 EndsSoundly answer old outcome =
     AreSound old → MatchOption answer ((outcome ≡ ReadFault) ⊎ (outcome ≡ NoMemory)) (λ a. (outcome ≡ a.outcome) ⊎ (outcome ≡ NoMemory))

@@ -14,7 +14,7 @@ use Rattle.mn_join_script.specs.declared.refusal.JointsRule.{JointsRule}
 use Rattle.mn_join_script.specs.declared.refusal.JointsRule.TheVariants as joints
 use Rattle.mn_lines.specs.Lines.{text}
 use Rattle.mn_answer.specs.declared.outcome.Limit.{Limit}
-use Rattle.mn_answer.specs.declared.outcome.Limit.TheVariants.{TopologyBytes, ScriptBytes, ScriptLines, CaptureBytes, CaptureRecords, Steps, JointsBytes}
+use Rattle.mn_answer.specs.declared.outcome.Limit.TheVariants.{TopologyBytes, ScriptBytes, ScriptLines, CaptureBytes, CaptureRecords, Steps, JointsBytes, Pairs}
 use Rattle.mn_answer.specs.declared.outcome.Outcome.{Outcome}
 use Rattle.mn_answer.specs.declared.outcome.Outcome.TheVariants.{Usage, BadTopology, BadScript, BadCapture, BadJoints, BadSecond, TooLarge}
 
@@ -78,10 +78,11 @@ limit_line CaptureBytes = codes "too large capture bytes\n"
 limit_line CaptureRecords = codes "too large capture records\n"
 limit_line Steps = codes "too large steps\n"
 limit_line JointsBytes = codes "too large joints bytes\n"
+limit_line Pairs = codes "too large pairs\n"
 
 -- the line of an outcome that refuses
 abbrev pub refusal_line : Outcome → List ℕ
-refusal_line Usage = codes "usage: mplsnet run TOPOLOGY SCRIPT CAPTURE FOLDER | check TOPOLOGY | generate NUMBER | flood TOPOLOGY SCRIPT | reflect TOPOLOGY SCRIPT | join TOPOLOGY1 TOPOLOGY2 JOINTS SCRIPT CAPTURE FOLDER\n"
+refusal_line Usage = codes "usage: mplsnet run TOPOLOGY SCRIPT CAPTURE FOLDER | check TOPOLOGY | generate NUMBER | flood TOPOLOGY SCRIPT | reflect TOPOLOGY SCRIPT | join TOPOLOGY1 TOPOLOGY2 JOINTS SCRIPT CAPTURE FOLDER | reach TOPOLOGY [FAILURES]\n"
 refusal_line (BadTopology rule place) = text (codes "topology refused " ∷ topo_rule_name rule ∷ codes " at " ∷ place_text place ∷ codes "\n" ∷ [])
 refusal_line (BadScript rule line) = text (codes "script refused " ∷ script_rule_name rule ∷ codes " at line " ∷ decimal line ∷ codes "\n" ∷ [])
 refusal_line (BadCapture rule place) = text (codes "capture refused " ∷ pcap_rule_name rule ∷ codes " at byte " ∷ decimal place ∷ codes "\n" ∷ [])

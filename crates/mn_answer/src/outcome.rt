@@ -23,6 +23,8 @@ pub enum Limit {
     Steps,
     /// 1 MiB of a list of joints.
     JointsBytes,
+    /// 100,000 pairs of a site and another site's prefix.
+    Pairs,
 }
 
 /// How `command` ends, with the status of the program at each.

@@ -130,7 +130,7 @@ fn plain_line(outcome: Outcome) -> &'static str
 {
     match outcome {
         Outcome::Usage => {
-            "usage: mplsnet run TOPOLOGY SCRIPT CAPTURE FOLDER | check TOPOLOGY | generate NUMBER | flood TOPOLOGY SCRIPT | reflect TOPOLOGY SCRIPT | join TOPOLOGY1 TOPOLOGY2 JOINTS SCRIPT CAPTURE FOLDER\n"
+            "usage: mplsnet run TOPOLOGY SCRIPT CAPTURE FOLDER | check TOPOLOGY | generate NUMBER | flood TOPOLOGY SCRIPT | reflect TOPOLOGY SCRIPT | join TOPOLOGY1 TOPOLOGY2 JOINTS SCRIPT CAPTURE FOLDER | reach TOPOLOGY [FAILURES]\n"
         }
         Outcome::TooLarge { which, .. } => limit_line(which),
         Outcome::BadTopology { .. }
@@ -157,6 +157,7 @@ fn limit_line(which: Limit) -> &'static str
         Limit::CaptureRecords => "too large capture records\n",
         Limit::Steps => "too large steps\n",
         Limit::JointsBytes => "too large joints bytes\n",
+        Limit::Pairs => "too large pairs\n",
     }
 }
 

@@ -7,12 +7,12 @@
 //! - `fetch K`, `begin K`, `append K`, `put K`: the run where the call of this number, from 1, of this kind fails
 //! - `cut N`: the run over the first N bytes of the capture
 //!
-//! A run is told by its outcome and status, how many bytes were put, and for each file `whole`, the length of the first part that is
+//! A run is reported by its outcome and status, how many bytes were put, and for each file `whole`, the length of the first part that is
 //! there, `none` where it wasn't begun, or `other`. Of `run` each file's length is told, and of `cut` what was put.
 #![tactic(auto)]
 
-mod devices;
-mod failing;
+mod devices; // runs over such a shelf, and what they leave
+mod failing; // a shelf in memory of which one call of a kind fails
 
 use crate::devices::Devices;
 use mn_rows::run;

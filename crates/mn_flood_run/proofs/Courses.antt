@@ -190,7 +190,7 @@ on_its_way sent = by sent.dir refl
     by Forth e = and_on (sent.link == sent.link) _ (test_same sent.link sent.link refl) (ap (λ (d : Dir). elim d [ Forth ↦ true | Back ↦ false ]) e)
     by Back e = and_on (sent.link == sent.link) _ (test_same sent.link sent.link refl) (ap (λ (d : Dir). elim d [ Forth ↦ false | Back ↦ true ]) e)
 
--- and nothing refuses that it is heard
+-- and nothing refuses that it is received
 pub unrefused : (now : FloodNow) (sent : Sent) → now.failed ≡ false → slice_get now.world.flying 0 ≡ Some sent →
     refusal_of now (Hear sent.link sent.dir) ≡ None
 unrefused now sent works first =
@@ -258,7 +258,7 @@ ends_full wiring run all left number now sent come flies is_full = by come.later
         ∙ ap (λ r. unless_stopped r (λ later. drain_for left wiring later)) stops in
         subst (λ r. (r.is_stopped ≡ true) × (r.refused ≡ run.refused)) (sym ends) (refl, come.refused)
 
--- and else it is heard
+-- and else it is received
 pub hears : (wiring : Wiring) (run : FloodRun) (all left : ℕ) (now new : FloodNow) (sent : Sent) → now.wiring ≡ wiring → ComesTo wiring run all (suc left) now →
     slice_get now.world.flying 0 ≡ Some sent → now.done ≢ most_steps → new ≡ happened now (Hear sent.link sent.dir) → ComesTo wiring run all left new
 hears wiring run all left now new sent over come flies apart happens = by come.later.world.flying refl

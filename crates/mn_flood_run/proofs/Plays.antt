@@ -74,7 +74,7 @@ begins_with topology run past more e =
     sym (append_assoc (flat_map refused_text past) (flat_map refused_text more) (rest_of topology run))
     ∙ ap (λ xs. xs ++ rest_of topology run) (sym (flat_map-append refused_text past more) ∙ ap (flat_map refused_text) (sym e))
 
--- want of memory after some lines
+-- out of memory after some lines
 pub want_after : (topology : Network) (run : FloodRun) (past more : List RefusedLine) (s t : Stand) → run.refused ≡ past ++ more → Told (flat_map refused_text past) s t →
     Tells {T = Unit {0}} (report topology run) s t (Err NoMemory)
 want_after topology run past more s t e before =

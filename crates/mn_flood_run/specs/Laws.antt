@@ -16,7 +16,7 @@ AllFit topology lines = All (λ line. command_fits topology line.command ≡ tru
 abbrev pub AreSettled : Network → FloodRun → Type 0
 AreSettled topology run = run.world.flying ≡ [] → trees_text topology run.world ≡ settled_text topology run.world.up
 
--- a drain that begins with f adverts hears at most f (1 + 2 L), L links, and then none flies, but where steps are full
+-- a drain that begins with f adverts receives at most f (1 + 2 L), L links, and then none flies, but where steps are full
 pub record IsDrained (topology : Network) (before after : FloodRun) : Type 0 where
   pub bounded : after.steps ≤ before.steps + drain_bound (wiring_of topology) before.world
   pub quiet : after.is_stopped ≡ false → after.world.flying ≡ []

@@ -39,7 +39,7 @@ Follows after before number played.All now = IsAt after now × (after.refused �
 Follows after before number (played.Refused why) now = IsAt after now × IsRefusedBy after before number why
 Follows after before number played.TooManySteps now = (after.is_stopped ≡ true) × (after.refused ≡ before.refused)
 
--- how an event went before which so many steps were done, by what the flood answered; want of memory is told otherwise
+-- how an event went before which so many steps were done, by what the flood answered; out of memory is reported otherwise
 abbrev pub IsAnswered : ℕ → Result (Unit {0}) FloodBad → Played → Type 0
 IsAnswered steps (Ok done) how = how ≡ (if steps == most_steps then played.TooManySteps else played.All)
 IsAnswered steps (Err why) how = (how ≡ played.Refused why) × (why ≢ bad.NoMemory)

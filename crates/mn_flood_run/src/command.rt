@@ -8,9 +8,9 @@ use mn_wiring::Dir;
 pub enum FloodCommand {
     /// That the link comes up, or goes down.
     Change(LinkNo, bool),
-    /// That the advert sent first of those that fly in the direction is heard.
+    /// That the advert sent first of those that fly in the direction is received.
     Hear(LinkNo, Dir),
-    /// That the advert sent first of all is heard, until none flies.
+    /// That the advert sent first of all is received, until none flies.
     Drain,
 }
 

@@ -16,7 +16,7 @@ pub fn where_none_flies_the_printed_trees_are_those_of_the_links()
     tree_is_computed();
 }
 
-/// A drain of a script that begins with f adverts hears at most f(1 + 2L), L links, and then none flies, but where steps are
+/// A drain of a script that begins with f adverts receives at most f(1 + 2L), L links, and then none flies, but where steps are
 /// full.
 pub fn each_drain_of_a_script_is_bounded()
     ensures { (topology : Network) (lines : List FloodLine) → IsLawful topology → AllFit topology lines → AreDrained topology lines }

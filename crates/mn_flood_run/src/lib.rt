@@ -2,8 +2,8 @@
 //!
 //! ```text
 //! link up A B, link down A B     a link comes up or goes down
-//! hear flood A B                 the advert sent first of those that fly from A to B is heard
-//! drain                          the advert sent first of all is heard, until none flies
+//! hear flood A B                 the advert sent first of those that fly from A to B is received
+//! drain                          the advert sent first of all is received, until none flies
 //! ```
 //!
 //! The report has a line for each line that was refused, then the tree of each node over the links that it takes for up, and

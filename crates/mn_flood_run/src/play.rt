@@ -42,7 +42,7 @@ fn answer_of(steps: u32, done: Result<(), FloodBad>) -> Result<Played, AllocErro
     }
 }
 
-/// Hears the advert that was sent first of those that fly this way; there is one.
+/// Receives the advert that was sent first of those that fly this way; there is one.
 fn hear_way(flood: &mut Flood, link: LinkNo, dir: Dir) -> Result<(), AllocError>
     requires link { link.0 < length flood.old.wiring.ends }
     requires few { flood.old.done ≤ most_steps }
@@ -56,7 +56,7 @@ fn hear_way(flood: &mut Flood, link: LinkNo, dir: Dir) -> Result<(), AllocError>
     }
 }
 
-/// Hears the advert that was sent first of all, until none flies.
+/// Receives the advert that was sent first of all, until none flies.
 fn drain(flood: &mut Flood) -> Result<Played, AllocError>
     requires works { flood.old.failed ≡ false }
     requires few { flood.old.done ≤ most_steps }
@@ -76,7 +76,7 @@ fn drain(flood: &mut Flood) -> Result<Played, AllocError>
     Ok(Played::All)
 }
 
-/// Plays a line. An `Err` is want of memory.
+/// Plays a line. An `Err` means out of memory.
 fn play_line(flood: &mut Flood, topology: &Topology, line: FloodLine) -> Result<Played, AllocError>
     requires fits { command_fits topology.now line.command ≡ true }
     requires over { flood.old.wiring ≡ wiring_of topology.now }

@@ -38,7 +38,7 @@ report_begins pairing run before written p =
 
 -- 2. A run that was cut off among its lines
 
--- of a call that wasn't done nothing is said
+-- of a call that wasn't done nothing is sent
 pub not_done : (pairing : Pairing) (run : JoinRun) (why : Fault) → AreLawfulIfDone pairing run (outcome_by (Err why))
 not_done pairing run fault.Read = tt
 not_done pairing run fault.Write = tt

@@ -1,4 +1,4 @@
--- What a script of two joined networks does: its lines one after another, with what is told of each.
+-- What a script of two joined networks does: its lines one after another, with what is reported of each.
 use Rattle.std.specs.Prelude.{ℕ, Bool, true, false, List, [], ◌∷◌, ◌++◌, Option, Some, None, codes}
 use Rattle.mn_topo.specs.declared.steps.Step.TheVariants.{Inject}
 use Rattle.mn_script.specs.declared.command.Command.{Command}
@@ -13,7 +13,7 @@ use Rattle.mn_join_laws.specs.Pairing.{Pairing, network, Both, at_first}
 use Rattle.mn_join_laws.specs.Course.{Exit, PairCourse, played}
 use Rattle.mn_join_script.specs.declared.line.JoinLine.{JoinLine}
 
--- a line that was refused, and the cause as it is told
+-- a line that was refused, and the cause as it is reported
 pub record RefusedLine : Type 0 where
   pub line : ℕ
   pub cause : List ℕ

@@ -93,7 +93,7 @@ abbrev pub UntoldAtRead : List ℕ → List ℕ → Option (List ℕ) → Result
 UntoldAtRead text before written (Err fault.Read) = PartPut text before written
 UntoldAtRead text before written other = ⊤
 
--- nothing is told of a packet, and no total, but where the file is whole
+-- nothing is reported of a packet, and no total, but where the file is whole
 abbrev pub TellsLate : List (List ℕ × List ℕ) → List ℕ → Files → Option Files → List ℕ → Option (List ℕ) → Type 0
 TellsLate files early m after before written = (after ≡ Some (laid files m)) ⊎ PartPut early before written
 

@@ -1,4 +1,4 @@
--- What a script of two joined networks has told and left where all was done.
+-- What a script of two joined networks has reported and left where all was done.
 use Rattle.std.specs.Prelude.{◌≡◌, ◌<◌, ℕ, List, ◌++◌, length, slice_index_or, Option, Some, option_map, Ok, ⊤}
 use Rattle.mn_edge.specs.Files.{Files, file}
 use Rattle.mn_edge.specs.Written.{laid}
@@ -21,7 +21,7 @@ use Rattle.mn_join_run.specs.Promise.{AccountsForLegs, IsAnsweredFor}
 
 -- the two topologies, their joints, the script's lines and the capture's packets are those of the files; the run is the script's over
 -- both networks; each network keeps what a run of it alone promises; each packet is answered for: its legs are its injections, each in the
--- network and at the site to which the leg before was handed on, with what that delivered, and what is told as delivered has crossed the
+-- network and at the site to which the leg before was handed on, with what that delivered, and what is reported as delivered has crossed the
 -- networks of all its legs; what was put is the report of the run, and the file is what came out at sites that aren't joined
 pub record TellsJoin (first_name second_name joints_name script_name capture_name folder : List ℕ) (files : Files) (before : List ℕ)
     (after : Option Files) (written : Option (List ℕ)) : Type 0 where

@@ -52,7 +52,7 @@ before_last leg (next ∷ legs) = leg ∷ before_last next legs
 
 -- Its legs are its injections: the first with the bytes of the record that its line names, each later one in the other network, at the site
 -- that is joined to the one where the leg before was delivered, with what that delivered; each node of the legs before the last has lowered
--- its TTL by one. Where it is told as delivered it has crossed the networks of all its legs. And it is delivered, at the site of its best
+-- its TTL by one. Where it is reported as delivered it has crossed the networks of all its legs. And it is delivered, at the site of its best
 -- route, where it wasn't refused at a joint and its last leg is sent in a steady stretch of its network, with a way there and TTL enough.
 pub record IsAnsweredFor (pairing : Pairing) (capture : List (List ℕ)) (both : Both) (sending : SentLine) (packet : Travel) : Type 0 where
   pub has : HasLegs pairing both packet

@@ -137,7 +137,7 @@ fn ends_at(links: &[LinkEnds], number: u16) -> (NodeNo, NodeNo)
     }
 }
 
-/// Of a link's two ends the one that sends in a direction, and the one that hears.
+/// Of a link's two ends the one that sends in a direction, and the one that receives.
 fn in_direction(ends: (NodeNo, NodeNo), dir: Dir) -> (NodeNo, NodeNo)
     ensures sender { result.0.0 ≡ sender_of (ends.0.0, ends.1.0) dir }
     ensures hearer { result.1.0 ≡ hearer_of (ends.0.0, ends.1.0) dir }

@@ -54,7 +54,7 @@ same_err why other e = cc
 no_err : (done : Unit {0}) (why : ReflectBad) → the_ok done ≡ Err why → ⊥
 no_err done why e = cc
 
--- a cause that isn't want of memory is told as it is
+-- a cause that isn't out of memory is told as it is
 cause_back : (why : Refused) → bad_of why ≢ bad.NoMemory → cause_of (bad_of why) ≡ why
 cause_back cause.Unchanged not = refl
 cause_back cause.Empty not = refl
@@ -239,7 +239,7 @@ module _ (topology : Network) (reflectors : List ℕ) where
     ends_full is_full =
         subst (λ r. (r.is_stopped ≡ true) × (r.notes ≡ run.notes)) (sym (goes_to (record come.later { is_stopped = true }) (full come.later hearing is_full))) (refl, come.told)
 
-    -- and else it is heard
+    -- and else it is received
     pub hears : length come.later.steps ≢ most_steps → IsRun topology reflectors (come.later.steps ++ hearing ∷ []) new → ComesTo run all left new
     hears apart stands =
         let few : length come.later.steps < most_steps = below topology reflectors come.later now new 0 hearing come.at apart in
@@ -251,7 +251,7 @@ module _ (topology : Network) (reflectors : List ℕ) where
           told = come.told;
         }
 
--- 4. What is told later stands behind what was told before
+-- 4. What is told later stands behind what was sent before
 
 pub record TellsMore (before after : ReflectRun) : Type 0 where
   pub more : List Note

@@ -1,12 +1,10 @@
 -- How a call ends.
-use Rattle.std.proofs.Common.{◌≡◌, ℕ, Bool, true, false, cond, List, [], ◌++◌, Option, Some, Result, Ok, Err, OnErr, refl, sym, ◌∙◌, ap, subst, append-nil}
+use Rattle.std.proofs.Common.{◌≡◌, ℕ, Bool, true, false, cond, List, ◌++◌, Option, Some, Ok, refl, sym, ◌∙◌, ap, subst}
 use Rattle.std.specs.Prelude.{option_map}
 use Rattle.mn_base.specs.Limits.{most_steps}
 use Rattle.mn_edge.specs.Files.{Files, file}
 use Rattle.mn_topo.specs.Network.{Network}
 use Rattle.mn_topo_toml.specs.Topology.{topology_of}
-use Rattle.mn_lines.specs.Putting.{PutOn, PartPut, Puts, PutsPart}
-use Rattle.mn_lines.proofs.Putting.{begun, ended}
 use Rattle.mn_answer.specs.declared.outcome.Limit.TheVariants.{Steps}
 use Rattle.mn_answer.specs.declared.outcome.Outcome.{Outcome}
 use Rattle.mn_answer.specs.declared.outcome.Outcome.TheVariants.{Done, Usage, ReadFault, WriteFault, NoMemory, BadTopology, BadScript, BadCapture, BadSecond, BadJoints, TooLarge}
@@ -19,35 +17,7 @@ use Rattle.mn_reflect_run.specs.Laws.{AreOfTheMesh, AreDrained}
 use Rattle.mn_reflect_run.specs.Answer.{outcome_of, told, reflect_done}
 use Rattle.mn_reflect_run.specs.Headline.{IsScriptTold, IsReflectTold}
 
--- 1. What stands in the sink
-
-pub on_err : {T E : Type 0} (r : Result T E) (P : Type 0) → P → OnErr r P
-on_err (Ok x) P p = tt
-on_err (Err e) P p = p
-
-pub put_on : (waits before : List ℕ) (written : Option (List ℕ)) → waits ≡ [] → written ≡ Some before → PutOn before [] waits written
-put_on waits before written none is = subst (λ w. PutOn before [] w written) (sym none) (begun before written is)
-
--- nothing was put
-pub nothing_put : (text before : List ℕ) (written : Option (List ℕ)) → written ≡ Some before → PartPut text before written
-nothing_put text before written is = ([], (text, refl), is ∙ ap Some (sym (append-nil before)))
-
--- a text was put and all that waited
-pub all_put : (text before waits more rest : List ℕ) (one two three : Option (List ℕ)) → waits ≡ [] → one ≡ Some before → Puts text waits more one two → Puts [] more rest two three →
-    rest ≡ [] → three ≡ Some (before ++ text)
-all_put text before waits more rest one two three none is first second done =
-    let on : PutOn before (text ++ []) rest three = second before text (first before [] (put_on waits before one none is)) in
-    ended before (text ++ []) three (subst (λ w. PutOn before (text ++ []) w three) done on) ∙ ap (λ t. Some (before ++ t)) (append-nil text)
-
-pub part_put : (text before waits : List ℕ) (one two : Option (List ℕ)) → waits ≡ [] → one ≡ Some before → PutsPart text waits one two → PartPut text before two
-part_put text before waits one two none is first = first before [] (put_on waits before one none is)
-
-pub part_ended : (text before waits more : List ℕ) (one two three : Option (List ℕ)) → waits ≡ [] → one ≡ Some before → Puts text waits more one two → PutsPart [] more two three →
-    PartPut text before three
-part_ended text before waits more one two three none is first second =
-    subst (λ t. PartPut t before three) (append-nil text) (second before text (first before [] (put_on waits before one none is)))
-
--- 2. The outcome of a course
+-- 1. The outcome of a course
 
 module _ (topology : Network) (reflectors : List ℕ) (run : ReflectRun) where
   by_end : (b : Bool) → run.is_stopped ≡ b → OutcomeIs (Some (told topology reflectors run)) (cond b (TooLarge Steps most_steps) Done)
@@ -80,7 +50,7 @@ module _ (topology : Network) (reflectors : List ℕ) (run : ReflectRun) where
   pub no_usage : (outcome : Outcome) → outcome ≡ outcome_of run → outcome ≡ Usage → ⊥
   no_usage outcome is e = usage_by run.is_stopped (sym is ∙ e)
 
--- 3. What is told where all was done
+-- 2. What is told where all was done
 
 pub script_told : (topology : Network) (script : Script) (name : List ℕ) (files : Files) (before : List ℕ) (written : Option (List ℕ)) (o : Outcome) →
     option_map (script_of topology) (file files name) ≡ Some (Ok script) → AreOfTheMesh topology (numbers_of script.reflectors) (course_of topology script) →

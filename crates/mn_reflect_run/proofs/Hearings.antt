@@ -1,4 +1,4 @@
--- What flies does so between two nodes that may have a session, and nothing refuses that it is heard.
+-- What flies does so between two nodes that may have a session, and nothing refuses that it is received.
 use Rattle.std.proofs.Common.{ℕ, ◌≡◌, inl, inr, Bool, true, false, cond, List, [], ◌∷◌, flat_map, Option, Some, None, refl, sym, ◌∙◌, ap, subst}
 use Rattle.std.specs.Prelude.{◌==◌, ◌&&◌, ◌||◌, not, nat_lt, if◌then◌else◌, is_none}
 use Rattle.mn_base.proofs.Bools.{no, and_on, and_left, test_same, same_numbers}
@@ -88,7 +88,7 @@ module _ (topology : Network) (reflectors : List ℕ) where
   live_after config (step.Lose l dir place) t live = absurd (no t)
   live_after config (step.Tick ticks) t live = absurd (no t)
 
-  -- what flies still, before anything is said, flew
+  -- what flies still, before anything is sent, flew
   without_in : (from to : ℕ) (flying : List Spoken) (spoken : Spoken) → In (without_first from to flying) spoken → In flying spoken
   without_in from to [] spoken i = i
   without_in from to (x ∷ more) spoken i = by (is_from_to from to x) i (λ j. without_in from to more spoken j)
@@ -194,7 +194,7 @@ module _ (topology : Network) (reflectors : List ℕ) where
   pub may_all : (steps : List Step) → AreTaken topology reflectors steps → MayAll (world_of topology reflectors steps)
   may_all steps t = may_from steps (start topology) t (record { live = λ a b h. absurd (no h); flies = λ spoken i. absurd i })
 
-  -- the message that was said first of all may be heard
+  -- the message that was sent first of all may be received
   pub hearing_takes : (flying : List Spoken) (hearing : Step) → ((spoken : Spoken) → In flying spoken → may_peer topology reflectors spoken.from spoken.to ≡ true) →
       first_hearing flying ≡ Some hearing → takes topology reflectors hearing ≡ true
   hearing_takes [] hearing may e = cc
@@ -205,7 +205,7 @@ module _ (topology : Network) (reflectors : List ℕ) where
       takes_of (Some done) = takes topology reflectors done
       takes_of None = true
 
-  -- what was said first of all is the first from the one to the other
+  -- what was sent first of all is the first from the one to the other
   pub first_flies : (spoken : Spoken) (more : List Spoken) → first_word spoken.from spoken.to (spoken ∷ more) ≡ Some spoken.word
   first_flies spoken more = ap (λ b. cond b (Some spoken.word) (first_word spoken.from spoken.to more))
       (and_on (spoken.from == spoken.from) (spoken.to == spoken.to) (test_same spoken.from spoken.from refl) (test_same spoken.to spoken.to refl))

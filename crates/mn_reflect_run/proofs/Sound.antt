@@ -49,7 +49,7 @@ module _ (t : Network) (reflectors : List ℕ) where
     done = done_more (start t) steps s run.done none;
   }
 
-  -- the hearing of what was said first of all is one
+  -- the hearing of what was sent first of all is one
   pub hearing_more : (steps : List Step) (hearing : Step) → IsLawfulRun t reflectors steps → (o : Option Step) →
       o ≡ Some hearing → o ≡ next_hearing t reflectors (record first_run { steps = steps }) → IsLawfulRun t reflectors (steps ++ hearing ∷ [])
   hearing_more steps hearing run o is next =

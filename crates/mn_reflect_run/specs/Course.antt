@@ -1,4 +1,4 @@
--- What a script of reflection does: its lines one after another, what is told of each, and where a full count of steps stops it.
+-- What a script of reflection does: its lines one after another, what is reported of each, and where a full count of steps stops it.
 use Rattle.std.specs.Prelude.{ℕ, zero, suc, Bool, true, false, nat_le, cond, List, [], ◌∷◌, ◌++◌, length, Option, Some, None}
 use Rattle.mn_base.specs.Limits.{most_steps}
 use Rattle.mn_topo.specs.Network.{Network}
@@ -11,12 +11,12 @@ use Rattle.mn_reflect_run.specs.declared.command.ReflectCommand.{ReflectCommand}
 use Rattle.mn_reflect_run.specs.declared.command.ReflectCommand.TheVariants as command
 use Rattle.mn_reflect_run.specs.declared.command.ReflectLine.{ReflectLine}
 
--- what is told in the script's order: a refused line by its number and cause, or the table of a VRF as it stands after these steps
+-- what is reported in the script's order: a refused line by its number and cause, or the table of a VRF as it stands after these steps
 pub data Note : Type 0 where
   Refusal : (line : ℕ) → (cause : Refused) → Note
   Table : (vrf : ℕ) → (steps : List Step) → Note
 
--- the steps done, what is told, and whether steps were full
+-- the steps done, what is reported, and whether steps were full
 pub record ReflectRun : Type 0 where
   pub steps : List Step
   pub notes : List Note
@@ -43,7 +43,7 @@ drained_by on run (Some hearing) = unless_stopped (stepped run hearing) on
 abbrev pub next_hearing : Network → List ℕ → ReflectRun → Option Step
 next_hearing topology reflectors run = first_hearing (world_of topology reflectors run.steps).flying
 
--- at most so many hearings, the message said first of all each time
+-- at most so many hearings, the message sent first of all each time
 abbrev pub drain_for : ℕ → Network → List ℕ → ReflectRun → ReflectRun
 drain_for zero topology reflectors run = run
 drain_for (suc more) topology reflectors run =

@@ -1,4 +1,4 @@
--- What a script of reflected routes has told where all was done.
+-- What a script of reflected routes has reported where all was done.
 use Rattle.std.specs.Prelude.{◌≡◌, ℕ, List, ◌++◌, Option, Some, option_map, Ok, ⊤}
 use Rattle.mn_edge.specs.Files.{Files, file}
 use Rattle.mn_topo.specs.Network.{Network}

@@ -27,7 +27,7 @@ AreOfTheMesh topology reflectors run =
     (v : ℕ) (steps : List Step) (route : HeldRoute) → Contains run.notes (Table v steps) → IsQuiet topology reflectors steps →
     HoldsItsRoutes topology reflectors (world_of topology reflectors steps) (edge_of topology v) v route
 
--- a drain that begins with m messages in flight hears at most R (1 + E) (m + B (1 + K)): R reflectors, E edges, B directions of living
+-- a drain that begins with m messages in flight receives at most R (1 + E) (m + B (1 + K)): R reflectors, E edges, B directions of living
 -- sessions, and K routes that are exported, or were announced in these sessions; and then none flies, but where it has a number or steps
 -- are full
 pub record IsBounded (topology : Network) (reflectors : List ℕ) (most : Option ℕ) (before after : ReflectRun) : Type 0 where

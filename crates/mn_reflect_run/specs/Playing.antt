@@ -44,12 +44,12 @@ cause_of bad.LabelsSpent = cause.LabelsSpent
 cause_of bad.NetFull = cause.NetFull
 cause_of bad.NoMemory = cause.NoMemory
 
--- how a step went before which so many were done, by what it was answered; want of memory is told otherwise
+-- how a step went before which so many were done, by what it was answered; out of memory is reported otherwise
 abbrev pub IsAnswered : ℕ → Result (Unit {0}) ReflectBad → Played → Type 0
 IsAnswered steps (Ok done) how = how ≡ (if steps == most_steps then played.TooManySteps else played.All)
 IsAnswered steps (Err why) how = (how ≡ played.Refused (cause_of why)) × (why ≢ bad.NoMemory)
 
--- what is told of a line that was done, and of one by how it went
+-- what is reported of a line that was done, and of one by how it went
 abbrev pub shown_by : List Step → ReflectCommand → List Note
 shown_by steps (command.Show vrf) = Table vrf.0 steps ∷ []
 shown_by steps asked = []
@@ -105,7 +105,7 @@ pub record Follows (topology : Network) (reflectors : List ℕ) (after before : 
   pub told : after.notes ≡ before.notes ++ notes_by before.steps line how
   pub shows : ShowsAt topology reflectors before.steps line.command now
 
--- after a drain: it met as many steps as there may be, or not; nothing is told of it
+-- after a drain: it met as many steps as there may be, or not; nothing is reported of it
 abbrev pub IsDrained : Network → List ℕ → ReflectRun → ReflectRun → Played → ReflectNow → Type 0
 IsDrained topology reflectors after before played.All now = IsAt topology reflectors after now × (after.notes ≡ before.notes)
 IsDrained topology reflectors after before (played.Refused why) now = ⊥
@@ -120,13 +120,13 @@ refused_in played.TooManySteps = 0
 abbrev pub notes_text : Network → List ℕ → List Note → List ℕ
 notes_text topology reflectors notes = flat_map (note_text topology reflectors) notes
 
--- these lines were played and none met full steps: what is told of them was put, and so many were refused
+-- these lines were played and none met full steps: what is reported of them was put, and so many were refused
 pub record ArePlayed (topology : Network) (reflectors : List ℕ) (lines : List ReflectLine) (now : ReflectNow) (refused : ℕ) (old new : Stand) : Type 0 where
   pub at : IsAt topology reflectors (run_of topology reflectors lines) now
   pub counted : refusals (run_of topology reflectors lines).notes ≡ refused
   pub told : Told (notes_text topology reflectors (run_of topology reflectors lines).notes) old new
 
--- one of the lines met full steps: what is told of those before it was put
+-- one of the lines met full steps: what is reported of those before it was put
 pub record AreCut (topology : Network) (reflectors : List ℕ) (lines : List ReflectLine) (old new : Stand) : Type 0 where
   pub stopped : (run_of topology reflectors lines).is_stopped ≡ true
   pub told : Told (notes_text topology reflectors (run_of topology reflectors lines).notes) old new

@@ -12,7 +12,7 @@ use Rattle.mn_reflect_telling.specs.Mentions.{numbers_of}
 use Rattle.mn_reflect_run.specs.declared.command.ReflectLine.{ReflectLine}
 use Rattle.mn_reflect_run.specs.Language.{Script, command_fits}
 
--- the line of this number was read behind others, or a rule refuses it; want of memory is free
+-- the line of this number was read behind others, or a rule refuses it; out of memory is free
 abbrev pub IsRead : ℕ → Result Script ScriptRule → Script → Result (Unit {0}) ScriptBad → Type 0
 IsRead number read new (Ok done) = read ≡ Ok new
 IsRead number read new (Err (Refused rule line)) = (read ≡ Err rule) × (line ≡ number)

@@ -43,7 +43,7 @@ abbrev pub table_text : Network → List ℕ → List Step → ℕ → List ℕ
 table_text topology reflectors steps v =
     route_lines topology (labels_of topology steps) v (held topology reflectors (world_of topology reflectors steps) (edge_of topology v) v)
 
--- 2. What is told, in the script's order
+-- 2. What is reported, in the script's order
 
 abbrev pub note_text : Network → List ℕ → Note → List ℕ
 note_text topology reflectors (Refusal line cause) = refused_line line (cause_text topology.site_names cause)

@@ -8,7 +8,7 @@ use mn_topo::Step;
 pub enum ReflectCommand {
     /// That the step is done.
     Do(Step),
-    /// That the message said first of all in flight is heard, at most so often, or until none flies.
+    /// That the message sent first of all in flight is received, at most so often, or until none flies.
     Drain(Option<u32>),
     /// The best route of each prefix that the VRF holds.
     Show(VrfNo),

@@ -17,7 +17,7 @@ pub fn where_none_flies_the_printed_tables_are_those_of_the_mesh()
     where_none_flies_a_vrf_holds_its_routes();
 }
 
-/// A drain of a script that begins with m messages in flight hears at most R (1 + E) (m + B (1 + K)), with R reflectors, E edges, B
+/// A drain of a script that begins with m messages in flight receives at most R (1 + E) (m + B (1 + K)), with R reflectors, E edges, B
 /// directions of living sessions and K routes; and a drain without a number then leaves none in flight, but where steps are full.
 pub fn each_drain_of_a_script_is_bounded()
     ensures { (topology : Network) (script : Script) → IsLawful topology → IsLawfulScript topology script → AreDrained topology script }

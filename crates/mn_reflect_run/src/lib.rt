@@ -3,11 +3,11 @@
 //! ```text
 //! reflector N                    the node N, which is no edge, is a route reflector (RFC 4456); these lines come first
 //! bgp up A B, bgp down A B       a session of a reflector and an edge, or of two reflectors, comes up or goes down
-//! hear bgp A B                   the message said first of those that fly from A to B is heard
+//! hear bgp A B                   the message sent first of those that fly from A to B is received
 //! route add SITE PREFIX, route del SITE PREFIX, site up SITE, site down SITE,
 //! import add VRF TARGET, import del VRF TARGET, export add VRF TARGET, export del VRF TARGET
 //!                                as in a script of the whole network
-//! drain N, drain                 the message said first of all is heard, at most N times or until none flies
+//! drain N, drain                 the message sent first of all is received, at most N times or until none flies
 //! show vrf VRF                   the best route of each prefix that the VRF holds
 //! ```
 //!

@@ -64,7 +64,7 @@ fn answer_of(steps: u64, done: Result<(), ReflectBad>) -> Result<Played, AllocEr
     }
 }
 
-/// Hears the message that was said first of all in flight.
+/// Receives the message that was sent first of all in flight.
 fn hear(reflect: &mut Reflect, hearing: &Step) -> Result<(), AllocError>
     requires { CanHear reflect.old hearing.now }
     ensures { (topology : Network) (reflectors : List ℕ) (steps : List StepOf) → IsRun topology reflectors steps reflect.old →
@@ -77,7 +77,7 @@ fn hear(reflect: &mut Reflect, hearing: &Step) -> Result<(), AllocError>
     }
 }
 
-/// How often a message is heard at most. No bound is one more than there may be steps.
+/// How often a message is received at most. No bound is one more than there may be steps.
 #[tactic(auto, unfolding(crate::specs::Course::every_hearing))]
 fn most_of(most: Option<u32>) -> u32
     ensures { result ≡ most_of most }
@@ -88,7 +88,7 @@ fn most_of(most: Option<u32>) -> u32
     }
 }
 
-/// Hears the message that was said first of all in flight, at most so often, until none flies.
+/// Receives the message that was sent first of all in flight, at most so often, until none flies.
 fn drain(reflect: &mut Reflect, most: u32) -> Result<Played, AllocError>
     requires { MayGoOn reflect.old }
     ensures { IfOk result (λ how. (topology : Network) (reflectors : List ℕ) (run : ReflectRun) → IsAt topology reflectors run reflect.old →
@@ -117,7 +117,7 @@ fn do_step(reflect: &mut Reflect, done: Step) -> Result<Played, AllocError>
     answer_of(steps, reflect.step(&done))
 }
 
-/// Plays a line. An `Err` is want of memory.
+/// Plays a line. An `Err` means out of memory.
 fn play_line(reflect: &mut Reflect, line: ReflectLine) -> Result<Played, AllocError>
     requires { MayPlay reflect.old line.command }
     ensures { IfOk result (λ how. (topology : Network) (reflectors : List ℕ) (run : ReflectRun) → IsAt topology reflectors run reflect.old →
@@ -140,7 +140,7 @@ pub(crate) enum Ended {
     TooManySteps,
 }
 
-/// Puts what is told of a line that was done: its table, where it shows one. `text` is written anew.
+/// Puts what is reported of a line that was done: its table, where it shows one. `text` is written anew.
 fn put_shown<O: Sink>(
     out: &mut O,
     page: &mut Page,
@@ -161,7 +161,7 @@ fn put_shown<O: Sink>(
     }
 }
 
-/// Puts what is told of a line, and answers how many refused lines that are. `text` is written anew.
+/// Puts what is reported of a line, and answers how many refused lines that are. `text` is written anew.
 fn put_told<O: Sink>(
     out: &mut O,
     page: &mut Page,

@@ -34,7 +34,7 @@ pub(crate) fn put_refusal<O: Sink>(
     put_pieces(out, page, &[text.as_slice()])
 }
 
-/// Puts the line of a route that another edge told, by the label that it gave. The prefix comes as its text.
+/// Puts the line of a route that another edge advertised, by the label that it gave. The prefix comes as its text.
 fn put_far_route<O: Sink>(
     out: &mut O,
     page: &mut Page,

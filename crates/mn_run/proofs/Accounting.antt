@@ -22,8 +22,8 @@ use Rattle.mn_answer.specs.declared.outcome.Limit.TheVariants.{Steps}
 use Rattle.mn_answer.specs.declared.outcome.Outcome.{Outcome}
 use Rattle.mn_answer.specs.declared.outcome.Outcome.TheVariants.{Done, Usage, BadTopology, BadScript, BadCapture, BadSecond, BadJoints, TooLarge, ReadFault, WriteFault, NoMemory}
 use Rattle.mn_run.specs.declared.words.Job.{Job}
-use Rattle.mn_run.specs.declared.words.Job.TheVariants.{Run, Check, Flood, Reflect, Join, Generate}
-use Rattle.mn_run.specs.Words.{word}
+use Rattle.mn_run.specs.declared.words.Job.TheVariants.{Run, Check, Flood, Reflect, Join, Reach, Generate}
+use Rattle.mn_run.specs.Words.{word, failures_name}
 use Rattle.mn_run.specs.Answer.{run_done, checked}
 use Rattle.mn_answer.specs.Endings.{OutcomeIs, FilesAre, TextIs}
 use Rattle.mn_ledger_laws.proofs.Accounted.{accounts}
@@ -37,6 +37,7 @@ use Rattle.mn_run.specs.declared.generate.Made.{Made}
 use Rattle.mn_run.specs.Answer.{generated_line, generated_done}
 use Rattle.mn_flood_run.specs.Headline.{IsFloodTold}
 use Rattle.mn_reflect_run.specs.Headline.{IsReflectTold}
+use Rattle.mn_reach_run.specs.Headline.{IsReachTold}
 use Rattle.mn_join_run.specs.Headline.{IsJoinTold}
 use Rattle.mn_run.specs.Headline.{IsKept, KeepsItsPromise, IsGenerated}
 use Rattle.mn_run.proofs.Draining.{each_is_drained}
@@ -152,6 +153,21 @@ reflect_kept words files before after written (BadCapture rule place) told same 
 reflect_kept words files before after written (BadSecond rule place) told same = tt
 reflect_kept words files before after written (BadJoints rule line) told same = tt
 reflect_kept words files before after written (TooLarge which limit) told same = tt
+
+-- what failures are told, where it was done, and no file changed
+pub reach_kept : (words : List (List ℕ)) (files : Files) (before : List ℕ) (after : Option Files) (written : Option (List ℕ)) (outcome : Outcome)
+    → IsReachTold (word words 1) (failures_name words) files before written outcome → after ≡ Some files → IsKept Reach words files before after written outcome
+reach_kept words files before after written Done told same = (told, same)
+reach_kept words files before after written Usage told same = tt
+reach_kept words files before after written ReadFault told same = tt
+reach_kept words files before after written WriteFault told same = tt
+reach_kept words files before after written NoMemory told same = tt
+reach_kept words files before after written (BadTopology rule place) told same = tt
+reach_kept words files before after written (BadScript rule line) told same = tt
+reach_kept words files before after written (BadCapture rule place) told same = tt
+reach_kept words files before after written (BadSecond rule place) told same = tt
+reach_kept words files before after written (BadJoints rule line) told same = tt
+reach_kept words files before after written (TooLarge which limit) told same = tt
 
 -- what two joined networks tell and leave, where it was done
 pub join_kept : (words : List (List ℕ)) (files : Files) (before : List ℕ) (after : Option Files) (written : Option (List ℕ)) (outcome : Outcome)

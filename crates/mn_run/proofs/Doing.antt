@@ -17,16 +17,18 @@ use Rattle.mn_flood_run.specs.Answer.{flood_answer}
 use Rattle.mn_flood_run.specs.Headline.{IsFloodTold}
 use Rattle.mn_reflect_run.specs.Answer.{reflect_answer}
 use Rattle.mn_reflect_run.specs.Headline.{IsReflectTold}
+use Rattle.mn_reach_run.specs.Answer.{reach_answer}
+use Rattle.mn_reach_run.specs.Headline.{IsReachTold}
 use Rattle.mn_join_run.specs.Answer.{join_answer}
 use Rattle.mn_join_run.specs.Headline.{IsJoinTold}
 use Rattle.mn_run.specs.declared.load.Inputs.{Inputs}
 use Rattle.mn_run.specs.declared.words.Job.{Job}
-use Rattle.mn_run.specs.declared.words.Job.TheVariants.{Run, Check, Flood, Reflect, Join, Generate, Nothing}
-use Rattle.mn_run.specs.Words.{word}
+use Rattle.mn_run.specs.declared.words.Job.TheVariants.{Run, Check, Flood, Reflect, Join, Reach, Generate, Nothing}
+use Rattle.mn_run.specs.Words.{word, failures_name}
 use Rattle.mn_run.specs.Answer.{job_answer, run_done, checked, generated}
 use Rattle.mn_run.specs.Jobs.{AreRead, ForDone}
 use Rattle.mn_run.specs.Headline.{IsGenerated, Ends}
-use Rattle.mn_run.proofs.Accounting.{kept, undone, topology_told, flood_kept, reflect_kept, join_kept, generated_kept}
+use Rattle.mn_run.proofs.Accounting.{kept, undone, topology_told, flood_kept, reflect_kept, reach_kept, join_kept, generated_kept}
 use Rattle.mn_run.proofs.Generating.{generated_writes}
 use Rattle.mn_run.proofs.Loading.{answer_is}
 
@@ -41,6 +43,9 @@ flood_makes_none number e = cc
 
 reflect_makes_none : (number : ℕ) → Reflect ≡ Generate number → ⊥
 reflect_makes_none number e = cc
+
+reach_makes_none : (number : ℕ) → Reach ≡ Generate number → ⊥
+reach_makes_none number e = cc
 
 join_makes_none : (number : ℕ) → Join ≡ Generate number → ⊥
 join_makes_none number e = cc
@@ -98,6 +103,17 @@ reflect_ends words files after before written o answers told same = record {
   answers = answers;
   kept = λ m is before begun. reflect_kept words m before after written o (told m is before begun) (same ∙ is);
   told = λ number e. absurd (reflect_makes_none number e);
+}
+
+-- failures were told
+pub reach_ends : (words : List (List ℕ)) (files after : Option Files) (before written : Option (List ℕ)) (o : Outcome) →
+    ForSome files (λ m. Answers (reach_answer (word words 1) (failures_name words) m) m after before written o) →
+    ForSome files (λ m. ForSome before (λ text. IsReachTold (word words 1) (failures_name words) m text written o)) → after ≡ files →
+    Ends Reach words files after before written o
+reach_ends words files after before written o answers told same = record {
+  answers = answers;
+  kept = λ m is before begun. reach_kept words m before after written o (told m is before begun) (same ∙ is);
+  told = λ number e. absurd (reach_makes_none number e);
 }
 
 -- two joined networks were told

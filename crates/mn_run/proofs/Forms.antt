@@ -7,8 +7,8 @@ use Rattle.mn_base.proofs.Bools.{and_left, and_right}
 use Rattle.mn_edge.proofs.Entries.{text-eq}
 use Rattle.mn_text.specs.Numbers.{number_up_to}
 use Rattle.mn_join_run.specs.Inside.{is_inside}
-use Rattle.mn_run.specs.declared.words.Job.TheVariants.{Run, Check, Flood, Reflect, Join, Generate}
-use Rattle.mn_run.specs.Words.{word, is_run, is_check, is_flood, is_reflect, is_join, generator_number, generating, job_of}
+use Rattle.mn_run.specs.declared.words.Job.TheVariants.{Run, Check, Flood, Reflect, Join, Reach, Generate}
+use Rattle.mn_run.specs.Words.{word, is_run, is_check, is_flood, is_reflect, is_join, is_reach, generator_number, generating, job_of}
 
 -- the capture of a run lies outside its folder
 pub apart : (words : List (List ℕ)) → is_run words ≡ true → is_inside (word words 3) (word words 4) ≡ false
@@ -54,22 +54,36 @@ no_number_check words number check is = not_both (length words == 2) (word words
         let none : None ≡ Some number = sym (ap (λ w. if pointwise nat_eq w (codes "generate") then x else None) (text-eq w (codes "check") h)) ∙ e in cc
     not_both false w x h e = let none : None ≡ Some number = e in cc
 
+-- nor those of `reach`
+no_number_reach : (words : List (List ℕ)) (number : ℕ) → is_reach words ≡ true → generator_number words ≡ Some number → ⊥
+no_number_reach words number reach is =
+    not_both (length words == 2) (word words 0) (number_up_to (word words 1) 99) (and_right ((length words == 2) || (length words == 3)) _ reach) is
+  where
+    not_both : (two : Bool) (w : List ℕ) (x : Option ℕ) → pointwise nat_eq w (codes "reach") ≡ true →
+        (if two && pointwise nat_eq w (codes "generate") then x else None) ≡ Some number → ⊥
+    not_both true w x h e =
+        let none : None ≡ Some number = sym (ap (λ w. if pointwise nat_eq w (codes "generate") then x else None) (text-eq w (codes "reach") h)) ∙ e in cc
+    not_both false w x h e = let none : None ≡ Some number = e in cc
+
 -- words with a number ask for its run
 pub number_job : (words : List (List ℕ)) (number : ℕ) → generator_number words ≡ Some number → job_of words ≡ Generate number
 number_job words number is =
-    by (is_run words) (is_check words) (is_flood words) (is_reflect words) (is_join words) (λ run. other 5 refl _ run)
+    by (is_run words) (is_check words) (is_flood words) (is_reflect words) (is_join words) (is_reach words) (λ run. other 5 refl _ run)
     (λ check. no_number_check words number check is) (λ flood. other 3 refl _ flood) (λ reflect. other 3 refl _ reflect) (λ join. other 7 refl _ join)
+    (λ reach. no_number_reach words number reach is)
     ∙ ap generating is
   where
     other : (k : ℕ) → (k == 2) ≡ false → (a : Bool) → ((length words == k) && a) ≡ true → ⊥
     other k differs a h = no_number k (length words) a _ (number_up_to (word words 1) 99) number differs h is
 
-    by : (run check flood reflect join : Bool) → (run ≡ true → ⊥) → (check ≡ true → ⊥) → (flood ≡ true → ⊥) → (reflect ≡ true → ⊥) → (join ≡ true → ⊥) →
-        (if run then Run else if check then Check else if flood then Flood else if reflect then Reflect else if join then Join else
+    by : (run check flood reflect join reach : Bool) → (run ≡ true → ⊥) → (check ≡ true → ⊥) → (flood ≡ true → ⊥) → (reflect ≡ true → ⊥) → (join ≡ true → ⊥) →
+        (reach ≡ true → ⊥) →
+        (if run then Run else if check then Check else if flood then Flood else if reflect then Reflect else if join then Join else if reach then Reach else
         generating (generator_number words)) ≡ generating (generator_number words)
-    by true check flood reflect join no_run no_check no_flood no_reflect no_join = absurd (no_run refl)
-    by false true flood reflect join no_run no_check no_flood no_reflect no_join = absurd (no_check refl)
-    by false false true reflect join no_run no_check no_flood no_reflect no_join = absurd (no_flood refl)
-    by false false false true join no_run no_check no_flood no_reflect no_join = absurd (no_reflect refl)
-    by false false false false true no_run no_check no_flood no_reflect no_join = absurd (no_join refl)
-    by false false false false false no_run no_check no_flood no_reflect no_join = refl
+    by true check flood reflect join reach no_run no_check no_flood no_reflect no_join no_reach = absurd (no_run refl)
+    by false true flood reflect join reach no_run no_check no_flood no_reflect no_join no_reach = absurd (no_check refl)
+    by false false true reflect join reach no_run no_check no_flood no_reflect no_join no_reach = absurd (no_flood refl)
+    by false false false true join reach no_run no_check no_flood no_reflect no_join no_reach = absurd (no_reflect refl)
+    by false false false false true reach no_run no_check no_flood no_reflect no_join no_reach = absurd (no_join refl)
+    by false false false false false true no_run no_check no_flood no_reflect no_join no_reach = absurd (no_reach refl)
+    by false false false false false false no_run no_check no_flood no_reflect no_join no_reach = refl

@@ -23,9 +23,10 @@ use Rattle.mn_answer.specs.Answer.{Answer, refusal_of, with_topology_bytes, with
 use Rattle.mn_flood_run.specs.Answer.{flood_answer}
 use Rattle.mn_reflect_run.specs.Answer.{reflect_answer}
 use Rattle.mn_join_run.specs.Answer.{join_answer}
+use Rattle.mn_reach_run.specs.Answer.{reach_answer}
 use Rattle.mn_run.specs.declared.words.Job.{Job}
-use Rattle.mn_run.specs.declared.words.Job.TheVariants.{Run, Check, Flood, Reflect, Join, Generate, Nothing}
-use Rattle.mn_run.specs.Words.{word, job_of}
+use Rattle.mn_run.specs.declared.words.Job.TheVariants.{Run, Check, Flood, Reflect, Join, Reach, Generate, Nothing}
+use Rattle.mn_run.specs.Words.{word, failures_name, job_of}
 
 -- what a run leaves and puts: refused lines and tables come early; where its journal was full it is too large, and its files are
 -- whole
@@ -104,6 +105,7 @@ job_answer Check words files = check_answer words files
 job_answer Flood words files = flood_answer (word words 1) (word words 2) files
 job_answer Reflect words files = reflect_answer (word words 1) (word words 2) files
 job_answer Join words files = join_answer (word words 1) (word words 2) (word words 3) (word words 4) (word words 5) (word words 6) files
+job_answer Reach words files = reach_answer (word words 1) (failures_name words) files
 job_answer (Generate number) words files = generated number
 job_answer Nothing words files = Some (refusal_of Usage)
 

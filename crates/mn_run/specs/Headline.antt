@@ -29,9 +29,10 @@ use Rattle.mn_answer.specs.Endings.{Answers}
 use Rattle.mn_flood_run.specs.Headline.{TellsFlood}
 use Rattle.mn_reflect_run.specs.Headline.{TellsReflect}
 use Rattle.mn_join_run.specs.Headline.{TellsJoin}
+use Rattle.mn_reach_run.specs.Headline.{TellsReach}
 use Rattle.mn_run.specs.declared.words.Job.{Job}
-use Rattle.mn_run.specs.declared.words.Job.TheVariants.{Run, Check, Flood, Reflect, Join, Generate, Nothing}
-use Rattle.mn_run.specs.Words.{word, job_of}
+use Rattle.mn_run.specs.declared.words.Job.TheVariants.{Run, Check, Flood, Reflect, Join, Reach, Generate, Nothing}
+use Rattle.mn_run.specs.Words.{word, failures_name, job_of}
 use Rattle.mn_run.specs.Answer.{check_line, generated_line, job_answer}
 
 -- A line `drain` without a number, to which the script came behind these lines, does the steps of a drain, no more than its bound; where
@@ -98,7 +99,8 @@ IsGenerated number before written Done = TellsTotal number before written
 IsGenerated number before written outcome = ⊤
 
 -- what each job has done: a run keeps its promise, a check tells the topology, a flood and reflected routes tell their course and change
--- no file, two joined networks tell theirs and leave what came out, and the generator's run tells the total and changes no file
+-- no file, two joined networks tell theirs and leave what came out, failures are told with the fates of their pairs and change no file, and
+-- the generator's run tells the total and changes no file
 abbrev pub Keeps : Job → List (List ℕ) → Files → List ℕ → Option Files → Option (List ℕ) → Type 0
 Keeps Run words files before after written = KeepsItsPromise (word words 1) (word words 2) (word words 3) (word words 4) files before after written
 Keeps Check words files before after written = TellsTopology words files before after written
@@ -106,6 +108,7 @@ Keeps Flood words files before after written = TellsFlood (word words 1) (word w
 Keeps Reflect words files before after written = TellsReflect (word words 1) (word words 2) files before written × (after ≡ Some files)
 Keeps Join words files before after written =
     TellsJoin (word words 1) (word words 2) (word words 3) (word words 4) (word words 5) (word words 6) files before after written
+Keeps Reach words files before after written = TellsReach (word words 1) (failures_name words) files before written × (after ≡ Some files)
 Keeps (Generate number) words files before after written = TellsTotal number before written × (after ≡ Some files)
 Keeps Nothing words files before after written = ⊤
 

@@ -4,7 +4,7 @@ use lib.Pointwise.{pointwise}
 use Rattle.mn_text.specs.Numbers.{number_up_to}
 use Rattle.mn_join_run.specs.Inside.{is_inside}
 use Rattle.mn_run.specs.declared.words.Job.{Job}
-use Rattle.mn_run.specs.declared.words.Job.TheVariants.{Run, Check, Flood, Reflect, Join, Generate, Nothing}
+use Rattle.mn_run.specs.declared.words.Job.TheVariants.{Run, Check, Flood, Reflect, Join, Reach, Generate, Nothing}
 
 -- the word at this place, which is there where there are enough words
 abbrev pub word : List (List ℕ) → ℕ → List ℕ
@@ -35,6 +35,13 @@ is_join words =
     && not (is_inside (word words 1) (word words 6) || (is_inside (word words 2) (word words 6) || (is_inside (word words 3) (word words 6)
     || (is_inside (word words 4) (word words 6) || is_inside (word words 5) (word words 6))))))
 
+-- `reach`, a topology, and a file of failures or none
+abbrev pub is_reach : List (List ℕ) → Bool
+is_reach words = ((length words == 2) || (length words == 3)) && pointwise nat_eq (word words 0) (codes "reach")
+
+abbrev pub failures_name : List (List ℕ) → Option (List ℕ)
+failures_name words = if length words == 3 then Some (word words 2) else None
+
 -- `generate` and a number from 0 to 99: the number
 abbrev pub generator_number : List (List ℕ) → Option ℕ
 generator_number words = if (length words == 2) && pointwise nat_eq (word words 0) (codes "generate") then number_up_to (word words 1) 99 else None
@@ -47,7 +54,7 @@ generating (Some number) = Generate number
 abbrev pub job_of : List (List ℕ) → Job
 job_of words =
     if is_run words then Run else if is_check words then Check else if is_flood words then Flood else if is_reflect words then Reflect else
-    if is_join words then Join else generating (generator_number words)
+    if is_join words then Join else if is_reach words then Reach else generating (generator_number words)
 
 -- the words have the form of the job
 abbrev pub IsForm : Job → List (List ℕ) → Type 0
@@ -56,6 +63,7 @@ IsForm Check words = is_check words ≡ true
 IsForm Flood words = is_flood words ≡ true
 IsForm Reflect words = is_reflect words ≡ true
 IsForm Join words = is_join words ≡ true
+IsForm Reach words = is_reach words ≡ true
 IsForm (Generate number) words = number ≤ 99
 IsForm Nothing words = ⊤
 

@@ -2,7 +2,7 @@
 ghost use Rattle.std.specs.Prelude.{◌≡◌, ◌≢◌, ℕ, ◌≤◌, true, false, length, Some, IsSome};
 ghost use Rattle.std.specs.Option.{ForSome};
 ghost use Rattle.mn_run.specs.Prelude.{most_script_lines, file, texts, is_inside, AllFit, Answers, OutcomeIs, FilesAre, TextIs, CausedBy, SinkCausedBy, HasNone, UsageIff, Completes, EndsSoundly, IsLate, IsUnread};
-ghost use Rattle.mn_run.specs.Words.{is_run, is_check, is_flood, is_reflect, is_join, is_command, generator_number, job_of};
+ghost use Rattle.mn_run.specs.Words.{is_run, is_check, is_flood, is_reflect, is_join, is_reach, is_command, generator_number, job_of};
 ghost use Rattle.mn_run.specs.Answer.{answer_of, job_answer, checked};
 ghost use Rattle.mn_run.specs.Headline.{IsGenerated, HeadlineIs, Ends};
 ghost use Rattle.mn_run.specs.Jobs.{ForDone, outcome_of};
@@ -10,7 +10,7 @@ ghost use Rattle.mn_run.specs.Jobs.{ForDone, outcome_of};
 use crate::check::check_line;
 use crate::generate::generate;
 use crate::load::{Inputs, load};
-use crate::words::{Job, parse_job, word};
+use crate::words::{Job, failures_name, parse_job, word};
 use mn_answer::{Limit, Outcome, load_topology, put_line, refuse};
 use mn_base::MOST_STEPS;
 use mn_edge::{DeviceBad, Shelf, Sink};
@@ -28,18 +28,18 @@ pub fn command<S: Shelf, O: Sink>(
     shelf: &mut S,
     out: &mut O,
 ) -> Outcome
-    // The outcome is the answer's. A fault or want of memory may come in its place.
+    // The outcome is the answer's. A fault or out of memory may come in its place.
     ensures outcome { ForSome (S.files shelf.old) (λ files. OutcomeIs (answer_of (texts words.now) files) result) }
-    // The files are the answer's, laid over those of before; after a fault or want of memory a first part of them.
+    // The files are the answer's, laid over those of before; after a fault or out of memory a first part of them.
     ensures files { ForSome (S.files shelf.old) (λ files. FilesAre (answer_of (texts words.now) files) files (S.files shelf.new) result) }
-    // What was put is the answer's text; after a fault or want of memory a first part of it.
+    // What was put is the answer's text; after a fault or out of memory a first part of it.
     ensures text { ForSome (S.files shelf.old) (λ files. ForSome (O.written out.old) (λ before.
         TextIs (answer_of (texts words.now) files) before (O.written out.new) result)) }
-    // Nothing is told of a packet, and no total, but where every file is whole.
+    // Nothing is reported of a packet, and no total, but where every file is whole.
     ensures late { ForSome (S.files shelf.old) (λ files. ForSome (O.written out.old) (λ before.
         IsLate (answer_of (texts words.now) files) files (S.files shelf.new) before (O.written out.new))) }
     // After a failed read either no file was begun and nothing was put, as is so where an input isn't there, or it failed
-    // among the lines of a run: every file was begun, no label is written, and nothing is told of a packet, and no total.
+    // among the lines of a run: every file was begun, no label is written, and nothing is reported of a packet, and no total.
     ensures unread { ForSome (S.files shelf.old) (λ files. ForSome (O.written out.old) (λ before.
         IsUnread (answer_of (texts words.now) files) files (S.files shelf.new) before (O.written out.new) result)) }
     // A fault comes only where its count rose, or a read's over a sound shelf where an input isn't there; every other count is as
@@ -47,14 +47,14 @@ pub fn command<S: Shelf, O: Sink>(
     ensures cause { CausedBy (HasNone (answer_of (texts words.now)) (S.files shelf.old))
         (S.read_faults shelf.old, S.write_faults shelf.old, O.faults out.old)
         (S.read_faults shelf.new, S.write_faults shelf.new, O.faults out.new) result }
-    // `Usage` is answered exactly where the words are no command line; a failed write or want of memory may come instead.
+    // `Usage` is answered exactly where the words are no command line; a failed write or out of memory may come instead.
     ensures usage { UsageIff (is_command (texts words.now)) result }
-    // Where the inputs are there and no count of faults rises, the answer comes, or want of memory: so always over sound devices.
+    // Where the inputs are there and no count of faults rises, the answer comes, or out of memory: so always over sound devices.
     ensures complete { ForSome (S.files shelf.old) (λ files. Completes (answer_of (texts words.now) files)
         (S.read_faults shelf.old, S.write_faults shelf.old, O.faults out.old)
         (S.read_faults shelf.new, S.write_faults shelf.new, O.faults out.new) result) }
     // Over sound devices, which fail by themselves at no call, the answer comes, and a read's fault only where an input isn't there;
-    // or want of memory.
+    // or out of memory.
     ensures sound { ForSome (S.files shelf.old) (λ files. EndsSoundly (answer_of (texts words.now) files)
         (S.read_faults shelf.old, S.write_faults shelf.old, O.faults out.old) result) }
     // Where all was done by `run`, each packet that was sent has one line and is accounted for: it reached only the
@@ -64,15 +64,17 @@ pub fn command<S: Shelf, O: Sink>(
     // arrives. Each `drain` without a number did no more steps than its bound, and settled the network where the journal had
     // room for them. The journal is the script's, and lawful; report and files are its own, and no other file changed. By
     // `check`, the topology breaks no rule, its line tells how much it has, and no file changed. By `flood`, the report is
-    // that of the script's course, its trees are those of the links that are up where no advert flies, no drain heard more
+    // that of the script's course, its trees are those of the links that are up where no advert flies, no drain received more
     // than its bound, and no file changed. By `reflect`, the report is that of the script's course, each table that is printed
     // where no message flies in a joined network is that of a full mesh, and no file changed. By `join`, the report and the file
     // of what came out are those of the script's course over both networks, each packet's legs are its injections, each at the
-    // site to which the leg before was handed on, and no other file changed. By `generate`, the same holds of the packets of its
+    // site to which the leg before was handed on, and no other file changed. By `reach`, the report is that of the file's failures,
+    // each verdict in it is the one to which each packet of the pair comes that is sent while the network is at rest under the
+    // failure, in whatever lawful journal, and no file changed. By `generate`, the same holds of the packets of its
     // run, what was put is its number and their total, and no file changed.
     ensures headline { ForSome (S.files shelf.old) (λ files. ForSome (O.written out.old) (λ before.
         HeadlineIs (texts words.now) files before (S.files shelf.new) (O.written out.new) result)) }
-    // What is said of `generate`, but for files, holds over each shelf, whether or not it tells its files.
+    // What is promised of `generate`, but for files, holds over each shelf, whether or not it tells its files.
     ensures generated { (number : ℕ) → generator_number (texts words.now) ≡ Some number → ForSome (O.written out.old) (λ before.
         IsGenerated number before (O.written out.new) result) }
 {
@@ -93,6 +95,7 @@ fn answer<S: Shelf, O: Sink>(alloc: Global, words: &[String], shelf: &mut S, out
         Job::Flood => flood(alloc, words, shelf, out),
         Job::Reflect => reflect(alloc, words, shelf, out),
         Job::Join => join(alloc, words, shelf, out),
+        Job::Reach => reach(alloc, words, shelf, out),
         Job::Generate(number) => generate(alloc, number, out),
         Job::Nothing => refuse(alloc, out, Outcome::Usage),
     }
@@ -254,4 +257,16 @@ fn join<S: Shelf, O: Sink>(alloc: Global, words: &[String], shelf: &mut S, out: 
         shelf,
         out,
     )
+}
+
+/// Tells what becomes of each pair at rest, by the words `reach TOPOLOGY [FAILURES]`.
+fn reach<S: Shelf, O: Sink>(alloc: Global, words: &[String], shelf: &mut S, out: &mut O) -> Outcome
+    requires { is_reach (texts words.now) ≡ true }
+    ensures ends { Ends Job.Reach (texts words.now) (S.files shelf.old) (S.files shelf.new) (O.written out.old) (O.written out.new) result }
+    ensures cause { CausedBy (HasNone (job_answer Job.Reach (texts words.now)) (S.files shelf.old))
+        (S.read_faults shelf.old, S.write_faults shelf.old, O.faults out.old)
+        (S.read_faults shelf.new, S.write_faults shelf.new, O.faults out.new) result }
+    ensures usage { result ≢ Outcome.Usage }
+{
+    mn_reach_run::reach(alloc, word(words, 1), failures_name(words), shelf, out)
 }

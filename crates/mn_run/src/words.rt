@@ -2,7 +2,8 @@
 ghost use Rattle.std.specs.Prelude.{◌≡◌, ◌≤◌, IfSome};
 ghost use Rattle.mn_edge.specs.Written.{texts};
 ghost use Rattle.mn_join_run.specs.Inside.{is_inside};
-ghost use Rattle.mn_run.specs.Words.{word, is_run, is_check, is_flood, is_reflect, is_join, generator_number, job_of, IsForm};
+ghost use Rattle.mn_reach_run.specs.Answer.{name_of};
+ghost use Rattle.mn_run.specs.Words.{word, is_run, is_check, is_flood, is_reflect, is_join, is_reach, failures_name, generator_number, job_of, IsForm};
 
 use mn_text::number_up_to;
 
@@ -22,6 +23,8 @@ pub(crate) enum Job {
     Reflect,
     /// `join TOPOLOGY1 TOPOLOGY2 JOINTS SCRIPT CAPTURE FOLDER`.
     Join,
+    /// `reach TOPOLOGY [FAILURES]`.
+    Reach,
     /// `generate NUMBER`, from 0 to 99.
     Generate(u32),
     /// Nothing that the program does.
@@ -53,6 +56,8 @@ pub(crate) fn parse_job(words: &[String]) -> Job
         Job::Reflect
     } else if is_join(words) {
         Job::Join
+    } else if is_reach(words) {
+        Job::Reach
     } else {
         match generator_number(words) {
             Some(number) => Job::Generate(number),
@@ -108,6 +113,24 @@ fn is_join(words: &[String]) -> bool
         || is_inside(word(words, 3), folder)
         || is_inside(word(words, 4), folder)
         || is_inside(word(words, 5), folder))
+}
+
+/// Whether the words are `reach TOPOLOGY [FAILURES]`.
+fn is_reach(words: &[String]) -> bool
+    ensures { result ≡ is_reach (texts words.now) }
+{
+    (words.len() == 2 || words.len() == 3) && word(words, 0) == "reach"
+}
+
+/// The name of the file of failures, if one is given.
+pub(crate) fn failures_name(words: &[String]) -> Option<&str>
+    ensures { name_of result ≡ failures_name (texts words.now) }
+{
+    if words.len() == 3 {
+        Some(word(words, 2))
+    } else {
+        None
+    }
 }
 
 /// The number of `generate NUMBER`, from 0 to 99.

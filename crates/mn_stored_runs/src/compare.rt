@@ -34,7 +34,7 @@ fn tell_further(rt: &HostRuntime, expected: &str, left: &str) -> io::Result<()> 
     Ok(())
 }
 
-/// How many files were left as they are expected. Each other is told.
+/// How many files were left as they are expected. Each other is reported.
 pub(crate) fn compare(rt: &HostRuntime, expected: &str, left: &str) -> io::Result<u64> {
     let mut same = 0u64;
     for entry in fs::read_dir(rt, expected)? {

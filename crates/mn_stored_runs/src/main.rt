@@ -1,10 +1,10 @@
 //! `mn_stored_runs`: does each stored run over real files, and compares all that it leaves with what is expected.
 //!
-//! Each line of the input has a command and a folder with `topology.toml`, `script.txt`, for `run` the capture
-//! (`capture.pcap`, or `capture.hex`: the bytes in hexadecimal, with comments) and `expected/`. `mn_run::command` does the
-//! run, as the program itself would, into a folder of its own, and its report goes there too as `report.txt`. Then the two
-//! folders must have the same files, byte for byte. A line says with which status a run ended and how many files are as
-//! expected, and before it which aren't.
+//! Each line of the input has a command and a folder with `topology.toml`, `script.txt` or for `reach` `failures.txt`, for
+//! `run` the capture (`capture.pcap`, or `capture.hex`: the bytes in hexadecimal, with comments) and `expected/`.
+//! `mn_run::command` does the run, as the program itself would, into a folder of its own, and its report goes there too as
+//! `report.txt`. Then the two folders must have the same files, byte for byte. A line says with which status a run ended
+//! and how many files are as expected, and before it which aren't.
 #![tactic(auto)]
 
 mod compare; // a folder with another

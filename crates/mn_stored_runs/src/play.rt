@@ -41,15 +41,15 @@ fn capture_of(rt: &HostRuntime, run: &str, left: &str) -> io::Result<String> {
 
 /// The texts that a command reads, in their order.
 fn texts_of(command: &str) -> &'static [&'static str] {
-    if command == "join" {
-        &[
+    match command {
+        "join" => &[
             "topology1.toml",
             "topology2.toml",
             "joints.txt",
             "script.txt",
-        ]
-    } else {
-        &["topology.toml", "script.txt"]
+        ],
+        "reach" => &["topology.toml", "failures.txt"],
+        _ => &["topology.toml", "script.txt"],
     }
 }
 
@@ -63,10 +63,15 @@ fn first_words(alloc: Global, command: &str, run: &str) -> Result<Vec<String>, A
     Ok(words)
 }
 
-/// The words of the run's command line. `flood` and `reflect` have no capture, and no folder for files.
+/// Whether the command reads a capture, and writes files into a folder.
+fn has_packets(command: &str) -> bool {
+    command != "flood" && command != "reflect" && command != "reach"
+}
+
+/// The words of the run's command line.
 fn words_of(rt: &HostRuntime, command: &str, run: &str, left: &str) -> io::Result<Vec<String>> {
     let mut words = first_words(rt.alloc(), command, run)?;
-    if command != "flood" && command != "reflect" {
+    if has_packets(command) {
         words.push(capture_of(rt, run, left)?)?;
         words.push(String::from_str(rt.alloc(), left)?)?;
     }

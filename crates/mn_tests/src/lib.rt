@@ -4,16 +4,16 @@
 #![tactic(auto)]
 
 #[cfg(test)]
-mod captures;
+mod captures; // captures of one packet
 #[cfg(test)]
-mod check;
+mod check; // topologies that are checked, or refused
 #[cfg(test)]
-mod faults;
+mod faults; // devices that fail
 #[cfg(test)]
-mod generated;
+mod generated; // runs that the generator makes
 #[cfg(test)]
-mod one_node;
+mod one_node; // runs over one node
 #[cfg(test)]
-mod scripts;
+mod scripts; // scripts that are refused
 #[cfg(test)]
-mod two_links;
+mod two_links; // a whole run over two links

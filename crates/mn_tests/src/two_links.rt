@@ -227,7 +227,7 @@ fn push_file(
     Ok(())
 }
 
-/// Appends the file of what is said one way, in digits.
+/// Appends the file of what is sent one way, in digits.
 fn push_said(
     alloc: Global,
     files: &mut Vec<File>,

@@ -20,7 +20,7 @@ use std::process::ExitCode;
 use std::{env, io};
 
 /// The one place of the program's version.
-const VERSION: &str = "mplsnet 0.1.0\n";
+const VERSION: &str = "mplsnet 0.2.0\n";
 
 const HELP: &str =
     r#"mplsnet: runs a provider's MPLS network, step by step, and says what becomes of every packet
@@ -31,6 +31,7 @@ usage: mplsnet run TOPOLOGY SCRIPT CAPTURE FOLDER
        mplsnet flood TOPOLOGY SCRIPT
        mplsnet reflect TOPOLOGY SCRIPT
        mplsnet join TOPOLOGY1 TOPOLOGY2 JOINTS SCRIPT CAPTURE FOLDER
+       mplsnet reach TOPOLOGY [FAILURES]
        mplsnet --help | --version
 
 run       reads a topology (TOML), a script of events and a capture (pcap) of customer packets, writes what nodes said
@@ -41,6 +42,8 @@ flood     floods adverts of links through a topology by a script of its own, and
 reflect   passes VPN routes on by route reflectors, by a script of its own, and puts the tables that it shows and a total
 join      runs two networks that are joined site to site by one script, writes what comes out of them into FOLDER, and
           puts a report with a line for each packet and the legs that it went
+reach     tells what becomes of packets from each site to each prefix of another once the network is at rest, and what
+          each failure of a file changes: lost pairs with the rule and the node, moved ones with their path
 
 status: 0 all was done; 2 wrong words; 3, 4, 5 the topology, the script or the capture is refused; 6 an input can't be
 read; 7 a file or the report can't be written; 8 memory ran out; 9 a limit is passed; 11 the joints are refused; 12 the
@@ -112,6 +115,7 @@ fn limited(is_joined: bool, which: Limit) -> (Option<usize>, &'static str) {
         Limit::CaptureBytes => (Some(capture), "bytes"),
         Limit::CaptureRecords => (Some(capture), "records"),
         Limit::Steps => (Some(script), "steps of a run"),
+        Limit::Pairs => (Some(1), "pairs"),
     }
 }
 

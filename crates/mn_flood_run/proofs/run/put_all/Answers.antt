@@ -1,5 +1,5 @@
 use Rattle.mn_flood_run.specs.Report.{report, course_of}
-use Rattle.mn_flood_run.proofs.Endings.{all_put, part_if_err, part_if_end_errs}
+use Rattle.mn_answer.proofs.Putting.{all_put, part_if_err, part_if_end_errs}
 use Rattle.mn_flood_run.proofs.run.put_all.Goals as goal
 
 pub returns-in_err-outcome-clause-part : goal.returns-in_err-outcome-clause-part

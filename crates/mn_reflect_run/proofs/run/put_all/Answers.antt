@@ -2,7 +2,7 @@ use Rattle.std.specs.Option.{ForSome}
 use Rattle.mn_lines.specs.Putting.{PartPut}
 use Rattle.mn_reflect_telling.specs.Mentions.{numbers_of}
 use Rattle.mn_reflect_run.specs.Report.{report, course_of}
-use Rattle.mn_reflect_run.proofs.Endings.{on_err, all_put, part_put, part_ended}
+use Rattle.mn_answer.proofs.Putting.{on_err, all_put, part_put, part_ended}
 use Rattle.mn_reflect_run.proofs.run.put_all.Goals as goal
 
 pub returns-in_err-outcome-clause-part : goal.returns-in_err-outcome-clause-part

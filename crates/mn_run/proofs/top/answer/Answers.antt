@@ -48,9 +48,18 @@ returns-in-Join-clause-ends g c =
     subst (λ j. Ends j (texts c.args.words.now) (g.S.Shelf.files c.args.shelf.now) (g.S.Shelf.files c.join.new.shelf) (g.O.Sink.written c.args.out.now)
     (g.O.Sink.written c.join.new.out) c.join.result) c.in-Join.ensures.value c.join.ensures.ends
 
+pub returns-in-Reach-clause-ends : goal.returns-in-Reach-clause-ends
+returns-in-Reach-clause-ends g c =
+    subst (λ j. Ends j (texts c.args.words.now) (g.S.Shelf.files c.args.shelf.now) (g.S.Shelf.files c.reach.new.shelf) (g.O.Sink.written c.args.out.now)
+    (g.O.Sink.written c.reach.new.out) c.reach.result) c.in-Reach.ensures.value c.reach.ensures.ends
+
 pub returns-in-Join-clause-usage : goal.returns-in-Join-clause-usage
 returns-in-Join-clause-usage g c =
     subst (λ j. UsageIff (is_job j) c.join.result) c.in-Join.ensures.value (not_usage true c.join.result refl c.join.ensures.usage)
+
+pub returns-in-Reach-clause-usage : goal.returns-in-Reach-clause-usage
+returns-in-Reach-clause-usage g c =
+    subst (λ j. UsageIff (is_job j) c.reach.result) c.in-Reach.ensures.value (not_usage true c.reach.result refl c.reach.ensures.usage)
 
 pub returns-in-Generate-clause-ends : goal.returns-in-Generate-clause-ends
 returns-in-Generate-clause-ends g c =
@@ -113,6 +122,14 @@ returns-in-Join-clause-cause g c =
     (g.S.Shelf.read_faults c.join.new.shelf, g.S.Shelf.write_faults c.join.new.shelf, g.O.Sink.faults c.join.new.out) c.join.result)
     c.in-Join.ensures.value
     c.join.ensures.cause
+
+pub returns-in-Reach-clause-cause : goal.returns-in-Reach-clause-cause
+returns-in-Reach-clause-cause g c =
+    subst (λ j. CausedBy (HasNone (job_answer j (texts c.args.words.now)) (g.S.Shelf.files c.args.shelf.now))
+    (g.S.Shelf.read_faults c.args.shelf.now, g.S.Shelf.write_faults c.args.shelf.now, g.O.Sink.faults c.args.out.now)
+    (g.S.Shelf.read_faults c.reach.new.shelf, g.S.Shelf.write_faults c.reach.new.shelf, g.O.Sink.faults c.reach.new.out) c.reach.result)
+    c.in-Reach.ensures.value
+    c.reach.ensures.cause
 
 pub returns-in-Generate-clause-cause : goal.returns-in-Generate-clause-cause
 returns-in-Generate-clause-cause g c = sink_caused _ _ _ c.generate.result refl refl c.generate.ensures.cause

@@ -1,0 +1,11 @@
+pub mod Chains
+pub mod Rows
+pub mod Counting
+pub mod Playing
+pub mod Sweeping
+pub mod Switching
+pub mod Sited
+pub mod Fated
+pub mod Knowing
+pub mod Lasting
+pub mod Endings

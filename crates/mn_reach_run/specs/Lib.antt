@@ -1,0 +1,9 @@
+pub mod Fates
+pub mod Lines
+pub mod Report
+pub mod Telling
+pub mod Playing
+pub mod Sweeping
+pub mod Lasting
+pub mod Answer
+pub mod Headline

@@ -1,0 +1,392 @@
+//! What is told of all pairs, and of one failure.
+ghost use Rattle.std.specs.Prelude.{◌≡◌, ◌++◌, ◌<◌, ◌≤◌, ◌-◌, ◌^◌, ℕ, Bool, List, [], true, false, length, IfOk, OnOk};
+ghost use Rattle.std.specs.List.{list_all};
+ghost use Rattle.std.specs.Io.Iter.{u64_saturate};
+ghost use Rattle.mn_tables.specs.Telling.{standing, Tells};
+ghost use Rattle.mn_candidates.specs.Pairs.{pairs_of};
+ghost use Rattle.mn_failures.specs.declared.command.Part.{Part};
+ghost use Rattle.mn_failures.specs.Meaning.{part_fits};
+ghost use Rattle.mn_reach.specs.Plans.{pair_at};
+ghost use Rattle.mn_reach.specs.Verdicts.{fate_as};
+ghost use Rattle.mn_reach_run.specs.Fates.{change_of};
+ghost use Rattle.mn_reach_run.specs.Lines.{pair_line, change_line, profile_line};
+ghost use Rattle.mn_reach_run.specs.Report.{whole_text, under_text};
+ghost use Rattle.mn_reach_run.specs.Playing.{AreApart, HaveFailed, IsReady, IsKnown};
+ghost use Rattle.mn_reach_run.specs.Telling.{pairs_text, told_change, told_changes, head_text, no_changes, with_change, AreCounted};
+
+use crate::change::Change;
+use crate::failing::{fail, mend};
+use crate::found::{Found, change_of, find_whole};
+use crate::line::{put_arrival, put_counts, put_failure, put_fall, put_pair};
+use crate::settings::Settings;
+use itoa::Buffer;
+use mn_candidates::Pair;
+use mn_edge::{DeviceBad, Sink};
+use mn_failures::Part;
+use mn_lines::{Page, put_pieces as put_words};
+use mn_reach::{End, Verdict};
+use mn_tables::put_pieces;
+use mn_topo::Topology;
+use std::alloc::{AllocError, Global};
+
+/// A line before it is put, and the verdict of which it tells.
+#[derive(Drop)]
+pub struct Draft {
+    pub line: Vec<u8>,
+    pub verdict: Verdict,
+}
+
+/// A failure: its number through the file, from 1, its line, and its parts.
+#[derive(Clone, Copy)]
+pub struct Failing<'p> {
+    pub number: u64,
+    pub line: u32,
+    pub parts: &'p [Part],
+    /// Those of the parts that have failed already, and will stay so.
+    pub front: &'p [Part],
+    /// The others, behind these.
+    pub more: &'p [Part],
+}
+
+/// How many pairs were lost, and how many moved.
+#[derive(Clone, Copy)]
+pub struct Changes {
+    pub lost: u64,
+    pub moved: u64,
+}
+
+impl Changes {
+    /// None yet.
+    fn new() -> Changes
+        ensures { result ≡ no_changes }
+    {
+        Changes { lost: 0, moved: 0 }
+    }
+
+    /// With what changed for one pair more.
+    fn with(self, change: Change) -> Changes
+        requires lost { self.lost < 2 ^ 64 - 1 }
+        requires moved { self.moved < 2 ^ 64 - 1 }
+        ensures { result ≡ with_change self change }
+    {
+        match change {
+            Change::Nothing => self,
+            Change::Lost => Changes {
+                lost: self.lost + 1,
+                moved: self.moved,
+            },
+            Change::Moved => Changes {
+                lost: self.lost,
+                moved: self.moved + 1,
+            },
+        }
+    }
+}
+
+// 1. All pairs, with nothing failed
+
+/// Writes the line of a pair.
+fn write_pair(
+    line: &mut Vec<u8>,
+    topology: &Topology,
+    pair: Pair,
+    verdict: &Verdict,
+) -> Result<(), AllocError>
+    ensures { OnOk result (line.new.items ≡ pair_line topology.now pair (fate_as verdict.now)) }
+{
+    line.clear();
+    put_words(line, &[b"pair "])?;
+    put_pair(line, topology, pair)?;
+    match verdict.end {
+        End::Arrives { site, ttl } => {
+            put_arrival(line, topology, site, ttl, verdict.path.as_slice())
+        }
+        End::Falls { rule, node } => {
+            put_words(line, &[b"dropped "])?;
+            put_fall(line, topology, rule, node)
+        }
+    }
+}
+
+/// Puts the line of a pair.
+fn tell_pair<O: Sink>(
+    out: &mut O,
+    page: &mut Page,
+    line: &mut Vec<u8>,
+    topology: &Topology,
+    pair: Pair,
+    verdict: &Verdict,
+) -> Result<(), DeviceBad>
+    ensures { Tells (pair_line topology.now pair (fate_as verdict.now))
+        (standing page.old (O.written out.old) (O.faults out.old)) (standing page.new (O.written out.new) (O.faults out.new)) result }
+{
+    write_pair(line, topology, pair, verdict)?;
+    put_pieces(out, page, &[line.as_slice()])
+}
+
+/// Puts the lines of all pairs.
+fn tell_pairs<O: Sink>(
+    out: &mut O,
+    page: &mut Page,
+    line: &mut Vec<u8>,
+    topology: &Topology,
+    found: &Found,
+) -> Result<(), DeviceBad>
+    requires { length found.now.whole.items ≡ length found.now.reach.plan.pairs }
+    ensures { (settings : Settings) → IsKnown topology.now settings [] found.now → Tells (pairs_text topology.now settings)
+        (standing page.old (O.written out.old) (O.faults out.old)) (standing page.new (O.written out.new) (O.faults out.new)) result }
+{
+    let pairs = found.reach.pairs();
+    for pair in 0..pairs.len() {
+        tell_pair(out, page, line, topology, pairs[pair], &found.whole[pair])?;
+    }
+    Ok(())
+}
+
+/// The line of the choices by which is told.
+fn profile_line(ends: bool) -> &'static str
+    ensures { result.now ≡ profile_line ends }
+{
+    if ends {
+        "profile equal least edges one order least interior no resolve topology sync no control ordered bare avoid labels site sessions end\n"
+    } else {
+        "profile equal least edges one order least interior no resolve topology sync no control ordered bare avoid labels site sessions stay\n"
+    }
+}
+
+/// Finds what becomes of each pair with nothing failed, and puts it.
+pub(crate) fn tell_whole<O: Sink>(
+    alloc: Global,
+    topology: &Topology,
+    found: &mut Found,
+    settings: Settings,
+    line: &mut Vec<u8>,
+    out: &mut O,
+    page: &mut Page,
+) -> Result<(), DeviceBad>
+    requires ready { IsReady topology.now found.old.reach }
+    requires whole { (ends : Bool) × HaveFailed topology.now ends [] found.old.reach }
+    requires least { 2 ≤ settings.ttl }
+    requires most { settings.ttl ≤ 255 }
+    ensures told { Tells (whole_text topology.now settings)
+        (standing page.old (O.written out.old) (O.faults out.old)) (standing page.new (O.written out.new) (O.faults out.new)) result }
+    ensures known { OnOk result (IsKnown topology.now settings [] found.new) }
+{
+    found.reach.set_ends(settings.ends);
+    find_whole(alloc, topology, found, settings)?;
+    put_pieces(out, page, &[profile_line(settings.ends).as_bytes()])?;
+    tell_pairs(out, page, line, topology, found)
+}
+
+// 2. One failure
+
+/// Writes the line of a pair that a failure changes.
+fn write_change(
+    line: &mut Vec<u8>,
+    topology: &Topology,
+    number: u64,
+    pair: Pair,
+    change: Change,
+    verdict: &Verdict,
+) -> Result<(), AllocError>
+    ensures { (count : ℕ) → number ≡ u64_saturate count →
+        OnOk result (line.new.items ≡ change_line topology.now count pair change (fate_as verdict.now)) }
+{
+    let mut buffer = Buffer::new();
+    let number = buffer.format(number).as_bytes();
+    line.clear();
+    match (change, verdict.end) {
+        (Change::Lost, End::Falls { rule, node }) => {
+            put_words(line, &[b"lost ", number, b" "])?;
+            put_pair(line, topology, pair)?;
+            put_fall(line, topology, rule, node)
+        }
+        (Change::Moved, End::Arrives { site, ttl }) => {
+            put_words(line, &[b"moved ", number, b" "])?;
+            put_pair(line, topology, pair)?;
+            put_arrival(line, topology, site, ttl, verdict.path.as_slice())
+        }
+        _ => Ok(()),
+    }
+}
+
+/// Puts the line of a pair that a failure changes.
+fn tell_change<O: Sink>(
+    out: &mut O,
+    page: &mut Page,
+    draft: &mut Draft,
+    topology: &Topology,
+    number: u64,
+    pair: Pair,
+    change: Change,
+) -> Result<(), DeviceBad>
+    ensures { (count : ℕ) → number ≡ u64_saturate count → Tells (change_line topology.now count pair change (fate_as draft.old.verdict))
+        (standing page.old (O.written out.old) (O.faults out.old)) (standing page.new (O.written out.new) (O.faults out.new)) result }
+{
+    if let Change::Nothing = change {
+        return Ok(());
+    }
+    write_change(
+        &mut draft.line,
+        topology,
+        number,
+        pair,
+        change,
+        &draft.verdict,
+    )?;
+    put_pieces(out, page, &[draft.line.as_slice()])
+}
+
+/// Finds what a failure changes for a pair, and puts it where each loss is told.
+fn try_pair<O: Sink>(
+    out: &mut O,
+    page: &mut Page,
+    draft: &mut Draft,
+    topology: &Topology,
+    found: &Found,
+    settings: Settings,
+    number: u64,
+    pair: usize,
+) -> Result<Change, DeviceBad>
+    requires ready { IsReady topology.now found.now.reach }
+    requires sound { found.now.reach.failed ≡ false }
+    requires each { length found.now.whole.items ≡ length (pairs_of topology.now) }
+    requires pair { pair < length (pairs_of topology.now) }
+    requires least { 2 ≤ settings.ttl }
+    requires most { settings.ttl ≤ 255 }
+    ensures told { (parts : List Part) → IsKnown topology.now settings parts found.now → (count : ℕ) → number ≡ u64_saturate count →
+        Tells (told_change topology.now settings count parts (pair_at found.now.reach.plan pair))
+        (standing page.old (O.written out.old) (O.faults out.old)) (standing page.new (O.written out.new) (O.faults out.new)) result }
+    ensures change { (parts : List Part) → IsKnown topology.now settings parts found.now →
+        IfOk result (λ change. change ≡ change_of topology.now settings parts (pair_at found.now.reach.plan pair)) }
+{
+    let change = change_of(topology, found, settings, pair, &mut draft.verdict)?;
+    if settings.counts {
+        return Ok(change);
+    }
+    tell_change(
+        out,
+        page,
+        draft,
+        topology,
+        number,
+        found.reach.pairs()[pair],
+        change,
+    )?;
+    Ok(change)
+}
+
+/// Finds what a failure changes for each pair, counts it, and puts it where each loss is told.
+fn tell_changes<O: Sink>(
+    out: &mut O,
+    page: &mut Page,
+    draft: &mut Draft,
+    topology: &Topology,
+    found: &Found,
+    settings: Settings,
+    number: u64,
+) -> Result<Changes, DeviceBad>
+    requires ready { IsReady topology.now found.now.reach }
+    requires sound { found.now.reach.failed ≡ false }
+    requires each { length found.now.whole.items ≡ length (pairs_of topology.now) }
+    requires least { 2 ≤ settings.ttl }
+    requires most { settings.ttl ≤ 255 }
+    ensures told { (parts : List Part) → IsKnown topology.now settings parts found.now → (count : ℕ) → number ≡ u64_saturate count →
+        Tells (told_changes topology.now settings count parts)
+        (standing page.old (O.written out.old) (O.faults out.old)) (standing page.new (O.written out.new) (O.faults out.new)) result }
+    ensures counted { (parts : List Part) → IsKnown topology.now settings parts found.now → IfOk result (AreCounted topology.now settings parts (pairs_of topology.now)) }
+{
+    let mut changes = Changes::new();
+    for pair in 0..found.reach.pairs().len() {
+        let change = try_pair(out, page, draft, topology, found, settings, number, pair)?;
+        changes = changes.with(change);
+    }
+    Ok(changes)
+}
+
+/// Writes the line of a failure, and behind its parts what it changes where only that is told.
+fn write_head(
+    line: &mut Vec<u8>,
+    topology: &Topology,
+    failing: Failing<'_>,
+    changes: Option<Changes>,
+) -> Result<(), AllocError>
+    requires { list_all (part_fits topology.now) failing.parts.now ≡ true }
+    ensures { (count : ℕ) → failing.entry.number ≡ u64_saturate count →
+        OnOk result (line.new.items ≡ head_text topology.now count failing.entry.line failing.entry.parts.now changes) }
+{
+    line.clear();
+    put_failure(line, topology, failing.number, failing.line, failing.parts)?;
+    match changes {
+        Some(changes) => put_counts(line, changes.lost, changes.moved),
+        None => put_words(line, &[b"\n"]),
+    }
+}
+
+/// Puts the line of a failure.
+fn tell_head<O: Sink>(
+    out: &mut O,
+    page: &mut Page,
+    line: &mut Vec<u8>,
+    topology: &Topology,
+    failing: Failing<'_>,
+    changes: Option<Changes>,
+) -> Result<(), DeviceBad>
+    requires { list_all (part_fits topology.now) failing.parts.now ≡ true }
+    ensures { (count : ℕ) → failing.entry.number ≡ u64_saturate count → Tells (head_text topology.now count failing.entry.line failing.entry.parts.now changes)
+        (standing page.old (O.written out.old) (O.faults out.old)) (standing page.new (O.written out.new) (O.faults out.new)) result }
+{
+    write_head(line, topology, failing, changes)?;
+    put_pieces(out, page, &[line.as_slice()])
+}
+
+/// Puts what a failure changes that has been made.
+fn tell_failed<O: Sink>(
+    out: &mut O,
+    page: &mut Page,
+    draft: &mut Draft,
+    topology: &Topology,
+    found: &Found,
+    settings: Settings,
+    failing: Failing<'_>,
+) -> Result<Changes, DeviceBad>
+    requires fit { list_all (part_fits topology.now) failing.parts.now ≡ true }
+    requires known { IsKnown topology.now settings failing.parts.now found.now }
+    ensures told { (count : ℕ) → failing.entry.number ≡ u64_saturate count → Tells (under_text topology.now settings count failing.entry.line failing.entry.parts.now)
+        (standing page.old (O.written out.old) (O.faults out.old)) (standing page.new (O.written out.new) (O.faults out.new)) result }
+    ensures counted { IfOk result (AreCounted topology.now settings failing.entry.parts.now (pairs_of topology.now)) }
+{
+    if settings.counts {
+        let changes = tell_changes(out, page, draft, topology, found, settings, failing.number)?;
+        tell_head(out, page, &mut draft.line, topology, failing, Some(changes))?;
+        return Ok(changes);
+    }
+    tell_head(out, page, &mut draft.line, topology, failing, None)?;
+    tell_changes(out, page, draft, topology, found, settings, failing.number)
+}
+
+/// Puts what a failure changes: of its parts those behind the first ones are made, and mended afterwards.
+pub(crate) fn tell_failure<O: Sink>(
+    out: &mut O,
+    page: &mut Page,
+    draft: &mut Draft,
+    topology: &Topology,
+    found: &mut Found,
+    settings: Settings,
+    failing: Failing<'_>,
+) -> Result<Changes, DeviceBad>
+    requires fit { list_all (part_fits topology.now) failing.parts.now ≡ true }
+    requires more_fit { list_all (part_fits topology.now) failing.more.now ≡ true }
+    requires parts { failing.parts.now ≡ failing.front.now ++ failing.more.now }
+    requires apart { AreApart topology.now failing.front.now failing.more.now }
+    requires known { IsKnown topology.now settings failing.front.now found.old }
+    ensures told { (count : ℕ) → failing.entry.number ≡ u64_saturate count → Tells (under_text topology.now settings count failing.entry.line failing.entry.parts.now)
+        (standing page.old (O.written out.old) (O.faults out.old)) (standing page.new (O.written out.new) (O.faults out.new)) result }
+    ensures counted { IfOk result (AreCounted topology.now settings failing.entry.parts.now (pairs_of topology.now)) }
+    ensures known { OnOk result (IsKnown topology.now settings failing.entry.front.now found.new) }
+{
+    fail(&mut found.reach, topology, failing.more)?;
+    let changes = tell_failed(out, page, draft, topology, found, settings, failing)?;
+    mend(&mut found.reach, topology, failing.more)?;
+    Ok(changes)
+}
