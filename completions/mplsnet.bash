@@ -182,8 +182,8 @@ _mplsnet_whatif() {
         --only | --site | --check | --seed | --budget | --jobs | --dask) return ;;
     esac
     if [[ $word == -* ]]; then
-        local asked='--help --of --double --triple --only --site --keep-bgp --resolve --no-resolve --json --csv --matrix --all --html --resume --simulate --check --seed'
-        _mplsnet_words "$asked --budget --jobs --dask --program --quiet" "$word"
+        local plain='--help --of --double --triple --only --site --keep-bgp --resolve --no-resolve --json --csv --matrix --all --html --resume --simulate --check --seed'
+        _mplsnet_words "$plain --budget --jobs --dask --program --quiet" "$word"
     else
         _mplsnet_files "$word" .toml
     fi

@@ -264,7 +264,7 @@ ENDING = {signal.SIGINT, signal.SIGTERM, signal.SIGHUP}
 
 def stop(*_):
     """Ends the program that runs, and leaves nothing behind. It takes no lock, and isn't begun twice: it may come at any time."""
-    signal.signal(signal.SIGTERM, signal.SIG_IGN)
+    signal.signal(signal.SIGTERM, lambda *_: None)  # (SIG_IGN would have Python complain of one that came by now)
     if "program" in WORKING:
         try:
             os.kill(WORKING["program"].pid, signal.SIGKILL)
