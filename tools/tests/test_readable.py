@@ -65,8 +65,8 @@ class Readable(unittest.TestCase):
     def test_what_is_over_its_limit(self):
         ran = self.ran()
         self.assertEqual(1, ran.returncode)
-        self.assertEqual(["promises", "wide-scripts", "bare-functions"], [line.split(":")[0] for line in ran.stderr.splitlines()])
-        self.assertEqual(len(WANTED) - 3, len(ran.stdout.splitlines()))
+        self.assertEqual(["without-memory", "modules", "promises", "wide-scripts", "bare-functions"], [line.split(":")[0] for line in ran.stderr.splitlines()])
+        self.assertEqual(len(WANTED) - 5, len(ran.stdout.splitlines()))
 
     def test_wrong_words(self):
         self.assertEqual(2, self.ran("nothing").returncode)

@@ -1,6 +1,7 @@
 -- What is left where a call is cut off.
 use Rattle.std.proofs.Common.{◌≡◌, ◌≤◌, ℕ, arith, List, [], ◌++◌, take, drop, Option, Some}
-use Rattle.std.proofs.Common.{None, refl, sym, ◌∙◌, ap, append_assoc, inl, inr, IsSomeAnd, Bool, true, false, subst, if◌then◌else◌, MatchOption, Result, Ok, Err}
+use Rattle.std.proofs.Common.{None, refl, sym, ◌∙◌, ap, append_assoc, inl, inr, IsSomeAnd, Bool, true, false, subst, if◌then◌else◌, MatchOption, Result, Ok}
+use Rattle.std.proofs.Common.{Err}
 use Rattle.std.specs.Prelude.{⊤}
 use Rattle.std.specs.Option.{ForSome}
 use Rattle.mn_base.specs.Limits.{most_script_lines}
@@ -15,10 +16,12 @@ use Rattle.mn_edge.specs.FaultLaws.{grew_by, grew_rose, grew_not}
 use Rattle.mn_edge.specs.Files.{Files}
 use Rattle.mn_edge.specs.Written.{laid, PartWritten}
 use Rattle.mn_answer.specs.declared.outcome.Outcome.{Outcome}
-use Rattle.mn_answer.specs.declared.outcome.Outcome.TheVariants.{Done, Usage, ReadFault, WriteFault, NoMemory, BadTopology, BadScript, BadCapture, BadSecond, BadJoints, TooLarge}
+use Rattle.mn_answer.specs.declared.outcome.Outcome.TheVariants.{Done, Usage, ReadFault, WriteFault, NoMemory, BadTopology, BadScript, BadCapture, BadSecond}
+use Rattle.mn_answer.specs.declared.outcome.Outcome.TheVariants.{BadJoints, TooLarge}
 use Rattle.mn_lines.specs.Putting.{PartPut}
 use Rattle.mn_answer.specs.Answer.{Answer, refusal_of, if_lawful, if_accepted, most_topology_bytes, most_script_bytes}
-use Rattle.mn_answer.specs.Endings.{PartText, PartFiles, OutcomeIs, FilesAre, TextIs, IsLate, IsUnread, Answers, CausedBy, SinkCausedBy, Completes, Counts, UsageIff, NoRise, AreSound, EndsSoundly}
+use Rattle.mn_answer.specs.Endings.{PartText, PartFiles, OutcomeIs, FilesAre, TextIs, IsLate, IsUnread, Answers, CausedBy, SinkCausedBy, Completes, Counts}
+use Rattle.mn_answer.specs.Endings.{UsageIff, NoRise, AreSound, EndsSoundly}
 
 -- the first bytes of the next piece
 pub part_put : (done piece rest t : List ℕ) (n : ℕ) (after : Option (List ℕ)) → after ≡ Some ((t ++ done) ++ take n piece) →
@@ -74,7 +77,11 @@ completes a unread old new (TooLarge which limit) missing h c x e none = inl (gi
 
 -- no count of a sound device rises
 no_rise : (old new : Counts) → AreSound old → NoRise old new
-no_rise old new sound = (λ rose. subst (λ n. Rose n new.0) sound.0 rose, λ rose. subst (λ n. Rose n new.1) sound.1 rose, λ rose. subst (λ n. Rose n new.2) sound.2 rose)
+no_rise old new sound = (
+  λ rose. subst (λ n. Rose n new.0) sound.0 rose,
+  λ rose. subst (λ n. Rose n new.1) sound.1 rose,
+  λ rose. subst (λ n. Rose n new.2) sound.2 rose,
+)
 
 -- over sound devices an answer that comes is the one, and where there is none a read's fault comes, or out of memory
 pub soundly : (a : Option Answer) (unread : Type 0) (old new : Counts) (o : Outcome) → (unread → a ≡ None) → OutcomeIs a o → CausedBy unread old new o →
@@ -257,7 +264,8 @@ sink_caused unread old new (BadJoints rule line) reads writes c = (reads, writes
 sink_caused unread old new (TooLarge which limit) reads writes c = (reads, writes, c.2)
 
 -- a later call's cause is one of the whole, where the calls before left the shelf's counts
-pub caused_after : (one other : Type 0) (first before now : Counts) (o : Outcome) → before.0 ≡ first.0 → before.1 ≡ first.1 → before.2 ≡ first.2 → (one → other) →
+pub caused_after : (one other : Type 0) (first before now : Counts) (o : Outcome) → before.0 ≡ first.0 → before.1 ≡ first.1 → before.2 ≡ first.2 →
+    (one → other) →
     CausedBy one before now o → CausedBy other first now o
 caused_after one other first before now ReadFault reads writes puts so c =
     (subst (λ n. GrewUnless other n now.0) reads (grew_by one other before.0 now.0 so c.0), c.1 ∙ writes, c.2 ∙ puts)

@@ -12,7 +12,8 @@ put_on : (waits before : List ℕ) (written : Option (List ℕ)) → waits ≡ [
 put_on waits before written none is = subst (λ w. PutOn before [] w written) (sym none) (begun before written is)
 
 -- a text was put and all that waited
-pub all_put : (text before waits more rest : List ℕ) (one two three : Option (List ℕ)) → waits ≡ [] → one ≡ Some before → Puts text waits more one two → Puts [] more rest two three →
+pub all_put : (text before waits more rest : List ℕ) (one two three : Option (List ℕ)) → waits ≡ [] → one ≡ Some before → Puts text waits more one two →
+    Puts [] more rest two three →
     rest ≡ [] → three ≡ Some (before ++ text)
 all_put text before waits more rest one two three none is first second done =
     let on : PutOn before (text ++ []) rest three = second before text (first before [] (put_on waits before one none is)) in
@@ -22,7 +23,8 @@ all_put text before waits more rest one two three none is first second done =
 pub part_put : (text before waits : List ℕ) (one two : Option (List ℕ)) → waits ≡ [] → one ≡ Some before → PutsPart text waits one two → PartPut text before two
 part_put text before waits one two none is first = first before [] (put_on waits before one none is)
 
-pub part_ended : (text before waits more : List ℕ) (one two three : Option (List ℕ)) → waits ≡ [] → one ≡ Some before → Puts text waits more one two → PutsPart [] more two three →
+pub part_ended : (text before waits more : List ℕ) (one two three : Option (List ℕ)) → waits ≡ [] → one ≡ Some before → Puts text waits more one two →
+    PutsPart [] more two three →
     PartPut text before three
 part_ended text before waits more one two three none is first second =
     subst (λ t. PartPut t before three) (append-nil text) (second before text (first before [] (put_on waits before one none is)))

@@ -1,7 +1,8 @@
 -- The status of the program.
 use Rattle.std.specs.Prelude.{ℕ}
 use Rattle.mn_answer.specs.declared.outcome.Outcome.{Outcome}
-use Rattle.mn_answer.specs.declared.outcome.Outcome.TheVariants.{Done, Usage, ReadFault, WriteFault, NoMemory, BadTopology, BadScript, BadCapture, TooLarge, BadJoints, BadSecond}
+use Rattle.mn_answer.specs.declared.outcome.Outcome.TheVariants.{Done, Usage, ReadFault, WriteFault, NoMemory, BadTopology, BadScript, BadCapture, TooLarge}
+use Rattle.mn_answer.specs.declared.outcome.Outcome.TheVariants.{BadJoints, BadSecond}
 
 -- each outcome has a status of its own
 abbrev pub status_of : Outcome → ℕ

@@ -12,7 +12,7 @@
 //! - `specs/Arrival`: what is asked, and what follows
 //! - `specs/TwoLinks`: a network of two links that meets what is asked
 //!
-//! The law of one stretch that ends a journal is in `mn_settled_laws`; how a network settles is said in `mn_drain_laws`.
+//! The law of one stretch that ends a journal is in `mn_settled_laws`; how a network settles is stated in `mn_drain_laws`.
 #![tactic(auto)]
 
 ghost use Rattle.std.specs.Prelude.{ℕ, List};

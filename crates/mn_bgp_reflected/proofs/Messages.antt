@@ -29,10 +29,12 @@ use Rattle.mn_bgp_reflected.proofs.Values.{clusters_refused}
 
 -- 1. The attributes of an UPDATE
 
-spelled : (bytes : List ℕ) (says : Says) (is : IsBgp bytes (messages.Update says)) → bytes ≡ message_bytes update_kind (update_body (attributes_bytes (attributes_by bytes says is)))
+spelled : (bytes : List ℕ) (says : Says) (is : IsBgp bytes (messages.Update says)) →
+    bytes ≡ message_bytes update_kind (update_body (attributes_bytes (attributes_by bytes says is)))
 spelled bytes says is = let update : IsUpdate is.body says = is.is_body in is.whole ∙ ap (message_bytes update_kind) update.are_attributes.whole
 
-pub body_is : (bytes : List ℕ) (says : Says) (is : IsBgp bytes (messages.Update says)) → body_of bytes ≡ update_body (attributes_bytes (attributes_by bytes says is))
+pub body_is : (bytes : List ℕ) (says : Says) (is : IsBgp bytes (messages.Update says)) →
+    body_of bytes ≡ update_body (attributes_bytes (attributes_by bytes says is))
 body_is bytes says is = ap body_of (spelled bytes says is)
 
 short : (bytes : List ℕ) (says : Says) (is : IsBgp bytes (messages.Update says)) → length (attributes_bytes (attributes_by bytes says is)) < 2 ^ 16
@@ -44,7 +46,8 @@ short bytes says is =
 pub are_in_body : (bytes : List ℕ) (says : Says) (is : IsBgp bytes (messages.Update says)) → attributes_in (body_of bytes) ≡ Some (attributes_by bytes says is)
 are_in_body bytes says is = ap attributes_in (body_is bytes says is) ∙ list_again (attributes_by bytes says is) (short bytes says is)
 
-pub said_is : (kind : ℕ) (bytes : List ℕ) (says : Says) (is : IsBgp bytes (messages.Update says)) → said_of kind (body_of bytes) ≡ value_of kind (attributes_by bytes says is)
+pub said_is : (kind : ℕ) (bytes : List ℕ) (says : Says) (is : IsBgp bytes (messages.Update says)) →
+    said_of kind (body_of bytes) ≡ value_of kind (attributes_by bytes says is)
 said_is kind bytes says is = ap (λ (o : Option (List PathAttribute)). o >>= value_of kind) (are_in_body bytes says is)
 
 guarded : {X : Type 0} (b : Bool) (o : Option X) (x : X) → cond b None o ≡ Some x → o ≡ Some x
@@ -87,7 +90,8 @@ update_takes (Ok messages.KeepAlive) says e = absurd cc
 
 -- what is read, step by step
 pub read_by : (bytes : List ℕ) (update : Result Says ReflectedBad) (originator : Result (Option ℕ) ReflectedBad) (clusters : Result (List ℕ) ReflectedBad) →
-    update_in (message_of bytes) ≡ update → originator_of (said_of originator_kind (body_of bytes)) ≡ originator → clusters_of (said_of cluster_kind (body_of bytes)) ≡ clusters
+    update_in (message_of bytes) ≡ update → originator_of (said_of originator_kind (body_of bytes)) ≡ originator →
+    clusters_of (said_of cluster_kind (body_of bytes)) ≡ clusters
     → reflected_of bytes ≡ after update (λ u. after originator (λ o. after clusters (λ cs. Ok (record { update = u; originator = o; clusters = cs }))))
 unfolding reflected_of
 read_by bytes update originator clusters u o c =
@@ -95,7 +99,8 @@ read_by bytes update originator clusters u o c =
     after (clusters_of (said_of cluster_kind (body_of bytes))) (λ by. done (record { update = said; originator = from; clusters = by }))))) u
     ∙ ap (λ (r : Result (Option ℕ) ReflectedBad). after update (λ said. after r (λ from.
     after (clusters_of (said_of cluster_kind (body_of bytes))) (λ by. done (record { update = said; originator = from; clusters = by }))))) o
-    ∙ ap (λ (r : Result (List ℕ) ReflectedBad). after update (λ said. after originator (λ from. after r (λ by. done (record { update = said; originator = from; clusters = by }))))) c
+    ∙ ap (λ (r : Result (List ℕ) ReflectedBad). after update
+    (λ said. after originator (λ from. after r (λ by. done (record { update = said; originator = from; clusters = by }))))) c
 
 pub reflected_again : (bytes : List ℕ) (said : SaysReflected) → IsReflected bytes said → reflected_of bytes ≡ Ok said
 reflected_again bytes said is =
@@ -218,7 +223,7 @@ refusal_never wire.BadOpen e = cc
 refusal_never wire.BadAttribute e = cc
 refusal_never wire.MissingAttribute e = cc
 
--- all but want of memory are handed on
+-- all but out of memory are handed on
 pub handed_on : (bad : BgpWireBad) → (bad ≡ wire.NoMemory → ⊥) → Wire bad ≡ refusal_by bad
 handed_on wire.NoMemory h = absurd (h refl)
 handed_on wire.Short h = refl
@@ -229,7 +234,8 @@ handed_on wire.BadOpen h = refl
 handed_on wire.BadAttribute h = refl
 handed_on wire.MissingAttribute h = refl
 
-pub found_by : (r : Result SaysReflected ReflectedBad) (bytes : List ℕ) → IsBytes bytes → Answers r (reflected_of bytes) → IfOk r (λ said. IsReflected bytes said)
+pub found_by : (r : Result SaysReflected ReflectedBad) (bytes : List ℕ) → IsBytes bytes → Answers r (reflected_of bytes) →
+    IfOk r (λ said. IsReflected bytes said)
 found_by (Ok said) bytes fits given = reflected_takes bytes said fits given
 found_by (Err bad) bytes fits given = tt
 
@@ -296,7 +302,8 @@ unfolding originator_of
 originator_said None e = cc
 originator_said (Some value) e = never_by (length value == 4) (Some (big_number 4 value)) BadOriginator (λ q. cc) e
 
-pub originator_never : {X : Type 0} (bad : ReflectedBad) (value : Option (List ℕ)) → Err bad ≡ originator_of value → refused {X = X} bad ≡ Err (Wire wire.NoMemory) → ⊥
+pub originator_never : {X : Type 0} (bad : ReflectedBad) (value : Option (List ℕ)) → Err bad ≡ originator_of value →
+    refused {X = X} bad ≡ Err (Wire wire.NoMemory) → ⊥
 originator_never bad value is e = originator_said value (sym is ∙ ap (λ (b : ReflectedBad). Err b) (bad_of bad (Wire wire.NoMemory) e))
   where
     bad_of : {Y : Type 0} (one two : ReflectedBad) → refused {X = Y} one ≡ refused two → one ≡ two
@@ -311,7 +318,8 @@ clusters_said (Some value) e = by ((length value == 0) || not (length value % 4 
     by true q = cc
     by false q = cc
 
-pub clusters_never : {X : Type 0} (bad : ReflectedBad) (value : Option (List ℕ)) → Fails bad (clusters_of value) → refused {X = X} bad ≡ Err (Wire wire.NoMemory) → ⊥
+pub clusters_never : {X : Type 0} (bad : ReflectedBad) (value : Option (List ℕ)) → Fails bad (clusters_of value) →
+    refused {X = X} bad ≡ Err (Wire wire.NoMemory) → ⊥
 clusters_never NoMemory value h e = cc
 clusters_never (Wire bad) value h e = clusters_said value (h ∙ ap (λ (b : BgpWireBad). Err (Wire b)) (wire_of bad wire.NoMemory e))
   where

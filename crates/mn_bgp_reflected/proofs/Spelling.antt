@@ -46,7 +46,8 @@ size_is hop route targets originator clusters =
 abbrev pub Announcement : ℕ → VpnRoute → List Rt → Type 0
 Announcement hop route targets = IsBgp (update_bytes (announced hop route targets)) (messages.Update (says_announced hop route targets))
 
-announced_short : (hop : ℕ) (route : VpnRoute) (targets : List Rt) → Announcement hop route targets → length (attributes_bytes (announced hop route targets)) < 2 ^ 16
+announced_short : (hop : ℕ) (route : VpnRoute) (targets : List Rt) → Announcement hop route targets →
+    length (attributes_bytes (announced hop route targets)) < 2 ^ 16
 announced_short hop route targets is =
     let within = is.within in
     let size = size_of update_kind (update_body (attributes_bytes (announced hop route targets))) in
@@ -58,15 +59,18 @@ attributes_are hop route targets is =
     some_is _ (announced hop route targets) (sym (are_in_body (update_bytes (announced hop route targets)) (says_announced hop route targets) is)
     ∙ list_again (announced hop route targets) (announced_short hop route targets is))
 
-reach_said : (hop : ℕ) (route : VpnRoute) (targets : List Rt) → Announcement hop route targets → SayReach (value_of mp_reach_kind (announced hop route targets)) hop (route ∷ [])
+reach_said : (hop : ℕ) (route : VpnRoute) (targets : List Rt) → Announcement hop route targets →
+    SayReach (value_of mp_reach_kind (announced hop route targets)) hop (route ∷ [])
 reach_said hop route targets is =
     let update : IsUpdate is.body (says_announced hop route targets) = is.is_body in
     subst (λ (xs : List PathAttribute). SayReach (value_of mp_reach_kind xs) hop (route ∷ [])) (attributes_are hop route targets is) update.are_attributes.reach
 
-targets_said : (hop : ℕ) (route : VpnRoute) (targets : List Rt) → Announcement hop route targets → SayTargets (value_of extended_communities_kind (announced hop route targets)) targets
+targets_said : (hop : ℕ) (route : VpnRoute) (targets : List Rt) → Announcement hop route targets →
+    SayTargets (value_of extended_communities_kind (announced hop route targets)) targets
 targets_said hop route targets is =
     let update : IsUpdate is.body (says_announced hop route targets) = is.is_body in
-    subst (λ (xs : List PathAttribute). SayTargets (value_of extended_communities_kind xs) targets) (attributes_are hop route targets is) update.are_attributes.targets
+    subst (λ (xs : List PathAttribute). SayTargets (value_of extended_communities_kind xs) targets)
+    (attributes_are hop route targets is) update.are_attributes.targets
 
 route_short : (hop : ℕ) (route : VpnRoute) (targets : List Rt) → Announcement hop route targets → length (written route false) ≤ 16
 route_short hop route targets is =
@@ -85,14 +89,16 @@ reflected_short hop route targets originator clusters is few near =
     omega arith
 
 -- what is written beside the announcement's attributes
-pub size_by : (len hop : ℕ) (route : VpnRoute) (targets : List Rt) (originator : ℕ) (clusters : List ℕ) → len ≡ length (update_bytes (announced hop route targets)) →
+pub size_by : (len hop : ℕ) (route : VpnRoute) (targets : List Rt) (originator : ℕ) (clusters : List ℕ) →
+    len ≡ length (update_bytes (announced hop route targets)) →
     len - 23 + (10 + 4 * length clusters) ≡ length (attributes_bytes (reflected hop route targets originator clusters))
 size_by len hop route targets originator clusters is =
     let size = size_is hop route targets originator clusters in
     let whole : length (update_bytes (announced hop route targets)) ≡ 37 + length (drop 37 (update_bytes (announced hop route targets))) = omega arith in
     omega arith
 
-pub size_fits : (len hop : ℕ) (route : VpnRoute) (targets : List Rt) (originator : ℕ) (clusters : List ℕ) → len ≡ length (update_bytes (announced hop route targets)) →
+pub size_fits : (len hop : ℕ) (route : VpnRoute) (targets : List Rt) (originator : ℕ) (clusters : List ℕ) →
+    len ≡ length (update_bytes (announced hop route targets)) →
     Announcement hop route targets → length targets ≤ 16 → length clusters ≤ 8 → len - 23 + (10 + 4 * length clusters) ≤ 4073
 size_fits len hop route targets originator clusters e is few near =
     let size = size_by len hop route targets originator clusters e in
@@ -145,7 +151,8 @@ each_fits (x ∷ xs) h = (h 0, each_fits xs (λ i. h (suc i)))
 
 -- 3. The bytes, part by part
 
-headed : (n : ℕ) (all : List ℕ) → n ≡ length all → (marker ++ big_bytes 2 (23 + n) ++ update_kind ∷ big_bytes 2 0 ++ big_bytes 2 n) ++ all ≡ message_bytes update_kind (update_body all)
+headed : (n : ℕ) (all : List ℕ) → n ≡ length all →
+    (marker ++ big_bytes 2 (23 + n) ++ update_kind ∷ big_bytes 2 0 ++ big_bytes 2 n) ++ all ≡ message_bytes update_kind (update_body all)
 headed n all e =
     let size : 23 + n ≡ 19 + length (update_body all) = omega (arith, e) in
     ap (λ (k : ℕ). (marker ++ big_bytes 2 k ++ update_kind ∷ big_bytes 2 0 ++ big_bytes 2 n) ++ all) size

@@ -81,7 +81,8 @@ pub addresses_length : (addresses : List ℕ) → length (flat_map address_bytes
 addresses_length [] = refl
 addresses_length (one ∷ more) = let l = addresses_length more in omega arith
 
-addresses_again : (addresses : List ℕ) → AllByRecursion (λ (address : ℕ). address < 2 ^ 32) addresses → addresses_of (flat_map address_bytes addresses) ≡ addresses
+addresses_again : (addresses : List ℕ) → AllByRecursion (λ (address : ℕ). address < 2 ^ 32) addresses →
+    addresses_of (flat_map address_bytes addresses) ≡ addresses
 unfolding addresses_of
 addresses_again [] fit = refl
 addresses_again (one ∷ more) fit =
@@ -107,7 +108,8 @@ addresses_are [] fits whole = refl
 addresses_are (a ∷ b ∷ c ∷ d ∷ rest) fits whole =
     let others = IsBytes-drop 4 (a ∷ b ∷ c ∷ d ∷ rest) fits in
     ap (λ (xs : List ℕ). a ∷ b ∷ c ∷ d ∷ xs) (addresses_are rest others (omega arith))
-    ∙ ap (λ (xs : List ℕ). xs ++ flat_map address_bytes (addresses_of rest)) (sym (four_of a b c d [] (fits.below 0) (fits.below 1) (fits.below 2) (fits.below 3)))
+    ∙ ap (λ (xs : List ℕ). xs ++ flat_map address_bytes (addresses_of rest))
+    (sym (four_of a b c d [] (fits.below 0) (fits.below 1) (fits.below 2) (fits.below 3)))
 addresses_are _ fits whole = absurd (omega arith)
 
 addresses_fit : (bytes : List ℕ) → IsBytes bytes → AllByRecursion (λ (address : ℕ). address < 2 ^ 32) (addresses_of bytes)
@@ -142,7 +144,8 @@ pub clusters_refused : (value : List ℕ) → (length value ≡ 0) ⊎ (length v
 unfolding clusters_of
 clusters_refused value wrong = by (length value == 0) (length value % 4 == 0) refl refl
   where
-    by : (b c : Bool) → (length value == 0) ≡ b → (length value % 4 == 0) ≡ c → cond (b || not c) (Err BadClusters) (done (addresses_of value)) ≡ Err BadClusters
+    by : (b c : Bool) → (length value == 0) ≡ b → (length value % 4 == 0) ≡ c →
+        cond (b || not c) (Err BadClusters) (done (addresses_of value)) ≡ Err BadClusters
     by true c p q = refl
     by false false p q = refl
     by false true p q = absurd (elim wrong [

@@ -27,7 +27,8 @@ record IsSplit (all : List PathAttribute) (attribute : PathAttribute) (others : 
 split : (rest : List ℕ) (attribute : PathAttribute) (others : List ℕ) (all : List PathAttribute) → attribute_at rest ≡ Some (attribute, others) →
     attributes_of rest ≡ Some all → IsSplit all attribute others
 split rest attribute others all at e =
-    let t = then_some (attributes_of others) (λ more. Some (attribute ∷ more)) all (sym (items_first attribute_at attributes_shorten rest (attribute, others) at) ∙ e) in
+    let t = then_some (attributes_of others) (λ more. Some (attribute ∷ more)) all
+    (sym (items_first attribute_at attributes_shorten rest (attribute, others) at) ∙ e) in
     record { more = t.0; are = t.1; whole = some_is (attribute ∷ t.0) all t.2 }
 
 passed : (kind : ℕ) (attribute : PathAttribute) (more : List PathAttribute) → attribute.kind ≢ kind →

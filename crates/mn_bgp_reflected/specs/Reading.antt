@@ -19,7 +19,7 @@ pub use Rattle.mn_base.specs.Rules.{after}
 abbrev pub said_of : ℕ → List ℕ → Option (List ℕ)
 said_of kind body = attributes_in body >>= value_of kind
 
--- why a message is refused; want of memory is no fault of it
+-- why a message is refused; out of memory is no fault of it
 abbrev pub refusal_by : BgpWireBad → ReflectedBad
 refusal_by wire.NoMemory = NoMemory
 refusal_by bad = Wire bad
@@ -52,7 +52,7 @@ reflected_of bytes =
     after (clusters_of (said_of cluster_kind (body_of bytes))) (λ clusters.
     Ok (record { update = update; originator = originator; clusters = clusters }))))
 
--- A refusal is the one that reading gives, and want of memory is free.
+-- A refusal is the one that reading gives, and out of memory is free.
 abbrev pub Fails : {Y : Type 0} → ReflectedBad → Result Y ReflectedBad → Type 0
 Fails NoMemory reading = ⊤
 Fails (Wire bad) reading = reading ≡ Err (Wire bad)

@@ -18,7 +18,7 @@ pub fn reflected_is_read()
 {}
 
 /// Another message is refused as `NotUpdate`; an UPDATE whose ORIGINATOR_ID hasn't four bytes as `BadOriginator`; and one whose
-/// CLUSTER_LIST is empty or hasn't whole addresses as `BadClusters`, where its originator is good or not said.
+/// CLUSTER_LIST is empty or hasn't whole addresses as `BadClusters`, where its originator is good or not given.
 pub fn refused_for_an_attribute()
     ensures kind { (bytes : List ℕ) (message : Message) →
         IsBgp bytes message → kind_of message ≢ update_kind → reflected_of bytes ≡ Err Bad.NotUpdate }

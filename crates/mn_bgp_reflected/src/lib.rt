@@ -1,6 +1,6 @@
 //! Announcements that a route reflector passes on (RFC 4456): an UPDATE with two attributes more, read and written.
 //!
-//! A reflector hands a route of one client to another as it heard it, next hop, label and targets, and says who announced it and
+//! A reflector hands a route of one client to another as it received it, next hop, label and targets, and says who announced it and
 //! through which clusters it came (RFC 4456, section 8). By these a node sees its own route come back.
 //!
 //! ```text

@@ -67,14 +67,14 @@ impl Reflected {
         &self.update
     }
 
-    /// The address of the node that announced the route (RFC 4456, section 8), where it is said.
+    /// The address of the node that announced the route (RFC 4456, section 8), where it is given.
     pub fn originator(&self) -> Option<u32>
         ensures { result ≡ self.now.originator }
     {
         self.originator
     }
 
-    /// The clusters through which the route came, the last of them first (RFC 4456, section 8); none where it isn't said.
+    /// The clusters through which the route came, the last of them first (RFC 4456, section 8); none where it isn't given.
     pub fn clusters(&self) -> &[u32]
         ensures { result.now ≡ self.now.clusters }
     {

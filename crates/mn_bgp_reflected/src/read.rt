@@ -14,7 +14,7 @@ use byteorder::{BigEndian, ByteOrder};
 use mn_bgp_wire::{BgpMessage, BgpWireBad, Update, read_bgp};
 use std::alloc::Global;
 
-/// Reads one UPDATE, which is all of the bytes, with what a reflector says of its route, where it is said.
+/// Reads one UPDATE, which is all of the bytes, with what a reflector says of its route, where it is given.
 ///
 /// Refuses, in this order: `Wire` for what isn't a message, `NotUpdate`, `BadOriginator`, `BadClusters`.
 pub fn read_reflected(alloc: Global, bytes: &[u8]) -> Result<Reflected, ReflectedBad>

@@ -9,7 +9,7 @@ use thiserror::Error;
 /// Why bytes aren't an UPDATE with attributes of a reflector. All but the last are tried in this order.
 #[derive(Clone, Copy, Debug, PartialEq, Eq, Error)]
 pub enum ReflectedBad {
-    /// The bytes aren't a message; never for want of memory.
+    /// The bytes aren't a message; never because memory ran out.
     #[error("{0}")]
     Wire(BgpWireBad),
     /// The message isn't an UPDATE.

@@ -1,6 +1,6 @@
 -- One end of a BGP session: RFC 4271, section 8.2.2, as far as a session in which no timer runs has it.
 --
---   state         heard                  said       new state
+--   state         received               sent       new state
 --   OpenSent      OPEN                   KEEPALIVE  OpenConfirm
 --   OpenConfirm   KEEPALIVE              routes     Established
 --   Established   KEEPALIVE or UPDATE    nothing    Established
@@ -40,7 +40,7 @@ next_state OpenSent = OpenConfirm
 next_state OpenConfirm = Established
 next_state state = state
 
--- an OPEN is answered by a KEEPALIVE; with the KEEPALIVE in OpenConfirm routes are to be told
+-- an OPEN is answered by a KEEPALIVE; with the KEEPALIVE in OpenConfirm routes are to be advertised
 abbrev pub reply_in : BgpState → BgpReply
 reply_in OpenSent = record { say_keep = true; became_established = false }
 reply_in OpenConfirm = record { say_keep = false; became_established = true }

@@ -1,4 +1,4 @@
-// One end, which hears one message after another.
+// One end, which receives one message after another.
 ghost use Rattle.std.specs.Prelude.{◌≡◌};
 ghost use Rattle.mn_states.specs.declared.states.BgpState.TheVariants.{OpenSent};
 ghost use Rattle.mn_bgp_session.specs.Table.{is_of_peer, answer_in, after_message};
@@ -18,7 +18,7 @@ pub struct BgpSession {
 }
 
 impl BgpSession {
-    /// An end that has said OPEN: of an AS, with its own address and the peer's.
+    /// An end that has sent OPEN: of an AS, with its own address and the peer's.
     pub fn open(asn: u16, me: u32, peer: u32) -> BgpSession
         ensures { result ≡ record { asn = asn; me = me; peer = peer; state = OpenSent } }
     {

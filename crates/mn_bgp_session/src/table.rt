@@ -14,12 +14,12 @@ pub enum BgpKind {
     KeepAlive,
 }
 
-/// What a message asks of the end that heard it.
+/// What a message asks of the end that received it.
 #[derive(Clone, Copy, Debug, PartialEq, Eq)]
 pub struct BgpReply {
-    /// A KEEPALIVE is to be said.
+    /// A KEEPALIVE is to be sent.
     pub say_keep: bool,
-    /// The end has become Established: its routes are to be told.
+    /// The end has become Established: its routes are to be advertised.
     pub became_established: bool,
 }
 

@@ -1,4 +1,4 @@
--- What is told is read as it was told, and taken by the session that hears it.
+-- What is told is read as it was told, and taken by the session that receives it.
 use Rattle.std.proofs.Common.{ℕ, zero, suc, ◌≡◌, ◌<◌, ◌*◌, ◌^◌, true, List, [], ◌∷◌, Ok, arith, lit<}
 use Rattle.std.specs.Prelude.{◌&&◌, nat_le, nat_lt, slice_index_or}
 use Rattle.std.specs.List.{list_all}

@@ -1,4 +1,4 @@
--- What an edge tells is read as it was written, and each message that is heard has a row and is the peer's.
+-- What an edge advertises is read as it was written, and each message that is received has a row and is the peer's.
 use Rattle.std.proofs.Common.{ℕ, zero, suc, ◌≡◌, ◌+◌, ◌<◌, ◌^◌, Bool, true, false, cond, List, [], ◌∷◌, ◌++◌, map, refl, arith, sym, ◌∙◌, ap, Ok, add-one}
 use Rattle.std.specs.Prelude.{◌==◌, ◌&&◌, slice_index_or, if◌then◌else◌}
 use Rattle.mn_states.specs.declared.states.BgpState.{BgpState}
@@ -21,7 +21,7 @@ use Rattle.mn_ledger.proofs.GoingBy.{pair_here}
 use Rattle.mn_base.proofs.Bools.{same_test}
 use Rattle.mn_bgp_spelling_laws.specs.Spelling.{Labels, as_targets, route_of, session_in, message_in, bytes_in, IsWritable}
 
--- 1. No message that is heard is unexpected, or of another
+-- 1. No message that is received is unexpected, or of another
 
 rows_same : (t : Network) (l : Labels) (teller : ℕ) (state : BgpState) (m : Telling) → has_row state (kind_of (message_in t l teller m)) ≡ has_bgp_row state m
 rows_same t l teller Idle Open = refl

@@ -1,4 +1,4 @@
--- After every lawful journal all that was told can be written.
+-- After every lawful journal all that was sent can be written.
 use Rattle.std.proofs.Common.{ℕ, zero, suc, ◌≡◌, ◌+◌, ◌<◌, ◌≤◌, inl, inr, Bool, true, false, cond, List, [], ◌∷◌, ◌++◌, filter, length, refl, arith}
 use Rattle.std.proofs.Common.{ap, subst, lit<}
 use Rattle.std.specs.Prelude.{◌==◌, not, nat_lt, nat_le, fold, slice_index_or, ⊤}

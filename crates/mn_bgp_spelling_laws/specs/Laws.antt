@@ -9,7 +9,7 @@ use Rattle.mn_ledger.specs.Exports.{exports_of}
 use Rattle.mn_ledger.specs.Bgp.{peers_live, bgp_state_of, reply, peerings_after}
 use Rattle.mn_bgp_spelling_laws.specs.Spelling.{Labels, message_in, session_in}
 
--- the next message that an edge hears of a peer
+-- the next message that an edge receives from a peer
 abbrev pub next_of : World → ℕ → ℕ → Telling
 next_of world edge peer = slice_index_or (world.peerings.told peer edge) (world.peerings.heard edge peer) Open
 

@@ -1,4 +1,4 @@
--- What edges tell each other, as BGP messages and as bytes, and the sessions in which they do: RFC 4271, sections 4.2 to 4.4, RFC 4760,
+-- What edges send each other, as BGP messages and as bytes, and the sessions in which they do: RFC 4271, sections 4.2 to 4.4, RFC 4760,
 -- sections 3 and 4, and RFC 4364, section 4.3.
 use Rattle.std.specs.Prelude.{◌≤◌, ℕ, true, List, map, length, ⊤}
 use Rattle.mn_base.specs.declared.numbers.Rt.{Rt}

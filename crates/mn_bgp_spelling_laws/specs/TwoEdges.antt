@@ -40,7 +40,7 @@ pe1_announces = marker ++ 0x00 ∷ 0x52 ∷ 0x02 ∷ 0x00 ∷ 0x00 ∷ 0x00 ∷ 
     0x00 ∷ 0x00 ∷ 0xFD ∷ 0xE8 ∷ 0x00 ∷ 0x00 ∷ 0x00 ∷ 0x01 ∷ 0x0A ∷ 0x01 ∷ 0xC0 ∷ 0x10 ∷ 0x08 ∷ 0x00 ∷ 0x02 ∷
     0xFD ∷ 0xE8 ∷ 0x00 ∷ 0x00 ∷ 0x00 ∷ 0x64 ∷ []
 
--- the session has opened, and pe2 is to hear pe1's OPEN; labels have 20 bits; and these are the messages of pe1 to pe2 once all is heard
+-- the session has opened, and pe2 is to receive pe1's OPEN; labels have 20 bits; and these are the messages of pe1 to pe2 once all is received
 pub record TwoEdgesTalk : Type 0 where
   pub lawful : IsLawful two_links
   pub journal : IsLawfulJournal two_links opening []

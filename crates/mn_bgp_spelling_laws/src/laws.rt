@@ -7,7 +7,7 @@ ghost use Rattle.mn_bgp_spelling_laws.specs.Spelling.{Labels, message_in, bytes_
 ghost use Rattle.mn_bgp_spelling_laws.specs.TwoEdges.{TwoEdgesTalk};
 ghost use Rattle.mn_bgp_spelling_laws.specs.Laws.{IsComing, IsTaken, GoesOn, RepliesByTheTable, AreLabels};
 
-/// What is told is the message that its bytes spell, and is read as it.
+/// What is sent is the message that its bytes spell, and is read as it.
 pub fn what_is_told_is_read()
     ensures spelled { (topology : Network) (labels : Labels) (teller : ℕ) (telling : Telling) →
         IsLawful topology → IsWritable topology labels telling → IsBgp (bytes_in topology labels teller telling) (message_in topology labels teller telling) }
@@ -16,7 +16,7 @@ pub fn what_is_told_is_read()
 {}
 
 /// Where sessions are in turn, as they are after every lawful journal, the session takes the message that comes next, goes on
-/// by the table, and what is told back is what the table says.
+/// by the table, and what is sent back is what the table says.
 pub fn what_comes_is_taken()
     ensures taken { (topology : Network) (labels : Labels) (world : World) (edge peer : ℕ) →
         IsLawful topology → IsInTurn topology world → IsComing world edge peer → IsTaken topology labels world edge peer }
@@ -26,7 +26,7 @@ pub fn what_comes_is_taken()
         IsLawful topology → IsInTurn topology world → IsComing world edge peer → RepliesByTheTable topology world edge peer }
 {}
 
-/// Everything that was told after a lawful journal can be written, whatever labels of 20 bits the attachments have.
+/// Everything that was sent after a lawful journal can be written, whatever labels of 20 bits the attachments have.
 pub fn what_is_told_can_be_written()
     ensures { (topology : Network) (labels : Labels) (entries : List JournalEntry) (inputs : List (List ℕ)) (teller peer : ℕ) (telling : Telling) →
         IsLawful topology → AreLabels labels → IsLawfulJournal topology entries inputs →

@@ -142,7 +142,7 @@ pub unreach_take : (value : List ℕ) (routes : List VpnRoute) → IsBytes value
 unreach_take (x ∷ y ∷ z ∷ nlri) routes fits is = unreach_takes_by x y z nlri routes fits is
 unreach_take value routes fits is = absurd (unreach_short value routes (omega arith) is)
 
--- What is said.
+-- What is sent.
 
 reach_said : (o : Option (List ℕ)) (hop : ℕ) (routes : List VpnRoute) → SayReach o hop routes → said (0, no_routes) reach_of o ≡ Ok (hop, routes)
 reach_said None hop routes h = let p = h.0 in let q = h.1 in cc
@@ -174,7 +174,7 @@ targets_said_take (Some value) targets fits e = read_are_targets value targets (
 
 -- UPDATE.
 
--- What stands together in an UPDATE is said; what is missing is then looked at.
+-- What stands together in an UPDATE is sent; what is missing is then looked at.
 
 pub record AreSaid (attributes : List PathAttribute) (says : Says) : Type 0 where
   pub once : has_twice attributes ≡ false
@@ -260,7 +260,7 @@ only_bad_said : {X : Type 0} (absent : X) (read : List ℕ → Result X BgpWireB
 only_bad_said absent read each None = tt
 only_bad_said absent read each (Some value) = each value
 
--- all is said, or something is bad
+-- all is sent, or something is bad
 data Verdict (attributes : List PathAttribute) : Type 0 where
   AllSaid : (says : Says) → AreSaid attributes says → Verdict attributes
   OneBad : says_of attributes ≡ Err BadAttribute → Verdict attributes

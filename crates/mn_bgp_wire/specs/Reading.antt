@@ -212,7 +212,7 @@ body_says kind body =
 unfoldable pub message_of : List ℕ → Result BgpMessage BgpWireBad
 message_of bytes = after (header_of bytes) (λ kind. body_says kind (body_of bytes))
 
--- A refusal is the one that reading gives, and want of memory is free.
+-- A refusal is the one that reading gives, and out of memory is free.
 abbrev pub Fails : {Y : Type 0} → BgpWireBad → Result Y BgpWireBad → Type 0
 Fails NoMemory reading = ⊤
 Fails Short reading = reading ≡ Err Short

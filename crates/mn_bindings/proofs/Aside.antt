@@ -1,4 +1,4 @@
--- What is heard aside changes no way, and so nothing is told of it.
+-- What is received aside changes no way, and so nothing is told of it.
 use Rattle.std.proofs.Common.{ℕ, zero, suc, ◌≡◌, ◌≢◌, ◌+◌, Bool, true, false, List, [], ◌∷◌, Option, Some, None, refl, arith, sym, ◌∙◌, ap, inl, inr}
 use Rattle.std.specs.Prelude.{◌==◌, ◌||◌, not, is_some, slice_index_or, slice_set}
 use Rattle.std.specs.List.{flat_map, range_with_len}

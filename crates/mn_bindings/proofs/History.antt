@@ -1,4 +1,4 @@
--- What is kept is what was said last. The proof goes by the events from the newest to the oldest, and then reads them in order.
+-- What is kept is what was sent last. The proof goes by the events from the newest to the oldest, and then reads them in order.
 use Rattle.std.proofs.Common.{ℕ, zero, suc, ◌≡◌, ◌<◌, Bool, true, false, cond, List, [], ◌∷◌, ◌++◌, reverse, length, get_or, set, slice_index_or, replicate}
 use Rattle.std.proofs.Common.{refl, sym, ◌∙◌, ap, subst, inl, inr, Option, Some, None, arith}
 use Rattle.std.specs.Prelude.{is_some, ◌==◌, ◌&&◌, ⊤}

@@ -152,7 +152,8 @@ pub one_more_owed : (old new end : Resting) (ts : List Tell) (i : ℕ) (d : Tell
 one_more_owed old new end ts i d h rest e =
     ap (λ r. owed_for r (drop (i + 1) ts)) e ∙ sym (ap (owed_for old) (drop_more ts i d h)) ∙ rest
 
-pub fits_still : (es : List LibEvent) (i : ℕ) (d : LibEvent) (a b m n : ℕ) → i < length es → All (RestFits a b) es → m ≡ a → n ≡ b → RestFits m n (get_or es i d)
+pub fits_still : (es : List LibEvent) (i : ℕ) (d : LibEvent) (a b m n : ℕ) → i < length es → All (RestFits a b) es → m ≡ a → n ≡ b →
+    RestFits m n (get_or es i d)
 fits_still es i d a b m n h all e f =
     subst (λ k. RestFits k n (get_or es i d)) (sym e) (subst (λ k. RestFits a k (get_or es i d)) (sym f) (all i d h))
 
@@ -177,7 +178,8 @@ all_push [] x v h e (suc k) d l = absurd (omega (arith, l))
 all_push (y ∷ ys) x v h e zero d l = h zero d (omega arith)
 all_push (y ∷ ys) x v h e (suc k) d l = all_push ys x v (λ n c m. h (suc n) c (omega (arith, m))) e k d (omega (arith, l))
 
-pub opened_more : (es : List LibEvent) (i : ℕ) (d : LibEvent) → i < length es → opened_in (take (i + 1) es) ≡ opened_in (take i es) + opened_in (get_or es i d ∷ [])
+pub opened_more : (es : List LibEvent) (i : ℕ) (d : LibEvent) → i < length es →
+    opened_in (take (i + 1) es) ≡ opened_in (take i es) + opened_in (get_or es i d ∷ [])
 opened_more es i d h = ap opened_in (take_more es i d h) ∙ last (take i es) (get_or es i d)
   where
     last : (xs : List LibEvent) (x : LibEvent) → opened_in (xs ++ x ∷ []) ≡ opened_in xs + opened_in (x ∷ [])
@@ -208,7 +210,8 @@ one_more_stopped tick b old new end before i d h rest e =
     ∙ sym (all_stopped-append tick old (ended_since b (get_or before i d)) (flat_map (ended_since b) (drop (i + 1) before)))
     ∙ sym (ap (λ xs. all_stopped tick old (flat_map (ended_since b) xs)) (drop_more before i d h)) ∙ rest
 
-pub case_rested : (tick : ℕ) (b : Bindings) (one : SoFar) (old new : Resting) → new ≡ all_stopped tick old (ended_since b one) → length new.rested ≡ length old.rested
+pub case_rested : (tick : ℕ) (b : Bindings) (one : SoFar) (old new : Resting) → new ≡ all_stopped tick old (ended_since b one) →
+    length new.rested ≡ length old.rested
 case_rested tick b one old new e = ap (λ (r : Resting). length r.rested) e ∙ by (one.offered && not (offers b one.fec.0))
   where
     by : (x : Bool) → length (all_stopped tick old (cond x (one.fec.0 ∷ []) [])).rested ≡ length old.rested
@@ -228,7 +231,8 @@ stopped_rested tick r (x ∷ xs) = stopped_rested tick (stopped r x tick) xs ∙
 pub fit_beside : (b : Bindings) (r : Resting) (es : List LibEvent) → length r.owed ≡ nodes b → length r.rested ≡ nodes b → EventsFit b es →
     All (RestFits (length r.owed) (length r.rested)) es
 fit_beside b r es e g f =
-    λ k d h. subst (λ n. RestFits n (length r.rested) (get_or es k d)) (sym e) (subst (λ n. RestFits (nodes b) n (get_or es k d)) (sym g) (all_fit b es f k d h))
+    λ k d h. subst (λ n. RestFits n (length r.rested) (get_or es k d)) (sym e)
+    (subst (λ n. RestFits (nodes b) n (get_or es k d)) (sym g) (all_fit b es f k d h))
 
 pub pushed_alike : {A : Type 0} (xs ys : List A) (x v : A) → ys ≡ xs ++ x ∷ [] → All (λ r. r ≡ v) xs → x ≡ v → All (λ r. r ≡ v) ys
 pushed_alike xs ys x v e all is = subst (λ zs. All (λ r. r ≡ v) zs) (sym e) (all_push xs x v all is)

@@ -1,5 +1,6 @@
 -- A row of labels: at first, as it is read, and as one label is noted.
-use Rattle.std.proofs.Common.{ℕ, zero, suc, ◌≡◌, ◌≤◌, Bool, true, false, cond, List, [], ◌∷◌, length, get_or, set, replicate, refl, ap, arith, Option, Some, None}
+use Rattle.std.proofs.Common.{ℕ, zero, suc, ◌≡◌, ◌≤◌, Bool, true, false, cond, List, [], ◌∷◌, length, get_or, set, replicate, refl, ap, arith, Option, Some}
+use Rattle.std.proofs.Common.{None}
 use Rattle.mn_bindings.specs.Rows.{labels_of}
 
 pub none_mapped : (n : ℕ) → labels_of (replicate n false) (replicate n 0) ≡ replicate n None

@@ -13,10 +13,12 @@ use Rattle.mn_bindings.specs.declared.event.LibEvent.{LibEvent}
 use Rattle.mn_bindings.specs.declared.event.LibEvent.TheVariants.{Opened, Closed, Map, Withdraw, Released, Next}
 use Rattle.mn_bindings.specs.declared.event.Tell.{Tell}
 use Rattle.mn_bindings.specs.declared.news.SoFar.{SoFar}
-use Rattle.mn_bindings.specs.Bindings.{Bindings, nodes, is_open, row_of, label_learned, labelled, usable, usable_by, offers, with_label, after_event, after_events, EventFits}
+use Rattle.mn_bindings.specs.Bindings.{Bindings, nodes, is_open, row_of, label_learned, labelled, usable, usable_by, offers, with_label, after_event}
+use Rattle.mn_bindings.specs.Bindings.{after_events, EventFits}
 use Rattle.mn_bindings.specs.Bindings.{EventsFit}
 use Rattle.mn_bindings.specs.Tells.{opens, told, tells_of, tell, mention, offered}
-use Rattle.mn_bindings.specs.News.{fec_of, fecs_in, IsFrom, one_past, InOrder, so_far, so_far_in, told_since, AreBelow, Apart, AreAllNews, ended_of, ended_since, begun, begun_of, begun_since}
+use Rattle.mn_bindings.specs.News.{fec_of, fecs_in, IsFrom, one_past, InOrder, so_far, so_far_in, told_since, AreBelow, Apart, AreAllNews, ended_of}
+use Rattle.mn_bindings.specs.News.{ended_since, begun, begun_of, begun_since}
 use Rattle.mn_bindings.proofs.Events.{nodes-after_event, nodes-after_events, told-same, told_of-same}
 use Rattle.mn_bindings.proofs.Ranges.{flat_none}
 

@@ -1,4 +1,4 @@
--- What is heard of a FEC from a neighbour that isn't its next hop: it is kept (RFC 5036, section 2.6.2.2), and changes no way.
+-- What is received for a FEC from a neighbour that isn't its next hop: it is kept (RFC 5036, section 2.6.2.2), and changes no way.
 use Rattle.std.specs.Prelude.{ℕ, ◌==◌, not, Bool, false, Option, Some, None, slice_index_or}
 use Rattle.mn_base.specs.declared.numbers.NodeNo.{NodeNo}
 use Rattle.mn_bindings.specs.declared.event.LibEvent.{LibEvent}

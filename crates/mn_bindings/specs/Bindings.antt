@@ -1,4 +1,4 @@
--- What a node has heard of labels, and what it may use: RFC 5036, section 2.6.2.2 (what is heard from any neighbour is kept).
+-- What a node has received of labels, and what it may use: RFC 5036, section 2.6.2.2 (what is received from any neighbour is kept).
 use Rattle.std.specs.Prelude.{ℕ, ◌≡◌, ◌<◌, ◌≢◌, ◌==◌, ◌||◌, Bool, true, false, List, [], ◌∷◌, length, slice_index_or, slice_set, replicate, Option, Some}
 use Rattle.std.specs.Prelude.{None, is_some, ⊤}
 use Rattle.mn_base.specs.declared.numbers.NodeNo.{NodeNo}
@@ -8,7 +8,7 @@ use Rattle.mn_bindings.specs.declared.event.LibEvent.TheVariants.{Opened, Closed
 -- what contracts see of a Lib
 pub record Bindings : Type 0 where
   pub me : NodeNo
-  pub heard : List (Option (List (Option ℕ)))  -- by neighbour, the label that it said last of each FEC; none where it isn't open
+  pub heard : List (Option (List (Option ℕ)))  -- by neighbour, the label that it advertised last of each FEC; none where it isn't open
   pub hops : List (Option NodeNo)  -- by FEC, the next hop
 
 -- at the start: no neighbour of these many nodes is open, and no FEC has a next hop
@@ -19,7 +19,7 @@ nothing_heard me count = record { me = me; heard = replicate count None; hops = 
 abbrev pub nodes : Bindings → ℕ
 nodes bindings = length bindings.hops
 
--- what an open neighbour said
+-- what an open neighbour advertised
 abbrev pub row_of : Bindings → ℕ → Option (List (Option ℕ))
 row_of bindings neighbour = slice_index_or bindings.heard neighbour None
 
@@ -27,7 +27,7 @@ row_of bindings neighbour = slice_index_or bindings.heard neighbour None
 abbrev pub is_open : Bindings → ℕ → Bool
 is_open bindings neighbour = is_some (row_of bindings neighbour)
 
--- the label of a FEC, where the last thing that was said of it is a Mapping
+-- the label of a FEC, where the last that was advertised for it is a Mapping
 abbrev pub label_learned : Option (List (Option ℕ)) → ℕ → Option ℕ
 label_learned None fec = None
 label_learned (Some row) fec = slice_index_or row fec None
@@ -52,7 +52,7 @@ abbrev pub with_label : Option (List (Option ℕ)) → ℕ → Option ℕ → Op
 with_label None fec label = None
 with_label (Some row) fec label = Some (slice_set row fec label)
 
--- A neighbour that opens has said nothing yet, and what one that closes said is forgotten. A Release says nothing of the neighbour's labels.
+-- A neighbour that opens has advertised nothing yet, and what one that closes advertised is forgotten. A Release says nothing of the neighbour's labels.
 abbrev pub after_event : Bindings → LibEvent → Bindings
 after_event bindings (Opened from) = record bindings { heard = slice_set bindings.heard from.0 (Some (replicate (nodes bindings) None)) }
 after_event bindings (Closed from) = record bindings { heard = slice_set bindings.heard from.0 None }

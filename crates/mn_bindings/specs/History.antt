@@ -5,8 +5,8 @@ use Rattle.mn_bindings.specs.declared.event.LibEvent.{LibEvent}
 use Rattle.mn_bindings.specs.declared.event.LibEvent.TheVariants.{Opened, Closed, Map, Withdraw, Released, Next}
 use Rattle.mn_bindings.specs.Bindings.{Bindings, nothing_heard, row_of, after_events, EventsFit}
 
--- What a neighbour said last of a FEC since it was opened, by the events from the newest to the oldest: none where it isn't
--- open, and no label where it said nothing of the FEC or withdrew it.
+-- What a neighbour last advertised for a FEC since it was opened, by the events from the newest to the oldest: none where it isn't
+-- open, and no label where it sent nothing of the FEC or withdrew it.
 abbrev pub said_last : ℕ → ℕ → List LibEvent → Option (Option ℕ)
 said_last neighbour fec [] = None
 said_last neighbour fec (Opened from ∷ older) = cond (from.0 == neighbour) (Some None) (said_last neighbour fec older)
@@ -27,7 +27,7 @@ abbrev pub cell : Option (List (Option ℕ)) → ℕ → Option (Option ℕ)
 cell None fec = None
 cell (Some row) fec = Some (slice_index_or row fec None)
 
--- after these events, from the start on, what is kept is what was said last
+-- after these events, from the start on, what is kept is what was sent last
 pub record IsLast (me : NodeNo) (count : ℕ) (events : List LibEvent) : Type 0 where
   pub said : (neighbour fec : ℕ) → neighbour < count → fec < count →
       cell (row_of (after_events (nothing_heard me count) events) neighbour) fec ≡ said_last neighbour fec (reverse events)

@@ -19,7 +19,7 @@ pub record Known : Type 0 where
 abbrev pub nothing_known : NodeNo → ℕ → ℕ → Known
 nothing_known me nodes life = record { bindings = nothing_heard me nodes; resting = at_first nodes life }
 
--- a session begins or ends, or a Release is heard
+-- a session begins or ends, or a Release is received
 abbrev pub rested_event : ℕ → Resting → LibEvent → Resting
 rested_event tick resting (event.Opened from) = opened resting from.0
 rested_event tick resting (event.Closed from) = closed resting from.0 tick
@@ -30,7 +30,7 @@ abbrev pub rested_events : ℕ → Resting → List LibEvent → Resting
 rested_events tick resting [] = resting
 rested_events tick resting (event ∷ events) = rested_events tick (rested_event tick resting event) events
 
--- for each Withdraw that is told a Release is owed
+-- for each Withdraw that is sent a Release is owed
 abbrev pub owed_by : TellKind → Resting → ℕ → ℕ → Resting
 owed_by Withdraw resting to fec = withdrawn resting to fec
 owed_by _ resting to fec = resting
@@ -48,7 +48,8 @@ all_stopped tick resting (fec ∷ fecs) = all_stopped tick (stopped resting fec 
 abbrev pub known_after : Known → List LibEvent → ℕ → Known
 known_after known events tick = record {
   bindings = after_events known.bindings events;
-  resting = all_stopped tick (owed_for (rested_events tick known.resting events) (tells known.bindings events)) (ended known.bindings (after_events known.bindings events));
+  resting = all_stopped tick (owed_for (rested_events tick known.resting events) (tells known.bindings events))
+      (ended known.bindings (after_events known.bindings events));
 }
 
 -- each neighbour owes at most so many Releases of each FEC

@@ -1,4 +1,4 @@
--- Of which FECs something may have to be told after a change of the bindings.
+-- Of which FECs something may have to be sent after a change of the bindings.
 use Rattle.std.specs.Prelude.{ℕ, ◌≡◌, ◌≢◌, ◌≤◌, ◌<◌, ◌+◌, ◌&&◌, not, cond, true, List, [], ◌∷◌, map, Option, Some, None, ⊤}
 use Rattle.std.specs.List.{All, flat_map, list_all, range_with_len}
 use Rattle.std.specs.Option.{option_to_list}
@@ -55,7 +55,7 @@ so_far_in bindings event = map (so_far bindings) (option_to_list (fec_of event))
 abbrev pub AreOfOffered : Bindings → List LibEvent → Type 0
 AreOfOffered bindings events = InOrder 0 events × (list_all (λ so_far. so_far.offered) (flat_map (so_far_in bindings) events) ≡ true)
 
--- what is told of a FEC since then
+-- what is sent for a FEC since then
 abbrev pub told_since : Bindings → List LibEvent → SoFar → List Tell
 told_since after events before = tells_of before.offered after events before.fec.0
 
@@ -79,7 +79,7 @@ begun before after = flat_map (begun_of before after) (range_with_len 0 (nodes b
 abbrev pub begun_since : Bindings → SoFar → List ℕ
 begun_since after before = cond (not before.offered && offers after before.fec.0) (before.fec.0 ∷ []) []
 
--- these FECs are of the node's, and of no other one anything must be told, nor has its offer begun or ended
+-- these FECs are of the node's, and of no other one anything must be sent, nor has its offer begun or ended
 pub record AreAllNews (bindings : Bindings) (events : List LibEvent) (all : List SoFar) : Type 0 where
   pub below : All (λ before. before.fec.0 < nodes bindings) all
   pub ends : ended bindings (after_events bindings events) ≡ flat_map (ended_since (after_events bindings events)) all

@@ -1,4 +1,4 @@
--- What a neighbour said of each FEC, as it is kept.
+-- What a neighbour advertised for each FEC, as it is kept.
 use Rattle.std.specs.Prelude.{ℕ, ◌≡◌, Bool, cond, List, [], ◌∷◌, length, Option, Some, None}
 
 -- by FEC, its label where it is mapped

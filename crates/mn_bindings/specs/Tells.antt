@@ -29,18 +29,18 @@ releases [] = []
 releases (event.Withdraw from fec ∷ events) = cond (closes events from.0) [] (tell from.0 Release fec.0 ∷ []) ++ releases events
 releases (_ ∷ events) = releases events
 
--- what must be said of a FEC that was offered before or not, and is offered after or not
+-- what must be sent of a FEC that was offered before or not, and is offered after or not
 abbrev pub mention : Bool → Bool → List TellKind
 mention true true = []
 mention false false = []
 mention false true = Map ∷ []
 mention true false = Withdraw ∷ []
 
--- what a neighbour is told of a FEC; one that was opened is told as if nothing was offered before
+-- what a neighbour is sent for a FEC; one that was opened is sent as if nothing was offered before
 abbrev pub told : Bool → Bindings → List LibEvent → ℕ → ℕ → List Tell
 told before after events fec to = cond (is_open after to) (map (λ kind. tell to kind fec) (mention (before && not (opens events to)) (offers after fec))) []
 
--- what all neighbours are told of a FEC, in node order
+-- what all neighbours are sent for a FEC, in node order
 abbrev pub tells_of : Bool → Bindings → List LibEvent → ℕ → List Tell
 tells_of before after events fec = flat_map (told before after events fec) (range_with_len 0 (nodes after))
 
@@ -52,6 +52,6 @@ changes before after events = flat_map (λ fec. tells_of (slice_index_or before 
 abbrev pub offered : Bindings → List Bool
 offered bindings = map (offers bindings) (range_with_len 0 (nodes bindings))
 
--- what must be told as these events happen
+-- what must be sent as these events happen
 abbrev pub tells : Bindings → List LibEvent → List Tell
 tells bindings events = releases events ++ changes (offered bindings) (after_events bindings events) events

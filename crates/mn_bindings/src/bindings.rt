@@ -16,9 +16,9 @@ use mn_base::NodeNo;
 use std::alloc::{AllocError, Global};
 use std::marker::Model;
 
-/// The bindings that a node has heard and told.
+/// The bindings that a node has received and sent.
 ///
-/// Contracts see, by neighbour, what it said last of each FEC, or that it isn't open, and by FEC the next hop.
+/// Contracts see, by neighbour, what it last advertised for each FEC, or that it isn't open, and by FEC the next hop.
 #[derive(Drop)]
 pub(crate) struct Bound {
     alloc: Global,
@@ -64,7 +64,7 @@ impl Bound {
         })
     }
 
-    /// The next hop towards a FEC and its label, where that neighbour is open and the last thing that it said of the FEC
+    /// The next hop towards a FEC and its label, where that neighbour is open and the last that it advertised for the FEC
     /// is a Mapping. It takes no memory.
     pub fn usable(&self, fec: NodeNo) -> Option<(NodeNo, u32)>
         requires { fec.0 < nodes self.now }
@@ -103,7 +103,7 @@ impl Bound {
         }
     }
 
-    /// The label that a neighbour said last, where it is open and its last word of the FEC was a Mapping.
+    /// The label that a neighbour advertised last, where it is open and its last word of the FEC was a Mapping.
     fn label(&self, from: NodeNo, fec: NodeNo) -> Option<u32>
         ensures { result ≡ label_learned (row_of self.now from.0) fec.0 }
     {
@@ -162,7 +162,7 @@ impl Bound {
         Ok(all)
     }
 
-    /// The FECs of which something may have to be told, in node order: where each event is of a FEC, in node order and none
+    /// The FECs of which something may have to be sent, in node order: where each event is of a FEC, in node order and none
     /// twice, these alone.
     pub fn may_change(&self, events: &[LibEvent]) -> Result<Vec<SoFar>, AllocError>
         requires { EventsFit self.now events.now }
@@ -271,7 +271,7 @@ impl Bound {
         Ok(undo)
     }
 
-    /// Notes what a neighbour said last of a FEC.
+    /// Notes what a neighbour last advertised for a FEC.
     fn hear(&mut self, from: NodeNo, fec: NodeNo, label: Option<u32>) -> Undo
         requires { from.0 < nodes self.old }
         ensures after { self.new ≡ heard_label self.old from.0 fec.0 label }
@@ -443,11 +443,11 @@ impl Bound {
         Ok(())
     }
 
-    /// Takes the events as one change, and says what must be told, in order: a Release for each Withdraw whose neighbour
+    /// Takes the events as one change, and says what must be sent, in order: a Release for each Withdraw whose neighbour
     /// isn't closed later, and then by FEC and neighbour, in node order, a Map of what is offered newly and a Withdraw of
-    /// what isn't offered any more. A neighbour that was opened is told a Map of each FEC that is offered.
+    /// what isn't offered any more. A neighbour that was opened is sent a Map of each FEC that is offered.
     ///
-    /// An `Err` is want of memory alone, and changes nothing.
+    /// An `Err` says that memory ran out, and nothing else, and changes nothing.
     pub fn apply(&mut self, events: &[LibEvent], before: &[SoFar]) -> Result<Vec<Tell>, AllocError>
         requires fit { EventsFit self.old events.now }
         requires before { AreAllNews self.old events.now before.now }

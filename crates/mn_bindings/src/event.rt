@@ -10,7 +10,7 @@ use mn_base::NodeNo;
 pub enum LibEvent {
     /// A neighbour that isn't open is open from now on.
     Opened(NodeNo),
-    /// An open neighbour isn't open any more, and what it said is forgotten.
+    /// An open neighbour isn't open any more, and what it advertised is forgotten.
     Closed(NodeNo),
     /// An open neighbour says its label for a FEC (section 3.5.7).
     Map(NodeNo, NodeNo, u32),
@@ -22,7 +22,7 @@ pub enum LibEvent {
     Next(NodeNo, Option<NodeNo>),
 }
 
-/// What is said of a FEC: a Mapping, a Withdraw or a Release (RFC 5036, sections 3.5.7, 3.5.10 and 3.5.11).
+/// What is sent for a FEC: a Mapping, a Withdraw or a Release (RFC 5036, sections 3.5.7, 3.5.10 and 3.5.11).
 #[derive(Clone, Copy, Debug, PartialEq, Eq)]
 pub enum TellKind {
     Map,
@@ -30,7 +30,7 @@ pub enum TellKind {
     Release,
 }
 
-/// What a neighbour must be told of a FEC.
+/// What a neighbour must be sent for a FEC.
 #[derive(Clone, Copy, Debug, PartialEq, Eq)]
 pub struct Tell {
     pub to: NodeNo,

@@ -18,15 +18,15 @@ use std::marker::Model;
 /// What a change asks for.
 #[derive(Drop)]
 pub struct Changed {
-    /// What must be told, in order.
+    /// What must be sent, in order.
     pub tells: Vec<Tell>,
     /// The FECs that the node offers newly, in node order.
     pub begun: Vec<NodeNo>,
 }
 
-/// The bindings that a node has heard and told, and since when its FECs are at rest.
+/// The bindings that a node has received and sent, and since when its FECs are at rest.
 ///
-/// Contracts see, by neighbour, what it said last of each FEC and how many Releases it owes, by FEC the next hop, and since when the
+/// Contracts see, by neighbour, what it last advertised for each FEC and how many Releases it owes, by FEC the next hop, and since when the
 /// FEC rests.
 #[derive(Drop)]
 pub struct Lib {
@@ -64,7 +64,7 @@ impl Lib {
         })
     }
 
-    /// The next hop towards a FEC and its label, where that neighbour is open and the last thing that it said of the FEC
+    /// The next hop towards a FEC and its label, where that neighbour is open and the last that it advertised for the FEC
     /// is a Mapping. It takes no memory.
     pub fn usable(&self, fec: NodeNo) -> Option<(NodeNo, u32)>
         requires { fec.0 < nodes self.now.bindings }
@@ -107,7 +107,7 @@ impl Lib {
         self.bound.may_begin(events)
     }
 
-    /// Whether all that the event does is that a neighbour maps a FEC, which isn't its next hop: nothing is to be told then, no
+    /// Whether all that the event does is that a neighbour maps a FEC, which isn't its next hop: nothing is to be sent then, no
     /// offer begins, and no way changes. It takes no memory.
     pub fn is_aside(&self, event: LibEvent) -> bool
         requires { EventFits self.now.bindings event }
@@ -129,12 +129,12 @@ impl Lib {
         self.bound.hear_aside(event);
     }
 
-    /// Takes the events of this tick as one change, and says what must be told, in order: a Release for each Withdraw whose neighbour
+    /// Takes the events of this tick as one change, and says what must be sent, in order: a Release for each Withdraw whose neighbour
     /// isn't closed later, and then by FEC and neighbour, in node order, a Map of what is offered newly and a Withdraw of
-    /// what isn't offered any more. A neighbour that was opened is told a Map of each FEC that is offered. It says too which FECs
+    /// what isn't offered any more. A neighbour that was opened is sent a Map of each FEC that is offered. It says too which FECs
     /// are offered newly.
     ///
-    /// An `Err` is want of memory alone, and changes nothing.
+    /// An `Err` says that memory ran out, and nothing else, and changes nothing.
     pub fn apply(&mut self, events: &[LibEvent], tick: u64) -> Result<Changed, AllocError>
         requires fit { EventsFit self.old.bindings events.now }
         requires few { (most : ℕ) × AreFew most self.old.resting × (most + length (tells self.old.bindings events.now) ≤ 18446744073709551615) }
@@ -225,7 +225,7 @@ fn is_opening(event: &LibEvent) -> bool
     }
 }
 
-/// Follows the events: sessions begin and end, and Releases are heard.
+/// Follows the events: sessions begin and end, and Releases are received.
 fn follow(rests: &mut Rests, events: &[LibEvent], mut rows: Vec<Row>, tick: u64)
     requires fit { All (RestFits (length rests.old.owed) (length rests.old.rested)) events.now }
     requires alike { All (λ row. row ≡ replicate (length rests.old.rested) 0) rows.items }
@@ -258,7 +258,7 @@ fn follow_one(rests: &mut Rests, event: LibEvent, rows: &mut Vec<Row>, tick: u64
     }
 }
 
-/// For each Withdraw that is told a Release is owed.
+/// For each Withdraw that is sent a Release is owed.
 fn owe(rests: &mut Rests, tells: &[Tell])
     requires { (most : ℕ) × AreFew most rests.old × (most + length tells.now ≤ 18446744073709551615) }
     ensures { rests.new ≡ owed_for rests.old tells.now }
@@ -268,7 +268,7 @@ fn owe(rests: &mut Rests, tells: &[Tell])
     }
 }
 
-/// For a Withdraw that is told a Release is owed.
+/// For a Withdraw that is sent a Release is owed.
 fn owe_one(rests: &mut Rests, tell: &Tell)
     requires { count_in (row_of rests.old tell.now.to.0) tell.now.fec.0 < 18446744073709551615 }
     ensures { rests.new ≡ owed_by tell.now.kind rests.old tell.now.to.0 tell.now.fec.0 }

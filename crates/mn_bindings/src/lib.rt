@@ -1,9 +1,9 @@
-//! The label bindings that a node has heard from its neighbours, and what it must tell them.
+//! The label bindings that a node has received from its neighbours, and what it must advertise to them.
 //!
 //! LDP in downstream unsolicited mode (RFC 5036, section 2.6.3) with liberal retention (section 2.6.2.2) and ordered
 //! control (section 2.6.1.2): what any open neighbour says of a FEC is kept, the binding of the next hop is used, and a
 //! node maps a FEC to its neighbours once it can use it. `Lib` takes what happened as a list of events, all as one
-//! change, and answers what must be said, in order:
+//! change, and answers what must be sent, in order:
 //!
 //! ```text
 //!  Opened, Closed      +-----------------------------+
@@ -19,13 +19,13 @@
 //!
 //! Where memory runs out, the events that were taken are put back.
 //!
-//! - `event`: what happens, and what must be told
+//! - `event`: what happens, and what must be sent
 //! - `known`: the bindings, and since when FECs are at rest
 //! - `bindings`: what is kept of labels, and how a list of events is taken
 //! - `news`: which FECs are looked at
-//! - `row`: what one neighbour said of each FEC
+//! - `row`: what one neighbour advertised for each FEC
 //! - `undo`: what puts an event back
-//! - `laws`: what is kept is what was said last; two lists of events are one
+//! - `laws`: what is kept is what was sent last; two lists of events are one
 #![tactic(auto)]
 
 mod bindings;

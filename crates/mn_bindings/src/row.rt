@@ -4,7 +4,7 @@ use mn_base::NodeNo;
 use std::alloc::{AllocError, Global};
 use std::marker::Model;
 
-/// What a neighbour said last of each FEC: its label, or none.
+/// What a neighbour last advertised for each FEC: its label, or none.
 ///
 /// A row is made as its neighbour opens, so that a node's memory goes with its neighbours and not with all nodes. It stands behind a
 /// pointer: a node keeps room for a row by each node, and few are open to it.
@@ -34,7 +34,7 @@ impl Model for Row {
 }
 
 impl Row {
-    /// The neighbour said nothing yet of these many FECs.
+    /// The neighbour advertised nothing yet for these many FECs.
     pub fn new(alloc: Global, nodes: usize) -> Result<Row, AllocError>
         ensures { IfOk result (λ row. row ≡ replicate nodes None) }
     {

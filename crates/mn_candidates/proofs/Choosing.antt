@@ -1,5 +1,6 @@
 -- Routes for an address are found one by one.
-use Rattle.std.proofs.Common.{ℕ, ◌≡◌, ◌+◌, ◌<◌, inl, inr, Bool, true, false, List, [], ◌∷◌, ◌++◌, cond, length, get_or, map, filter, take, refl, sym, ◌∙◌, ap, subst}
+use Rattle.std.proofs.Common.{ℕ, ◌≡◌, ◌+◌, ◌<◌, inl, inr, Bool, true, false, List, [], ◌∷◌, ◌++◌, cond, length, get_or, map, filter, take, refl, sym, ◌∙◌, ap}
+use Rattle.std.proofs.Common.{subst}
 use Rattle.std.specs.List.{insert, position_or_len}
 use Rattle.std.proofs.lemmas.List.{append-nil, length-append, take_more, map-append}
 use Rattle.std.proofs.lemmas.List.Elements.{filter-append}

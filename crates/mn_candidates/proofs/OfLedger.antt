@@ -1,5 +1,6 @@
 -- The routes that are looked up for a VRF are those that the ledger gives it.
-use Rattle.std.proofs.Common.{ℕ, zero, suc, ◌≡◌, ◌+◌, ◌<◌, inl, inr, Bool, true, false, cond, List, [], ◌∷◌, map, filter, length, refl, arith, sym, ◌∙◌, ap, subst}
+use Rattle.std.proofs.Common.{ℕ, zero, suc, ◌≡◌, ◌+◌, ◌<◌, inl, inr, Bool, true, false, cond, List, [], ◌∷◌, map, filter, length, refl, arith, sym, ◌∙◌, ap}
+use Rattle.std.proofs.Common.{subst}
 use Rattle.std.specs.Prelude.{◌==◌, ◌&&◌, ◌||◌, not, nat_lt, is_some, slice_index_or, if◌then◌else◌, fold}
 use Rattle.std.specs.List.{list_any, range_with_len}
 use Rattle.std.proofs.lemmas.Bool.Decides.{eqb_tells}
@@ -185,7 +186,8 @@ module _ (t : Network) (lawful : IsLawful t) (v : ℕ) (v_below : v < length t.v
         (subst (λ at. In (imported c v (exports_of t c at)) exported) e (taken shared))).0 (ap not h))
         (meets_is (vrf_at t w).export (vrf_at t v).«import» ∙ shared)))))
 
-    by_far : (w == v) ≡ false → share (vrf_at t w).export (vrf_at t v).«import» ≡ true → (edge_of t w == edge) ≡ false → In (routes_of t c edge v) (route_over t v s p)
+    by_far : (w == v) ≡ false → share (vrf_at t w).export (vrf_at t v).«import» ≡ true → (edge_of t w == edge) ≡ false →
+        In (routes_of t c edge v) (route_over t v s p)
     by_far h shared g =
         let far : HeldRoute = of s p (Far (loopback t (edge_of t w)) (vrf_at t w).rd.0) (edge_of t w) in
         subst (In (routes_of t c edge v)) (sym (ap (λ source. of s p source (edge_of t w)) (source_is w false false h g)))
@@ -205,7 +207,8 @@ module _ (t : Network) (lawful : IsLawful t) (v : ℕ) (v_below : v < length t.v
 
     pub is_found : takes_from t v w ≡ true → In (routes_for t v) (route_over t v s p)
     is_found h =
-        flat_map_in (routes_over t v) (range_with_len 0 (length t.sites)) s (route_over t v s p) (range_in 0 (length t.sites) s (omega arith) (omega (arith, below)))
+        flat_map_in (routes_over t v) (range_with_len 0 (length t.sites)) s (route_over t v s p)
+        (range_in 0 (length t.sites) s (omega arith) (omega (arith, below)))
         (subst (λ b. In (if b then map (route_over t v s) (site_at t s).prefixes else []) (route_over t v s p)) (sym h)
         (map_in (route_over t v s) (site_at t s).prefixes p has))
 
@@ -282,7 +285,8 @@ module _ (t : Network) (lawful : IsLawful t) (v : ℕ) (v_below : v < length t.v
       → held_by at (source e) e ≡ r → IsTaken at source e r
   taken_of at source e r i met is =
       let b = from_exports t c at e i in
-      let vrf : b.v ≡ own_of b.static = sym (same_numbers (own_of b.static) b.v (and_left (own_of b.static == b.v) (is_some (c.attached b.static.site)) b.present)) in
+      let vrf : b.v ≡ own_of b.static =
+      sym (same_numbers (own_of b.static) b.v (and_left (own_of b.static == b.v) (is_some (c.attached b.static.site)) b.present)) in
       let e_is : export_of c (own_of b.static) (c.exports (own_of b.static)) b.static ≡ e =
       sym (ap (λ u. export_of c u (c.exports u) b.static) vrf) ∙ b.is in
       record {
@@ -298,11 +302,13 @@ module _ (t : Network) (lawful : IsLawful t) (v : ℕ) (v_below : v < length t.v
 
   near_held : (r : HeldRoute) → In (near_routes t c edge v) r → In (routes_for t v) r
   near_held r j =
-      let m = in_map (λ (export : Export). held_by edge (Near export.vrf) export) (imported c v (filter (λ export. not (export.vrf == v)) (exports_of t c edge))) r j in
+      let m = in_map (λ (export : Export). held_by edge (Near export.vrf) export)
+      (imported c v (filter (λ export. not (export.vrf == v)) (exports_of t c edge))) r j in
       let f = in_filter (λ (export : Export). meet export.targets (c.imports v)) (filter (λ export. not (export.vrf == v)) (exports_of t c edge)) m.0 m.1 in
       let g = in_filter (λ (export : Export). not (export.vrf == v)) (exports_of t c edge) m.0 f.0 in
       let k = taken_of edge (λ export. Near export.vrf) m.0 r g.0 f.1 m.2 in
-      from_near k.x r k.there k.shared (sym (ap (λ u. u == v) k.named) ∙ not_true (m.0.vrf == v) g.1) (ap (λ u. u == edge) k.at_edge ∙ same_test edge) k.at_edge k.is
+      from_near k.x r k.there k.shared (sym (ap (λ u. u == v) k.named) ∙ not_true (m.0.vrf == v) g.1) (ap (λ u. u == edge) k.at_edge
+      ∙ same_test edge) k.at_edge k.is
 
   far_held : (r : HeldRoute) (peer : ℕ) → not (peer == edge) ≡ true → In (exported_by t c v peer) r → In (routes_for t v) r
   far_held r peer apart j =

@@ -1,5 +1,6 @@
 -- Which of two routes is preferred is an order, and a route that is put in its place leaves routes in that order.
-use Rattle.std.proofs.Common.{ℕ, suc, ◌≡◌, ◌+◌, ◌<◌, ◌≤◌, ◌⊎◌, inl, inr, Bool, true, false, cond, List, [], ◌∷◌, map, length, refl, arith, sym, ◌∙◌, ap, Some, None}
+use Rattle.std.proofs.Common.{ℕ, suc, ◌≡◌, ◌+◌, ◌<◌, ◌≤◌, ◌⊎◌, inl, inr, Bool, true, false, cond, List, [], ◌∷◌, map, length, refl, arith, sym, ◌∙◌, ap, Some}
+use Rattle.std.proofs.Common.{None}
 use Rattle.std.specs.Prelude.{◌==◌, ◌&&◌, ◌||◌, nat_lt, not, position, unwrap_or}
 use Rattle.std.specs.List.{AllByRecursion, insert, position_or_len}
 use Rattle.std.proofs.lemmas.Bool.Decides.{eqb_tells, leb_tells, nat_tests}
@@ -223,7 +224,8 @@ module _ (route : Route) where
     | inr p ↦ ap (λ b. unwrap_or (cond b (Some (position_or_len is_worse routes)) None) (length routes)) p.0 ∙ all (few routes) p.1
   ]
     where
-      all : position_or_len is_worse routes ≤ length routes → length routes < suc (position_or_len is_worse routes) → length routes ≡ position_or_len is_worse routes
+      all : position_or_len is_worse routes ≤ length routes → length routes < suc (position_or_len is_worse routes) →
+          length routes ≡ position_or_len is_worse routes
       all h g = omega (arith, h, g)
 
   one_more : (n : ℕ) → 1 + n ≡ suc n

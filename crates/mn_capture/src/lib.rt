@@ -4,7 +4,7 @@
 //! pieces of at most 64 KiB, and keeps where its records lie. [`Capture::fetch`] reads the bytes of one record
 //! again when they are wanted.
 //!
-//! What the records hold is said for the bytes that the file has at that moment: for those of the scan where
+//! What the records hold is stated for the bytes that the file has at that moment: for those of the scan where
 //! the file is as it was, which a shelf that tells its files shows, and one over a real disk doesn't.
 #![tactic(auto)]
 

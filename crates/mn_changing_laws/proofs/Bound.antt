@@ -10,7 +10,8 @@ use Rattle.mn_topo.specs.Lawful.{IsLawful}
 use Rattle.mn_ledger.specs.Places.{home_of, vrf_of, edges, loopback, vrf_at}
 use Rattle.mn_ledger.specs.World.{Config, Peerings, World}
 use Rattle.mn_ledger.specs.Exports.{exports_of, present_with}
-use Rattle.mn_ledger.specs.Held.{HeldRoute, Own, Near, Far, held_by, imported, own_routes, near_routes, far_routes, believed, held, is_better, matching, unbeaten}
+use Rattle.mn_ledger.specs.Held.{HeldRoute, Own, Near, Far, held_by, imported, own_routes, near_routes, far_routes, believed, held, is_better, matching}
+use Rattle.mn_ledger.specs.Held.{unbeaten}
 use Rattle.mn_ledger.specs.Held.{first_of, best}
 use Rattle.mn_ledger.specs.Eligible.{is_resolved, some_resolves, eligible}
 use Rattle.mn_ledger.proofs.Eligible.{in_those}
@@ -45,7 +46,8 @@ module _ (t : Network) (c : Config) (p : Peerings) (edge v : ℕ) (at_edge : In 
         subst (In (edges t)) (ap (λ (x : HeldRoute). x.edge) m.2) at_edge
     | inr k ↦ elim (in_append (near_routes t c edge v) _ r k) [
       | inl j ↦
-          let m = in_map (λ export. held_by edge (Near export.vrf) export) (imported c v (filter (λ export. not (export.vrf == v)) (exports_of t c edge))) r j in
+          let m = in_map (λ export. held_by edge (Near export.vrf) export) (imported c v (filter (λ export. not (export.vrf == v)) (exports_of t c edge))) r
+          j in
           subst (In (edges t)) (ap (λ (x : HeldRoute). x.edge) m.2) at_edge
       | inr j ↦
           let m = in_flat_map (far_routes t c p edge v) (filter (λ peer. not (peer == edge)) (edges t)) r j in

@@ -26,7 +26,8 @@ use Rattle.mn_ledger.specs.Transport.{usable}
 use Rattle.mn_ledger.specs.Held.{HeldRoute, best}
 use Rattle.mn_ledger.specs.Eligible.{eligible}
 use Rattle.mn_ledger.specs.Packets.{Token, Packets, channel, flying_on, away_from, judged, drop_at, visited, deliver, hop_over, hop_on, entry_rules, bound}
-use Rattle.mn_ledger.specs.Packets.{route_by, enter_by, enter, one_more, taken, is_attachment, leave, arrive, carry, lose, cut, before_step, packets_after, stamped}
+use Rattle.mn_ledger.specs.Packets.{route_by, enter_by, enter, one_more, taken, is_attachment, leave, arrive, carry, lose, cut, before_step, packets_after}
+use Rattle.mn_ledger.specs.Packets.{stamped}
 use Rattle.mn_ledger.specs.Verdicts.{one_if, times_in, verdict_on, AreInOnePlace}
 use Rattle.mn_ledger.specs.Time.{clock_after, timed}
 use Rattle.mn_ledger.specs.Ledger.{after, next_of, left_by, injects, packets_from, packets_by}
@@ -34,7 +35,8 @@ use Rattle.mn_ledger.proofs.Members.{In, in_append}
 use Rattle.mn_ledger.proofs.OnePlace.{Loose, loosen, fresh, unmarked, stepped, timed_places, one_same}
 use Rattle.mn_changing_laws.specs.BothNext.{GoesBy}
 use Rattle.mn_changing_laws.proofs.Walks.{goes-further}
-use Rattle.mn_changing_laws.proofs.Calm.{path_of, HasExpired, Calm, calm-on, calm-judged, calm-drop, calm-deliver, in_put, calm-taken, calm-fall, calm-timed, calm-begun}
+use Rattle.mn_changing_laws.proofs.Calm.{path_of, HasExpired, Calm, calm-on, calm-judged, calm-drop, calm-deliver, in_put, calm-taken, calm-fall, calm-timed}
+use Rattle.mn_changing_laws.proofs.Calm.{calm-begun}
 use Rattle.mn_changing_laws.proofs.Calm.{calm-cut, calm-visited, calm-arrive, calm-enter, calm-more}
 
 channel-is : (l m : ℕ) (d e : Dir) → channel l d ≡ channel m e → (l ≡ m) × (d ≡ e)
@@ -202,7 +204,8 @@ module _ (t : Network) (hops : ℕ → List ℕ) (j edge top : ℕ) where
           hops-off a (stamped a k) pre x hop c none g last s.0 s.1 e left
 
   -- it comes to a node
-  arrives : (w : World) (a : Packets) (k : Token) (pre : List ℕ) (y : ℕ) → Sends t hops edge w → NoTokens a → Goes a → path_of a j ≡ pre ++ y ∷ [] → k.edge ≡ edge
+  arrives : (w : World) (a : Packets) (k : Token) (pre : List ℕ) (y : ℕ) → Sends t hops edge w → NoTokens a → Goes a → path_of a j ≡ pre ++ y ∷ [] →
+      k.edge ≡ edge
       → k.ttl + length (path_of a j) ≡ top + 1 → Goes (arrive t w a k y)
   arrives w a k pre y sends none g last e left = elim (leb_tells k.ttl 1) [
     | inl q ↦ subst Goes (sym (passed true q.0)) (expires a k.packet y none g (spent q.1 left))
@@ -302,7 +305,8 @@ module _ (t : Network) (hops : ℕ → List ℕ) (j edge top : ℕ) where
   lost : rule.Lost ≢ rule.TtlExpired
   lost e = cc
 
-  moves : (w : World) (a : Packets) (s : Step) (b : List ℕ) (count : ℕ) → Sends t hops edge w → AreInOnePlace a count → j < count → Goes a → Goes (packets_after t w a s b)
+  moves : (w : World) (a : Packets) (s : Step) (b : List ℕ) (count : ℕ) → Sends t hops edge w → AreInOnePlace a count → j < count → Goes a →
+      Goes (packets_after t w a s b)
   unfolding packets_after
   moves w a (Inject s n) b count sends one below g =
       entered w (before_step a) s.0 count b (unmarked a count one) below (goes-calm a (before_step a) (calm-begun j a) g)
@@ -324,7 +328,8 @@ module _ (t : Network) (hops : ℕ → List ℕ) (j edge top : ℕ) where
 
   -- 3. From its entry on
 
-  pub goes-on : (es : List JournalEntry) (w : World) (a : Packets) (count : ℕ) (ps : List (List ℕ)) → SendOn t hops edge w es → AreInOnePlace a count → j < count → Goes a
+  pub goes-on : (es : List JournalEntry) (w : World) (a : Packets) (count : ℕ) (ps : List (List ℕ)) → SendOn t hops edge w es → AreInOnePlace a count →
+      j < count → Goes a
       → Goes (packets_from t w a es ps)
   goes-on [] w a count ps sends one below g = g
   goes-on (e ∷ es) w a count ps sends one below g =

@@ -1,5 +1,6 @@
 -- Packets of a stretch in which one link changes: their paths, and their ends.
-use Rattle.std.proofs.Common.{ℕ, ◌≡◌, ◌+◌, ◌<◌, ◌≤◌, List, [], ◌∷◌, ◌++◌, true, false, length, refl, arith, sym, ◌∙◌, ap, subst, append_assoc, Option, Some, None}
+use Rattle.std.proofs.Common.{ℕ, ◌≡◌, ◌+◌, ◌<◌, ◌≤◌, List, [], ◌∷◌, ◌++◌, true, false, length, refl, arith, sym, ◌∙◌, ap, subst, append_assoc, Option, Some}
+use Rattle.std.proofs.Common.{None}
 use Rattle.std.specs.Prelude.{slice_index_or, nat_le, nat_lt}
 use Rattle.std.specs.List.{list_all}
 use Rattle.mn_ipv4.specs.Header.{ttl_of, destination_of}
@@ -122,7 +123,8 @@ module _ (t : Network) (l : ℕ) (before earlier later : List JournalEntry) (tic
       → MeetsNoNodeTwice (packets_of t all ps) (injections done) (length t.loopbacks) (ttl_of bytes)
   meets-none-twice none =
       let path : List ℕ = path_of (packets_of t all ps) (injections done) in
-      let once : HasNoneTwice path = no_node_twice (wiring_of t) (links_with t (world_of t before) l false) (links_with t (world_of t before) l true) edge none path goes-by in
+      let once : HasNoneTwice path =
+      no_node_twice (wiring_of t) (links_with t (world_of t before) l false) (links_with t (world_of t before) l true) edge none path goes-by in
       record {
         path = once;
         lives_on = λ enough node is. short (ttl_of bytes) (length path) (length t.loopbacks) (goes-whole.spent (node.0, is))
@@ -132,17 +134,20 @@ module _ (t : Network) (l : ℕ) (before earlier later : List JournalEntry) (tic
       short : (ttl long nodes : ℕ) → ttl ≤ long → long ≤ nodes → nodes < ttl → ⊥
       short ttl long nodes a b c = omega (arith, a, b, c)
 
-pub goes_by_old_or_new : (t : Network) (l : ℕ) (before earlier later : List JournalEntry) (tick number : ℕ) (mark : Damaged) (site : SiteNo) (ps : List (List ℕ))
+pub goes_by_old_or_new : (t : Network) (l : ℕ) (before earlier later : List JournalEntry) (tick number : ℕ) (mark : Damaged) (site : SiteNo)
+    (ps : List (List ℕ))
     → IsLawful t → OneLinkChanges t l before (earlier ++ record { tick = tick; step = Inject site number; damaged = mark } ∷ later) ps
     → GoesBy (old_and_new_next t (world_of t before) l (bound_for t (world_of t (before ++ earlier)) site.0 (next_of (left_after (before ++ earlier) ps))))
     (slice_index_or (packets_of t (before ++ (earlier ++ record { tick = tick; step = Inject site number; damaged = mark } ∷ later)) ps).paths
     (injections (before ++ earlier)) [])
 goes_by_old_or_new t l before earlier later tick number mark site ps lawful one = goes-by t l before earlier later tick number mark site ps lawful one
 
-pub no_node_is_met_twice : (t : Network) (l : ℕ) (before earlier later : List JournalEntry) (tick number : ℕ) (mark : Damaged) (site : SiteNo) (ps : List (List ℕ))
+pub no_node_is_met_twice : (t : Network) (l : ℕ) (before earlier later : List JournalEntry) (tick number : ℕ) (mark : Damaged) (site : SiteNo)
+    (ps : List (List ℕ))
     → IsLawful t → OneLinkChanges t l before (earlier ++ record { tick = tick; step = Inject site number; damaged = mark } ∷ later) ps
     → HasNoLoop (wiring_of t) (links_with t (world_of t before) l false) (links_with t (world_of t before) l true)
     (bound_for t (world_of t (before ++ earlier)) site.0 (next_of (left_after (before ++ earlier) ps)))
     → MeetsNoNodeTwice (packets_of t (before ++ (earlier ++ record { tick = tick; step = Inject site number; damaged = mark } ∷ later)) ps)
     (injections (before ++ earlier)) (length t.loopbacks) (ttl_of (next_of (left_after (before ++ earlier) ps)))
-no_node_is_met_twice t l before earlier later tick number mark site ps lawful one = meets-none-twice t l before earlier later tick number mark site ps lawful one
+no_node_is_met_twice t l before earlier later tick number mark site ps lawful one =
+    meets-none-twice t l before earlier later tick number mark site ps lawful one

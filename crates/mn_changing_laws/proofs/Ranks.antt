@@ -33,7 +33,8 @@ node-below w view node edge hop joins e = by (node == edge) e
       | inr q ↦ subst (λ n. n < length w.loopbacks) (same_numbers (link w l).b.0 node q) (joins l inside).1
     ]
 
-    by : (b : Bool) → elim b as (λ _. Option (ℕ × ℕ)) [ true ↦ None | false ↦ next_by w view (dists_to w view edge) node ] ≡ Some hop → node < length w.loopbacks
+    by : (b : Bool) → elim b as (λ _. Option (ℕ × ℕ)) [ true ↦ None | false ↦ next_by w view (dists_to w view edge) node ] ≡ Some hop →
+        node < length w.loopbacks
     by true e = cc
     by false e =
         let i = nearest-in w node (filter (is_on_least w view (dists_to w view edge) node) (links_at w node)) hop e in

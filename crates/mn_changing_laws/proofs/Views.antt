@@ -101,10 +101,12 @@ module _ (t : Network) (old : World) (l : ℕ) where
   in-both : (b : Bool) (edge node : ℕ) (hop : ℕ × ℕ) → next (wiring_of t) (links_with t old l b) node edge ≡ Some hop
       → In (old_and_new_next t old l edge node) hop.0
   in-both false edge node hop e =
-      in_front (neighbour_in (next (wiring_of t) (links_with t old l false) node edge)) (neighbour_in (next (wiring_of t) (links_with t old l true) node edge)) hop.0
+      in_front (neighbour_in (next (wiring_of t) (links_with t old l false) node edge)) (neighbour_in (next (wiring_of t) (links_with t old l true) node edge))
+      hop.0
       (subst (λ o. In (neighbour_in o) hop.0) (sym e) (inl refl))
   in-both true edge node hop e =
-      in_rest (neighbour_in (next (wiring_of t) (links_with t old l false) node edge)) (neighbour_in (next (wiring_of t) (links_with t old l true) node edge)) hop.0
+      in_rest (neighbour_in (next (wiring_of t) (links_with t old l false) node edge)) (neighbour_in (next (wiring_of t) (links_with t old l true) node edge))
+      hop.0
       (subst (λ o. In (neighbour_in o) hop.0) (sym e) (inl refl))
 
   pub sends : (w : World) (node edge : ℕ) (hop : ℕ × ℕ) → IsLawful t → OthersStay w → AreUpWhereOdd old → node < length t.loopbacks

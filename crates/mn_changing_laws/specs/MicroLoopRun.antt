@@ -19,14 +19,14 @@ use Rattle.mn_changing_laws.specs.MicroLoop.{micro_loop}
 abbrev pub four_learn : ℕ → List Step
 four_learn l = Learn (node_no 0) (link_no l) ∷ Learn (node_no 1) (link_no l) ∷ Learn (node_no 2) (link_no l) ∷ Learn (node_no 3) (link_no l) ∷ []
 
--- pe2 hears pe1, and pe1 pe2
+-- pe2 receives from pe1, and pe1 from pe2
 abbrev pub to_pe2 : List Step
 to_pe2 = HearBgp (node_no 0) (node_no 3) ∷ []
 
 abbrev pub to_pe1 : List Step
 to_pe1 = HearBgp (node_no 3) (node_no 0) ∷ []
 
--- all links come up, all is learned, and all is heard
+-- all links come up, all is learned, and all is received
 abbrev pub settling_four : List JournalEntry
 settling_four =
     map at_start

@@ -63,7 +63,7 @@ pub fn a_packet_is_bound_for_an_edge()
 {}
 
 /// Where no set of nodes that take the link for up makes a loop towards that edge, the packet meets no node twice, and isn't dropped for
-/// its TTL if that was more than there are nodes: whatever is learned and heard, and in whatever order, before and while it flies.
+/// its TTL if that was more than there are nodes: whatever is learned and received, and in whatever order, before and while it flies.
 pub fn without_a_loop_no_packet_meets_a_node_twice()
     ensures { (topology : Network) (l : ℕ) (before earlier later : List JournalEntry) (tick number : ℕ) (mark : Damaged) (site : SiteNo) (inputs : List (List ℕ)) →
         IsLawful topology → OneLinkChanges topology l before (earlier ++ record { tick = tick; step = Inject site number; damaged = mark } ∷ later) inputs →

@@ -53,8 +53,12 @@ Own t tick w k n e es b ps =
 
 own_then : (t : Network) (tick : ℕ) (w : World) (k : Packets) (n : ℕ) (e : JournalEntry) (es : List JournalEntry) (b : List ℕ) (ps : List (List ℕ)) (x : Bool) →
     looks e ≡ x → Own t tick w k n e es b ps → From t tick w k n e es (cond x (b ∷ ps) ps)
-own_then t tick w k n e es b ps true g h =
-    (h.0, h.1, subst (λ y. AreAllowedFrom t (clock_after e) (after t w e.step) (packets_by t (after t w e.step) k e b) (n + 1) es (cond y ps (b ∷ ps))) (sym g) h.2)
+own_then t tick w k n e es b ps true g h = (
+  h.0,
+  h.1,
+  subst (λ y. AreAllowedFrom t (clock_after e) (after t w e.step) (packets_by t (after t w e.step) k e b) (n + 1) es (cond y ps (b ∷ ps)))
+      (sym g) h.2,
+)
 own_then t tick w k n e es b ps false g h =
     let v : World = after t w e.step in (
       reread t w k n e.step e.damaged b (next_of ps) g h.0,

@@ -73,7 +73,7 @@ module _ (t : Network) (lawful : IsLawful t) (capture : List (List ℕ)) where
   abbrev world : Past → World
   world past = world_of t past.entries
 
-  -- 2. Notices are learned, and messages are heard once all is learned
+  -- 2. Notices are learned, and messages are received once all is learned
 
   all_learned : (past : Past) → IsLawfulPast t capture past → ((x : Item) → Contains (items_of past) x → is_due Notice ever x ≡ false)
       → ((x : Item) → Contains (items_of past) x → nat_le x.due ever ≡ true) → AllLearned t (world past).views

@@ -37,7 +37,8 @@ use Rattle.mn_course_laws.specs.Course.{arrived, is_journal_full, one_by_one, ne
 use Rattle.mn_course_laws.specs.Expansion.{Expansion, after_line, with_line, unless_stopped, expanded_from, start_of, expanded}
 use Rattle.mn_course_laws.specs.Lawful.{IsLawfulPast, IsLawfulRun}
 use Rattle.mn_course_laws.proofs.Allowed.{AllowedOn, with_packets, allowed-push}
-use Rattle.mn_course_laws.proofs.Going.{packet_at, Has, CanCome, Comes, unrefused, on_its_tick, time_passes, arrived_goes, next_can_come, played_goes, expanded_goes}
+use Rattle.mn_course_laws.proofs.Going.{packet_at, Has, CanCome, Comes, unrefused, on_its_tick, time_passes, arrived_goes, next_can_come, played_goes}
+use Rattle.mn_course_laws.proofs.Going.{expanded_goes}
 
 -- 1. The packet at which an entry looks
 

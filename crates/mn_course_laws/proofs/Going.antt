@@ -40,7 +40,8 @@ use Rattle.mn_course_laws.specs.declared.coming.Arrivals.TheVariants.{DueBy, New
 use Rattle.mn_course_laws.specs.declared.coming.Ending.{Ending}
 use Rattle.mn_course_laws.specs.declared.coming.Ending.TheVariants as ending
 use Rattle.mn_course_laws.specs.Coming.{is_due_before, lost, delivery, coming, earlier, or_else, ever, kind_of, is_kind}
-use Rattle.mn_course_laws.specs.Course.{Past, Course, with_step, on_to, record_of, bytes_of, input_before, inputs_of, unless_refused, tried, refusal_now, injected, stepped}
+use Rattle.mn_course_laws.specs.Course.{Past, Course, with_step, on_to, record_of, bytes_of, input_before, inputs_of, unless_refused, tried, refusal_now}
+use Rattle.mn_course_laws.specs.Course.{injected, stepped}
 use Rattle.mn_course_laws.specs.Course.{with_damage, damage_refused_by, damaged}
 use Rattle.mn_course_laws.specs.Course.{arrived, is_journal_full, one_by_one, next_now, deliver, all, until, most_of, played}
 use Rattle.mn_course_laws.specs.Expansion.{Note, Refusal, Missing, Table, Expansion, table_by, after_line, with_line, unless_stopped, expanded_from, start_of}
@@ -226,7 +227,8 @@ module _ (t : Network) (lawful : IsLawful t) (capture : List (List ℕ)) where
   abbrev IsNextNow : Past → Kind → ℕ → Option Coming → Type 0
   IsNextNow past kind limit o = IsNext t past.entries (inputs_of capture past.entries) kind limit o
 
-  next_is : (past : Past) → IsGood past → (kind : Kind) (limit : ℕ) → IsNextNow past kind limit (coming t past.entries (inputs_of capture past.entries) kind limit)
+  next_is : (past : Past) → IsGood past → (kind : Kind) (limit : ℕ) →
+      IsNextNow past kind limit (coming t past.entries (inputs_of capture past.entries) kind limit)
   next_is past h kind limit = what_is_next t lawful past.entries (inputs_of capture past.entries) h.journal kind limit
 
   by_limit : (past : Past) (kind : Kind) (limit : ℕ) (o : Option Coming) → IsNextNow past kind limit o → Has (λ item. item.due ≤ limit) o
@@ -255,10 +257,12 @@ module _ (t : Network) (lawful : IsLawful t) (capture : List (List ℕ)) where
       let f = coming t past.entries (inputs_of capture past.entries) Frame end in
       by f (earlier n (earlier m f)) (next_is past h Frame end)
       (has_earlier (λ item. item.due ≤ end) n (earlier m f) (by_limit past Notice end n (next_is past h Notice end))
-      (has_earlier (λ item. item.due ≤ end) m f (by_limit past Message end m (next_is past h Message end)) (by_limit past Frame end f (next_is past h Frame end))))
+      (has_earlier (λ item. item.due ≤ end) m f (by_limit past Message end m (next_is past h Message end))
+      (by_limit past Frame end f (next_is past h Frame end))))
       (has_map (λ r. NoLater r.due (earlier m f)) (λ r. NoLater r.due f) (earlier n (earlier m f)) (λ r. no_later_last m f r.due) (earliest n (earlier m f)))
     where
-      by : (f o : Option Coming) → IsNextNow past Frame end f → Has (λ item. item.due ≤ end) o → Has (λ item. NoLater item.due f) o → Has (IsFirst (DueBy end) past) o
+      by : (f o : Option Coming) → IsNextNow past Frame end f → Has (λ item. item.due ≤ end) o → Has (λ item. NoLater item.due f) o →
+          Has (IsFirst (DueBy end) past) o
       by f None g by_end first = tt
       by f (Some item) g by_end first = frames_later past end f item.due g by_end first
 

@@ -92,7 +92,8 @@ ticks_rise : (t : Network) (es : List JournalEntry) (tick : ℕ) (w : World) (k 
 ticks_rise t [] tick w k i ps lawful = omega arith
 ticks_rise t (e ∷ es) tick w k i ps lawful =
     let v : World = after t w e.step in
-    let later : clock_after e ≤ tick_from (clock_after e) es = ticks_rise t es (clock_after e) v (packets_by t v k e (next_of ps)) (i + 1) (left_by e.step ps) lawful.3 in
+    let later : clock_after e ≤ tick_from (clock_after e) es =
+    ticks_rise t es (clock_after e) v (packets_by t v k e (next_of ps)) (i + 1) (left_by e.step ps) lawful.3 in
     omega (arith, later, lawful.1.later)
 
 made_by_then : (t : Network) (es : List JournalEntry) (tick : ℕ) (w : World) (k : Packets) (i n : ℕ) (ps : List (List ℕ)) → IsLawfulFrom t tick w k i es ps

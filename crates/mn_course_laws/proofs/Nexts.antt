@@ -140,5 +140,6 @@ frames_first t es ps limit o next x i frame = elim (two_ways (nat_le x.due limit
     late : (o : Option Coming) → IsNext t es ps Frame limit o → limit < x.due → first_due limit o ≤ x.due
     late None g h = omega (arith, h)
     late (Some f) g h =
-        let by : g.item.due ≤ limit = at_most_tells g.item.due limit (and_parts (is_kind Frame (kind_of g.item.on)) (nat_le g.item.due limit) g.least.in_time).1 in
+        let by : g.item.due ≤ limit = at_most_tells g.item.due limit
+        (and_parts (is_kind Frame (kind_of g.item.on)) (nat_le g.item.due limit) g.least.in_time).1 in
         omega (arith, by, h, g.due)

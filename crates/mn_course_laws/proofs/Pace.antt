@@ -195,4 +195,5 @@ module _ (t : Network) (lawful : IsLawful t) (capture : List (List ℕ)) where
 
   pub expanded_paced : (lines : List Line) → AllFit t lines
       → IsPaced (1000000 * length lines) (record { clock = 0; entries = [] }) (expanded t capture lines).past
-  expanded_paced lines fit = script_paced (start_of (record { clock = 0; entries = [] })) lines (record { journal = tt; forward = record { later = omega arith; due = refl }; each = refl }) fit
+  expanded_paced lines fit = script_paced (start_of (record { clock = 0; entries = [] })) lines
+      (record { journal = tt; forward = record { later = omega arith; due = refl }; each = refl }) fit

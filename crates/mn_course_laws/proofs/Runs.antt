@@ -64,7 +64,7 @@ verdicts topology past = (packets_of topology past.entries (inputs_of capture pa
 abbrev pub inject : Command
 inject = Do (Inject (site_no 0) 1)
 
--- 1. Drain: both links come up, the edges open their session, and all is learned and heard
+-- 1. Drain: both links come up, the edges open their session, and all is learned and received
 
 abbrev pub opened : List Command
 opened = Do (LinkUp (link_no 0)) ∷ Do (LinkUp (link_no 1)) ∷ Do (BgpUp (node_no 0) (node_no 2)) ∷ []
@@ -133,7 +133,7 @@ unfolding next knowledge_of news sessions_after peerings_after held packets_afte
     checksum_for with_ttl aged in_flight bytes_flying all
 the_clock_goes_on_to_the_last_arrival = refl
 
--- a withdrawal that is due at tick 3 stays in flight; heard later, it doesn't set the clock back
+-- a withdrawal that is due at tick 3 stays in flight; received later, it doesn't set the clock back
 pub the_clock_never_goes_back : last_entries 3 (after_lines two_links beginning (head ++ inject ∷ Do (Detach (site_no 1)) ∷ Flush ∷ Run 0 ∷ []))
     ≡ at 2 (Carry (link_no 0) Forth 0) ∷ at 4 (Carry (link_no 1) Forth 0) ∷ at 4 (HearBgp (node_no 2) (node_no 0)) ∷ []
 unfolding next knowledge_of news sessions_after peerings_after held packets_after is_not_ipv4 is_malformed is_truncated has_bad_checksum good
@@ -226,7 +226,7 @@ numbered_from number (command ∷ commands) = record { number = number; command 
 abbrev pub run_of : List Command → Expansion
 run_of commands = expanded two_links capture (numbered_from 1 commands)
 
--- three packets are cut off with the first link; the link goes down once, and the message that its end said is gone
+-- three packets are cut off with the first link; the link goes down once, and the message that its end sent is gone
 abbrev pub cut_off : Expansion
 cut_off = run_of (
     head ++ inject ∷ inject ∷ inject ∷ Do (LinkDown (link_no 1)) ∷ Do (LinkDown (link_no 0)) ∷ Do (LinkDown (link_no 0))

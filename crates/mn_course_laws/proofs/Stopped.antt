@@ -89,7 +89,8 @@ none_stops : (r : Option Refused) → r ≡ None → Stops r → ⊥
 none_stops None e f = cc
 none_stops (Some c) e f = cc
 
-damage_full_only : (t : Network) (w : World) (k : Packets) (n : ℕ) (d : damage.Damage) (b : List ℕ) → Stops (damage_refusal_at t w k n d b) → nat_le 4000000 n ≡ true
+damage_full_only : (t : Network) (w : World) (k : Packets) (n : ℕ) (d : damage.Damage) (b : List ℕ) → Stops (damage_refusal_at t w k n d b) →
+    nat_le 4000000 n ≡ true
 damage_full_only t w k n d b =
     passes (is_empty t w k (hearing d)) why.Empty _ (nat_le 4000000 n ≡ true) (λ f. cc)
     (passes (still_reads d b) why.StillReads _ (nat_le 4000000 n ≡ true) (λ f. cc)
@@ -159,7 +160,8 @@ module _ (t : Network) (lawful : IsLawful t) (capture : List (List ℕ)) where
       same : (cause : Refused) → ending.Refused c ≡ ending.Refused cause → c ≡ cause
       same cause e = cc
 
-  answered_ends : (done past : Past) (o : Option Refused) → (Stops o → length past.entries ≡ 4000000) → (Wants o → ⊥) → EndsWell past (unless_refused done past o)
+  answered_ends : (done past : Past) (o : Option Refused) → (Stops o → length past.entries ≡ 4000000) → (Wants o → ⊥) →
+      EndsWell past (unless_refused done past o)
   answered_ends done past None full none = plainly past (ends ending.All done) refl
   answered_ends done past (Some why.TooManySteps) full none = fully past (ends ending.TooManySteps past) refl (full refl)
   answered_ends done past (Some why.NoMemory) full none = absurd (none refl)

@@ -10,7 +10,7 @@ use Rattle.mn_drain_laws.specs.Drain.{IsDrain, IsDrained, IsSwitchedOn, drain_bo
 use Rattle.mn_course_laws.specs.declared.coming.Ending.TheVariants as ending
 use Rattle.mn_course_laws.specs.Course.{Past, Course}
 
--- the line does the steps of a drain, all at the present tick: notices are learned, and once none is in flight messages are heard
+-- the line does the steps of a drain, all at the present tick: notices are learned, and once none is in flight messages are received
 pub record DrainsOn (topology : Network) (past : Past) (course : Course) : Type 0 where
   pub steps : List Step
   pub drain : IsDrain topology (world_of topology past.entries) steps

@@ -1,4 +1,4 @@
--- What a script does: its lines one after another, with what is told of each.
+-- What a script does: its lines one after another, with what is reported of each.
 use Rattle.std.specs.Prelude.{ℕ, Bool, true, false, List, [], ◌∷◌, ◌++◌}
 use Rattle.mn_topo.specs.Network.{Network}
 use Rattle.mn_topo.specs.declared.steps.Step.TheVariants.{Inject}
@@ -12,7 +12,7 @@ use Rattle.mn_course_laws.specs.declared.coming.Ending.{Ending}
 use Rattle.mn_course_laws.specs.declared.coming.Ending.TheVariants as ending
 use Rattle.mn_course_laws.specs.Course.{Past, Course, played}
 
--- what is told in the script's order: a refused line by its number and cause, a line whose record is missing, or a table as it
+-- what is reported in the script's order: a refused line by its number and cause, a line whose record is missing, or a table as it
 -- stands after what has happened
 pub data Note : Type 0 where
   Refusal : (line : ℕ) → (cause : why.Refused) → Note
@@ -68,6 +68,6 @@ expanded_from topology capture now (line ∷ lines) =
 abbrev pub start_of : Past → Expansion
 start_of past = record { past = past; notes = []; sendings = []; is_stopped = false }
 
--- the journal of a script, and what is told of its lines
+-- the journal of a script, and what is reported of its lines
 abbrev pub expanded : Network → List (List ℕ) → List Line → Expansion
 expanded topology capture lines = expanded_from topology capture (start_of (record { clock = 0; entries = [] })) lines

@@ -4,7 +4,7 @@
 //!   a step         that step, unless it is refused; the clock stands still
 //!   a damage       the session whose message is damaged ends, unless that is refused; the clock stands still
 //!   run T          what is due in the next T ticks arrives, the earliest first; then T ticks have passed
-//!   drain N        notices are learned, and then messages are heard, at most N in all; the clock stands still
+//!   drain N        notices are learned, and then messages are received, at most N in all; the clock stands still
 //!   drain          the same, until none is in flight
 //!   flush          frames arrive, the earliest first, until none flies
 //!   show ..        a table of what has come about
@@ -16,7 +16,7 @@
 //!
 //! - `coming`: what is in flight, and how a line ends
 //! - `specs/Coming`: which item in flight comes next, and the step that delivers it; `specs/Next`: the same in words
-//! - `specs/Course`: what one line does; `specs/Expansion`: what a script does, and what is told of its lines
+//! - `specs/Course`: what one line does; `specs/Expansion`: what a script does, and what is reported of its lines
 //! - `specs/Lawful`: what has happened lawfully; `specs/Paced`: how far the clock goes on, and what has arrived
 //! - `specs/Drains`: what a line `drain` comes to; `specs/Endings`: how a line ends; `laws`: the laws of all these
 //! - `proofs/Runs`: lines and scripts over a network of two links, computed from the definitions

@@ -34,7 +34,8 @@ Given t tick w k n e es qs =
     (fits t e.step ≡ true) × GoesForward t tick k e.tick × (refusal_at t w k n e.step (next_of qs) ≡ None)
     × (let v : World = after t w e.step in IsLawfulFrom t (clock_after e) v (packets_by t v k e (next_of qs)) (n + 1) es (left_by e.step qs))
 
-one_entry : (t : Network) (tick : ℕ) (w : World) (k : Packets) (n : ℕ) (e : JournalEntry) (es : List JournalEntry) (b : List ℕ) (rest : List (List ℕ)) (f : Bool) →
+one_entry : (t : Network) (tick : ℕ) (w : World) (k : Packets) (n : ℕ) (e : JournalEntry) (es : List JournalEntry) (b : List ℕ) (rest : List (List ℕ))
+    (f : Bool) →
     injects e.step ≡ f → IsAllowedStep t w k n e.step b → GoesForward t tick k e.tick →
     (let v : World = after t w e.step in IsLawfulFrom t (clock_after e) v (packets_by t v k e b) (n + 1) es rest) →
     Given t tick w k n e es (cond f (b ∷ rest) rest)

@@ -1,5 +1,6 @@
 -- Where nothing refuses a damage its session lives, so nothing refuses the step that ends it.
-use Rattle.std.specs.Prelude.{ℕ, ◌≡◌, ◌≢◌, ◌<◌, ◌≤◌, ◌==◌, ◌&&◌, ◌||◌, Bool, true, false, not, nat_lt, nat_le, if◌then◌else◌, List, [], ◌∷◌, refl, Option, Some, None}
+use Rattle.std.specs.Prelude.{ℕ, ◌≡◌, ◌≢◌, ◌<◌, ◌≤◌, ◌==◌, ◌&&◌, ◌||◌, Bool, true, false, not, nat_lt, nat_le, if◌then◌else◌, List, [], ◌∷◌, refl, Option, Some}
+use Rattle.std.specs.Prelude.{None}
 use Rattle.std.proofs.Common.{arith}
 use Rattle.mn_base.proofs.Bools.{no, clash, and_on, and_left, and_right, or_off, not_false, unlike_numbers, less_is, not_less_tells}
 use Rattle.mn_base.specs.declared.numbers.NodeNo.{NodeNo}

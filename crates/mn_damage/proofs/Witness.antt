@@ -1,4 +1,4 @@
--- Damages of both kinds in a network of two links, which nothing refuses, and what they leave; and one where nothing was said, which is refused.
+-- Damages of both kinds in a network of two links, which nothing refuses, and what they leave; and one where nothing was sent, which is refused.
 use Rattle.std.specs.Prelude.{◌≡◌, List, [], ◌∷◌, refl, Some, None, false}
 use Rattle.mn_wiring.specs.declared.links.Dir.TheVariants.{Forth, Back}
 use Rattle.mn_topo.specs.declared.steps.Damage.TheVariants.{Ldp, Bgp}
@@ -18,7 +18,7 @@ use Rattle.mn_damage.specs.Allowed.{injected}
 use Rattle.mn_damage.specs.Damages.{entry_for}
 use Rattle.mn_damage.specs.Refusals.{damage_refusal}
 
--- the greater address says Initialization as the link comes up, and both edges tell OPEN; a PDU of no byte and a message of no byte
+-- the greater address sends Initialization as the link comes up, and both edges tell OPEN; a PDU of no byte and a message of no byte
 -- are refused by their readers
 abbrev opening : List JournalEntry
 opening = at_start (LinkUp (link_no 0)) ∷ at_start (BgpUp (node_no 0) (node_no 2)) ∷ []
@@ -45,7 +45,7 @@ down : (world_of two_links both_damaged).config.bgp_on 0 2 ≡ false
 unfolding next knowledge_of news sessions_after peerings_after packets_after in_flight
 down = refl
 
--- in the other direction nothing was said
+-- in the other direction nothing was sent
 none_there : damage_refusal two_links opening [] (Ldp (link_no 0) Forth 1) [] ≡ Some Empty
 unfolding next knowledge_of news sessions_after peerings_after packets_after in_flight pdu_of
 none_there = refl

@@ -10,7 +10,7 @@ use mn_ldp_wire::{WireBad, read_pdu};
 use mn_topo::Damage;
 use std::alloc::{AllocError, Global};
 
-/// A PDU is read, but for want of memory.
+/// A PDU is read, unless memory runs out.
 fn reads_pdu(alloc: Global, packet: &[u8]) -> Result<bool, AllocError>
     ensures { IfOk result (λ reads. reads ≡ is_ok (pdu_of packet.now)) }
 {
@@ -21,7 +21,7 @@ fn reads_pdu(alloc: Global, packet: &[u8]) -> Result<bool, AllocError>
     }
 }
 
-/// A message of BGP is read, but for want of memory.
+/// A message of BGP is read, unless memory runs out.
 fn reads_bgp(alloc: Global, packet: &[u8]) -> Result<bool, AllocError>
     ensures { IfOk result (λ reads. reads ≡ is_ok (message_of packet.now)) }
 {
@@ -32,7 +32,7 @@ fn reads_bgp(alloc: Global, packet: &[u8]) -> Result<bool, AllocError>
     }
 }
 
-/// Whether the message's reader reads the packet: then it isn't damaged. `AllocError` is want of memory alone.
+/// Whether the message's reader reads the packet: then it isn't damaged. `AllocError` says that memory ran out, and nothing else.
 pub fn still_reads(alloc: Global, damage: &Damage, packet: &[u8]) -> Result<bool, AllocError>
     ensures { IfOk result (λ reads. reads ≡ still_reads damage.now packet.now) }
 {

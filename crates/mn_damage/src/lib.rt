@@ -5,7 +5,7 @@
 //! after a damaged BGP message (RFC 4271, section 6) the session of the two edges is down. So to the ledger a damage is a step that
 //! it knows, and beside the step the journal's entry has a mark, at which the ledger doesn't look.
 //!
-//! What a damage is in words that need no ledger, `mn_entry` tells: the step by which its message would have been heard, the step that
+//! What a damage is in words that need no ledger, `mn_entry` tells: the step by which its message would have been received, the step that
 //! it also is, and its mark.
 //!
 //! - `specs/Refusals`: why a damage is refused

@@ -117,7 +117,7 @@ bgp-lowers t w a b lawful g d =
     (direction-on t w.config a.0 b.0 both.0 both.1 apart alive) (direction-on t w.config b.0 a.0 both.1 both.0 (λ e. apart (sym e)) back)
     (above _ _ parts.1) g.bgp)
 
--- 3. While messages are heard
+-- 3. While messages are received
 
 pub goes-on : (t : Network) (w : World) (s : Step) → IsLawful t → IsInTurn t w → IsDrainStep t w s → IsInTurn t (after t w s)
 goes-on t w s lawful g d = goes_step t (loopbacks_apart t lawful) lawful.joins_nodes lawful.ends_differ w no_packets s d.fitting d.there g

@@ -33,7 +33,7 @@ use Rattle.mn_settled_laws.proofs.Offering.{hearing-is, ends_below, counts-heard
 
 -- 1. A node whose next hop tells it nothing new offers what it did
 
--- the node is OPERATIONAL on the link, and heard a Mapping of the FEC there last
+-- the node is OPERATIONAL on the link, and received a Mapping of the FEC there last
 abbrev hears_of : Knowledge → ℕ → ℕ → Bool
 hears_of knowledge q l = is_operational knowledge l && is_mapped false q (hearing knowledge l).messages
 
@@ -73,7 +73,7 @@ talk-front false zero xs talk h = absurd (short (ap length talk) h)
 talk-front active (suc zero) xs talk h = ([], talk)
 talk-front active (suc (suc k)) xs talk h = (Address ∷ talk.0, talk.1)
 
--- nothing is said where nothing changed
+-- nothing is sent where nothing changed
 pub same-says : (on b : Bool) → (on && differ (on && b) b) ≡ false
 same-says true true = refl
 same-says true false = refl
@@ -172,7 +172,7 @@ module _ (t : Network) (lawful : IsLawful t) (c : Config) (vs : Views) (s : Sess
   one-more =
       ap (λ i. take i (s.said l (across (wiring_of t) l n))) (add-one (s.heard l n)) ∙ take-suc (s.said l (across (wiring_of t) l n)) (s.heard l n) Address more
 
-  -- on this link it hears nothing new of the FEC
+  -- on this link it receives nothing new of the FEC
   test-few : (q : ℕ) → s.heard l n < 2 → hears_of (before n) q l ≡ hears_of (after n) q l
   test-few q few =
       and_off_left (is_operational (before n) l) (is_mapped false q (hearing (before n) l).messages) (few-before few) ∙ sym (none (s.heard l n) refl)
@@ -230,7 +230,7 @@ module _ (t : Network) (lawful : IsLawful t) (c : Config) (vs : Views) (s : Sess
         | inr p ↦ test-off j n q h (inl p.1)
       ]
 
-  -- 3. What is said
+  -- 3. What is sent
 
   abbrev told : List Said
   told = flat_map (λ x. news (wiring_of t) (before x) (after x) x) (nodes_of (wiring_of t))
@@ -301,7 +301,7 @@ module _ (t : Network) (lawful : IsLawful t) (c : Config) (vs : Views) (s : Sess
       total-none (length t.links) (λ j. where_so (is_end (wiring_of t) j n) (told_weight n j))
       (λ j h. at-most-none (most-weight (is_end (wiring_of t) j n) (told_weight n j)) (told-kept j h (on j h) nothing))
 
-  -- 4. What is said weighs less than what was heard, and what the end had still to say
+  -- 4. What is sent weighs less than what was received, and what the end had still to say
 
   abbrev mentions : ℕ
   mentions = all_mentions_weight (wiring_of t) v l (across (wiring_of t) l n)
@@ -505,7 +505,7 @@ module _ (t : Network) (lawful : IsLawful t) (c : Config) (vs : Views) (s : Sess
   answered-here : answered_on n l ≡ answers_weight
   answered-here = ap (messages_weight (wiring_of t) v l (across (wiring_of t) l n)) (said-own l n (answer (state_by (is_active t l n) (s.heard l n)) message))
 
-  -- what the other end hasn't heard
+  -- what the other end hasn't received
   abbrev unheard : ℕ → ℕ → ℕ → ℕ
   unheard x j i = messages_weight (wiring_of t) v j (across (wiring_of t) j x) (drop i (s.said j x))
 

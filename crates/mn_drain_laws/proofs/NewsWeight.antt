@@ -40,7 +40,7 @@ mention-weighs size g maps withdraws q false true = omega (arith, maps q)
 -- of a number for each FEC, which a mention of it counts for
 module _ (w : Wiring) (size : Message → ℕ) (g : ℕ → ℕ) (maps : (q : ℕ) → size (Mapping q) ≡ g q) (withdraws : (q : ℕ) → size (Withdraw q) ≡ g q)
     (before after : Knowledge) (l n : ℕ) where
-  -- what is said on the link of one FEC
+  -- what is sent on the link of one FEC
   abbrev pub one_fec : ℕ → Bool → Bool → ℕ
   one_fec q was is = where_so (is_operational after l && differ (is_operational before l && was) is) (g q)
 

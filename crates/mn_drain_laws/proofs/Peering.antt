@@ -87,7 +87,7 @@ where-if : (a : Bool) (x y : ℕ) → (a ≡ true → x ≤ y) → where_so a x 
 where-if true x y h = h refl
 where-if false x y h = omega arith
 
--- 3. The edge y hears the next message of its peer x
+-- 3. The edge y receives the next message of its peer x
 
 module _ (t : Network) (c : Config) (p : Peerings) (x y : ℕ) (message : Telling) (apart : x ≢ y) (hx : x < length t.loopbacks) (hy : y < length t.loopbacks)
     (to : is_direction t c x y ≡ true) (back : is_direction t c y x ≡ true)
@@ -146,7 +146,7 @@ module _ (t : Network) (c : Config) (p : Peerings) (x y : ℕ) (message : Tellin
     ap (λ n. greeting_length n (exports_at a)) (pair_off p.heard y x (p.heard y x + 1) a b e),
   )
 
-  -- what x told is heard
+  -- what x told is received
   pair-far : told_ahead t c afterwards x y + 1 ≤ told_ahead t c p x y
   pair-far = omega (
     arith,

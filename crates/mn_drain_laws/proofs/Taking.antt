@@ -1,4 +1,4 @@
--- A notice can be learned, and a message heard, exactly where one is in flight on its channel.
+-- A notice can be learned, and a message received, exactly where one is in flight on its channel.
 use Rattle.std.proofs.Common.{ℕ, suc, ◌≡◌, ◌≢◌, ◌+◌, ◌-◌, ◌<◌, ◌≤◌, inl, inr, Bool, true, false, List, [], ◌∷◌, map, length, drop, refl, arith, sym, ◌∙◌}
 use Rattle.std.proofs.Common.{ap, subst, Some, None}
 use Rattle.std.specs.Prelude.{◌==◌, ◌&&◌, ◌||◌, not, nat_lt, nat_le}

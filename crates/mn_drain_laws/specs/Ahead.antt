@@ -7,7 +7,7 @@ use Rattle.mn_ledger.specs.Transport.{lives}
 use Rattle.mn_drain_laws.specs.Sums.{total, where_so}
 use Rattle.mn_drain_laws.specs.Weights.{mention_weight}
 
--- a message that the node is to hear on the link
+-- a message that the node is to receive on the link
 abbrev pub message_weight : Wiring → View → ℕ → ℕ → Message → ℕ
 message_weight wiring view l node (Mapping fec) = mention_weight wiring view fec l node
 message_weight wiring view l node (Withdraw fec) = mention_weight wiring view fec l node
@@ -25,14 +25,14 @@ messages_weight wiring view l node messages = measured (message_weight wiring vi
 abbrev pub all_mentions_weight : Wiring → View → ℕ → ℕ → ℕ
 all_mentions_weight wiring view l node = total (length wiring.loopbacks) (λ fec. mention_weight wiring view fec l node)
 
--- what an end has still to say before it is OPERATIONAL and as it becomes so, by how many messages it has heard: Initialization
+-- what an end has still to say before it is OPERATIONAL and as it becomes so, by how many messages it has received: Initialization
 -- and KeepAlive, and then Address and a Mapping of each FEC
 abbrev pub greeting_weight : ℕ → ℕ → ℕ
 greeting_weight zero mentions = 3 + mentions
 greeting_weight (suc zero) mentions = 1 + mentions
 greeting_weight (suc (suc more)) mentions = 0
 
--- what the other end is to hear of this one
+-- what the other end is to receive from this one
 abbrev pub end_weight : Wiring → View → Sessions → ℕ → ℕ → ℕ
 end_weight wiring view sessions node l =
     messages_weight wiring view l (across wiring l node) (drop (sessions.heard l (across wiring l node)) (sessions.said l node))

@@ -1,5 +1,5 @@
--- A drain: while notices are in flight they are learned, and then messages are heard, until none is left. How many steps it
--- takes at most, in whatever order the notices are learned and the messages heard.
+-- A drain: while notices are in flight they are learned, and then messages are received, until none is left. How many steps it
+-- takes at most, in whatever order the notices are learned and the messages received.
 use Rattle.std.specs.Prelude.{◌≡◌, ◌≢◌, ◌<◌, sum, map, ℕ, zero, suc, ◌+◌, ◌-◌, ◌*◌, ◌==◌, ◌&&◌, Bool, true, false, not, List, [], ◌∷◌, drop, length, Option}
 use Rattle.std.specs.Prelude.{Some, None, ⊤}
 use Rattle.mn_wiring.specs.Wiring.{links_of, is_end, across, sender}
@@ -23,7 +23,7 @@ use Rattle.mn_drain_laws.specs.Sums.{total, where_so}
 abbrev pub AllLearned : Network → Views → Type 0
 AllLearned topology views = (node l : ℕ) → node < length topology.loopbacks → l < length topology.links → views.learned node l ≡ views.changes l
 
--- messages are heard once no notice is in flight
+-- messages are received once no notice is in flight
 abbrev pub ComesInTurn : Network → World → Step → Type 0
 ComesInTurn topology world (Learn node l) = ⊤
 ComesInTurn topology world (HearLdp l dir) = AllLearned topology world.views
@@ -101,7 +101,7 @@ drain_bound topology world =
 abbrev pub notices : Network → Views → ℕ
 notices topology views = total (length topology.loopbacks) (λ node. total (length topology.links) (λ l. views.changes l - views.learned node l))
 
--- of what an end of a link has said, what the other hasn't heard
+-- of what an end of a link has sent, what the other hasn't received
 abbrev pub unheard_on : Network → Config → Sessions → ℕ → ℕ → ℕ
 unheard_on topology config sessions node l =
     where_so (is_end (wiring_of topology) l node && lives config l)
@@ -117,7 +117,7 @@ bgp_messages topology config peerings = over_directions topology config (λ edge
 
 -- 4. What lies ahead of the hearings of BGP messages
 
--- what an edge has still to tell a peer before it is Established and as it becomes so, by how many messages it has heard
+-- what an edge has still to tell a peer before it is Established and as it becomes so, by how many messages it has received
 abbrev pub greeting_length : ℕ → ℕ → ℕ
 greeting_length zero exports = 1 + exports
 greeting_length (suc zero) exports = exports

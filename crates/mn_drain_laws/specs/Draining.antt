@@ -15,7 +15,7 @@ use Rattle.mn_drain_laws.specs.Drain.{IsDrain, IsDrained, IsSwitchedOn, after_st
 abbrev pub beginning : List JournalEntry
 beginning = map at_start run.beginning
 
--- every notice is learned, and every message heard
+-- every notice is learned, and every message received
 abbrev pub drains : List Step
 drains = run.all_are_told
 

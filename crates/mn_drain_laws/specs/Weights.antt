@@ -32,14 +32,14 @@ is_over None l = false
 is_over (Some hop) l = hop.1 == l
 
 -- of a change of what a node offers: each node that sends by this one, after so many hops, may change in turn, and mention it
--- on its links; each mention is heard, and answered once
+-- on its links; each mention is received, and answered once
 abbrev pub after_hops : Wiring → View → ℕ → ℕ → ℕ → ℕ
 after_hops wiring view fec node hops = total (length wiring.loopbacks) (λ x. where_so (is_node (passed wiring view fec hops x) node) (2 * degree wiring x))
 
 abbrev pub weight : Wiring → View → ℕ → ℕ → ℕ
 weight wiring view fec node = total (length wiring.loopbacks) (after_hops wiring view fec node)
 
--- of a mention of the FEC that the node is to hear on a link: it is heard, and answered once, and where the link leads to the
+-- of a mention of the FEC that the node is to receive on a link: it is received, and answered once, and where the link leads to the
 -- next hop, the node may change
 abbrev pub mention_weight : Wiring → View → ℕ → ℕ → ℕ → ℕ
 mention_weight wiring view fec l node = 2 + where_so (is_over (next wiring view node fec) l) (weight wiring view fec node)

@@ -1,8 +1,8 @@
 //! Drains: how a network settles, and in how many steps at most.
 //!
-//! A drain learns each notice in flight, and then hears each message, until none is left. What is said meanwhile is heard too,
+//! A drain learns each notice in flight, and then receives each message, until none is left. What is sent meanwhile is received too,
 //! so that it ends isn't plain: it ends since each hearing lowers a number, what lies ahead. A change of what a node offers is
-//! said on to those alone whose next hop it is, and next hops stay as they are and lead in no circle once all changes of links
+//! passed on to those alone whose next hop it is, and next hops stay as they are and lead in no circle once all changes of links
 //! are learned. The bound is in numbers that are seen as the drain begins: notices and messages in flight, links, nodes,
 //! directions of BGP sessions and exports.
 //!
@@ -10,7 +10,7 @@
 //! - `specs/Sums`, `specs/Weights`, `specs/Ahead`: what lies ahead of the hearings of LDP messages
 //! - `specs/Draining`: a network of two links, its drain and its bound
 //!
-//! What a settled network then does is said in `mn_settled_laws`.
+//! What a settled network then does is stated in `mn_settled_laws`.
 #![tactic(auto)]
 
 ghost use Rattle.std.specs.Prelude.{ℕ, List, Some, None, true, false, nat_le, ◌≡◌, ◌≤◌, [], length};
@@ -20,7 +20,7 @@ ghost use Rattle.mn_drain_laws.specs.Draining.{TwoLinksDrain};
 
 // 1. Steps of a drain
 
-/// After a lawful journal a notice can be learned, and a message heard, exactly where an item is in flight on its channel.
+/// After a lawful journal a notice can be learned, and a message received, exactly where an item is in flight on its channel.
 pub fn what_flies_can_be_taken()
     ensures { (topology : Network) (entries : List JournalEntry) (inputs : List (List ℕ)) (step : Step) (on : Channel) →
         IsLawful topology → IsLawfulJournal topology entries inputs → fits topology step ≡ true → taken_from topology step ≡ Some on →
@@ -42,7 +42,7 @@ pub fn a_drain_ends_where_nothing_flies()
 
 // 2. Its bound, and what it leads to
 
-/// A drain takes no more steps than its bound, in whatever order notices are learned and messages heard.
+/// A drain takes no more steps than its bound, in whatever order notices are learned and messages received.
 pub fn a_drain_is_bounded()
     ensures { (topology : Network) (entries : List JournalEntry) (inputs : List (List ℕ)) (steps : List Step) →
         IsLawful topology → IsLawfulJournal topology entries inputs → IsDrain topology (world_of topology entries) steps →

@@ -1,6 +1,6 @@
 /// The rule by which a packet is dropped.
 ///
-/// The first eight are tried in this order as a packet enters at a site.
+/// The first nine are tried in this order as a packet enters at a site.
 #[derive(Clone, Copy, Debug, PartialEq, Eq)]
 pub enum Rule {
     /// The site is detached.

@@ -4,6 +4,6 @@
 //! SiteGone at the node to which it was carried, Lost, LinkCut or Overdue at the one that sent it. docs/FORMATS.md has the cause of each.
 #![tactic(auto)]
 
-mod drops;
+mod drops; // the rules
 
 pub use drops::Rule;

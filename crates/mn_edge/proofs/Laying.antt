@@ -196,4 +196,5 @@ pieces_there names pieces m now known stands = record {
     known_name names [] k known within = absurd (let h : k < 0 = within in omega (arith, h))
     known_name names (p ∷ ps) zero known within = (and_parts (is_known names (string_bytes p.0)) (all_known names (pairs ps)) known).0
     known_name names (p ∷ ps) (suc k) known within =
-        known_name names ps k (and_parts (is_known names (string_bytes p.0)) (all_known names (pairs ps)) known).1 (let h : suc k < suc (length (names_of ps)) = within in omega (arith, h))
+        known_name names ps k (and_parts (is_known names (string_bytes p.0)) (all_known names (pairs ps)) known).1
+        (let h : suc k < suc (length (names_of ps)) = within in omega (arith, h))

@@ -1,5 +1,6 @@
 -- Files that grow: what of them stands on the shelf, and what is held for them.
-use Rattle.std.specs.Prelude.{◌≡◌, ◌<◌, ◌==◌, nat_le, ℕ, false, List, [], ◌++◌, length, map, sum_by, slice_index_or, slice_set, Option, Some, None, IsSome, if◌then◌else◌}
+use Rattle.std.specs.Prelude.{◌≡◌, ◌<◌, ◌==◌, nat_le, ℕ, false, List, [], ◌++◌, length, map, sum_by, slice_index_or, slice_set, Option, Some, None, IsSome}
+use Rattle.std.specs.Prelude.{if◌then◌else◌}
 use Rattle.std.specs.Option.{ForSome}
 use Rattle.mn_edge.specs.Files.{Files, file}
 use Rattle.mn_edge.specs.Written.{is_known, IsPrefix}

@@ -1,5 +1,6 @@
 -- The devices in memory, as contracts see them, and which of their calls fail.
-use Rattle.std.specs.Prelude.{◌≡◌, ℕ, ◌+◌, ◌-◌, ◌/◌, ◌^◌, ◌==◌, min, Bool, true, false, not, ◌&&◌, List, [], ◌∷◌, ◌++◌, map, take, length, Option, None, Some, is_none, String}
+use Rattle.std.specs.Prelude.{◌≡◌, ℕ, ◌+◌, ◌-◌, ◌/◌, ◌^◌, ◌==◌, min, Bool, true, false, not, ◌&&◌, List, [], ◌∷◌, ◌++◌, map, take, length, Option, None, Some}
+use Rattle.std.specs.Prelude.{is_none, String}
 use Rattle.std.specs.Prelude.{Vec, string_bytes, Result, Ok, Err, ⊤, refl}
 use Rattle.std.specs.List.{list_any}
 use Rattle.std.specs.Option.{option_map_or}
@@ -27,7 +28,7 @@ names_of entries = map (λ e. string_bytes e.0) entries
 abbrev pub files_code : Coded Files
 files_code = fin.code (coded_list coded_ℕ) (coded_list coded_ℕ)
 
--- a refusal is stored as whether it is for want of memory
+-- a refusal is stored as whether it is because memory ran out
 abbrev wants_memory : DeviceBad → Bool
 wants_memory Failed = false
 wants_memory NoMemory = true
@@ -91,7 +92,7 @@ is_due failing calls = list_any (λ n. n == next_call calls) failing
 abbrev pub lacks : Files → List ℕ → Bool
 lacks m name = is_none (file m name)
 
--- a call answers `Failed` exactly where it is to fail, but for want of memory
+-- a call answers `Failed` exactly where it is to fail, unless memory runs out
 abbrev pub FailsBy : {T : Type 0} → Bool → Result T DeviceBad → Type 0
 FailsBy fails (Ok x) = fails ≡ false
 FailsBy fails (Err Failed) = fails ≡ true
@@ -105,7 +106,7 @@ extended m name piece = option_map_or (λ bytes. with_file m name (bytes ++ piec
 abbrev pub half : List ℕ → List ℕ
 half piece = take (length piece / 2) piece
 
--- what stays of a piece after a call with this answer: all, its first half, or nothing for want of memory
+-- what stays of a piece after a call with this answer: all, its first half, or nothing because memory ran out
 abbrev pub kept : {T : Type 0} → List ℕ → Result T DeviceBad → List ℕ
 kept piece (Ok x) = piece
 kept piece (Err Failed) = half piece

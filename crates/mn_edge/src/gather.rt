@@ -141,7 +141,7 @@ impl Gather {
         done
     }
 
-    /// Holds a piece for which there is room. After want of memory nothing is held.
+    /// Holds a piece for which there is room. After running out of memory nothing is held.
     fn hold(&mut self, file: usize, piece: &[u8]) -> Result<(), DeviceBad>
         requires file { file < length self.old }
         requires room { held_bytes self.old + length piece.now ≤ most_held (length self.old) }

@@ -57,7 +57,7 @@ impl Held {
     }
 
     /// Holds a line for a file, behind what is held for it. A line for which there is no room is handed back, and all stays. After
-    /// want of memory nothing is held.
+    /// running out of memory nothing is held.
     #[inline(always)]
     pub(crate) fn push<L: Line>(
         &mut self,

@@ -21,8 +21,8 @@ mod held; // what waits in a gather
 mod line; // what a file grows by
 mod memory; // both devices in memory
 mod named; // files by name, for the shelf in memory
-mod read;
-mod write;
+mod read; // a whole file, read in pieces
+mod write; // files, written in pieces
 
 pub use device::{DeviceBad, Shelf, Sink};
 pub use gather::Gather;

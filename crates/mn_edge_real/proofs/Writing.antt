@@ -37,7 +37,8 @@ wrote_same first now new piece done so_far same before is =
 pub rest_is : (done : ℕ) (piece : List ℕ) → take (length piece - done) (drop done piece) ≡ drop done piece
 rest_is done piece = take_all (length piece - done) (drop done piece) (let d = length-drop done piece in omega (arith, d))
 
-pub room_left : (done more : ℕ) (piece : List ℕ) → done ≤ length piece → more ≤ length (take (length piece - done) (drop done piece)) → done + more ≤ length piece
+pub room_left : (done more : ℕ) (piece : List ℕ) → done ≤ length piece → more ≤ length (take (length piece - done) (drop done piece)) →
+    done + more ≤ length piece
 room_left done more piece within room =
     let d = length-drop done piece in
     let r = subst (λ (l : List ℕ). more ≤ length l) (rest_is done piece) room in

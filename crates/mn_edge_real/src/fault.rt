@@ -9,7 +9,7 @@ use std::alloc::Global;
 use std::fmt;
 use std::io::{Error, ErrorKind};
 
-/// The answer to a failure, which counts unless it is want of memory.
+/// The answer to a failure, which counts unless memory ran out.
 pub(crate) fn counted(faults: &mut u64, error: &Error) -> DeviceBad
     ensures counted { Counted {T = Unit {0}} (Some faults.old) (Some faults.new) (Err result) }
     ensures memory { (result ≡ NoMemory) ↔ (error_kind error.now ≡ ErrorKind.OutOfMemory) }

@@ -2,7 +2,7 @@
 //!
 //! Both are the devices of `mn_edge` over what the system gives. Real files tell no content, nor does standard
 //! output, so a program over them is promised causes and not bytes: each failure of a call rises its count of
-//! faults, and want of memory is answered as such, and is no fault. The last failure is kept, to be told to who
+//! faults, and running out of memory is answered as such, and is no fault. The last failure is kept, to be reported to who
 //! runs the program. The sink is over any stream: where that tells its bytes, so does the sink.
 //!
 //! A program with thousands of files needs few descriptors: at most 64 files are open at a time, those that were
@@ -15,8 +15,8 @@ mod fault; // which failures count, and what is kept of the last one
 mod last_read; // what the last read gave
 mod open_files; // the files that are open
 mod reads; // what reads gave
-mod shelf;
-mod sink;
+mod shelf; // files by name
+mod sink; // a stream of bytes
 mod told; // how far files were told of
 
 pub use fault::{Call, Failure};

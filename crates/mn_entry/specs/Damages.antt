@@ -1,4 +1,4 @@
--- A damaged message: the step by which it would have been heard, the step by which its session ends, and its entry in the journal.
+-- A damaged message: the step by which it would have been received, the step by which its session ends, and its entry in the journal.
 -- RFC 5036, section 3.5.1.2: a malformed LDP message ends the session. RFC 4271, section 6: so does an error in a BGP message.
 use Rattle.std.specs.Prelude.{◌≡◌, ℕ, ◌&&◌, Bool, false, nat_lt, nat_le, if◌then◌else◌, Option, Some, None}
 use Rattle.mn_base.specs.declared.numbers.NodeNo.{NodeNo}
@@ -19,7 +19,7 @@ lesser a b = if nat_lt a.0 b.0 then a else b
 abbrev pub greater : NodeNo → NodeNo → NodeNo
 greater a b = if nat_lt a.0 b.0 then b else a
 
--- the step by which the message would have been heard
+-- the step by which the message would have been received
 abbrev pub hearing : Damage → Step
 hearing (Ldp link dir number) = HearLdp link dir
 hearing (Bgp a b number) = HearBgp a b

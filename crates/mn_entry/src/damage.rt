@@ -7,7 +7,7 @@ use mn_base::NodeNo;
 use mn_topo::{Damage, Damaged, JournalEntry, Step};
 use mn_wiring::Dir;
 
-/// The step by which the message would have been heard.
+/// The step by which the message would have been received.
 pub fn hearing(damage: &Damage) -> Step
     ensures { result ≡ hearing damage.now }
 {

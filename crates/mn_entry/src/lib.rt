@@ -5,9 +5,9 @@
 //! section 6). So a damage is also a step, and beside that step the journal's entry has a mark.
 //!
 //! ```text
-//!   damage                  would have been heard by   is also            and its mark
-//!   Ldp(link, dir, number)  HearLdp(link, dir)         LdpAdmin off       dir, number
-//!   Bgp(a, b, number)       HearBgp(a, b)              BgpDown, in order  whether a is the lesser, number
+//!   damage                  would have been received by  is also            and its mark
+//!   Ldp(link, dir, number)  HearLdp(link, dir)           LdpAdmin off       dir, number
+//!   Bgp(a, b, number)       HearBgp(a, b)                BgpDown, in order  whether a is the lesser, number
 //! ```
 //!
 //! - `specs/Damages`: these as values, and the damage that an entry tells

@@ -61,7 +61,8 @@ unfolding a_run
 settled = record {
   links = of_two (λ l. (world_of two_links settling).config.is_up l ≡ true) refl refl;
   ldp = λ l h. refl;
-  sessions = λ edge peer d i j. of_both (λ x y. peers_live (world_of two_links settling).config x y ≡ peers_live (config_under two_links no_failure) x y) refl refl
+  sessions = λ edge peer d i j. of_both (λ x y. peers_live (world_of two_links settling).config x y ≡ peers_live (config_under two_links no_failure) x y) refl
+      refl
       edge peer d (in_contained (edges two_links) edge i) (in_contained (edges two_links) peer j);
   imports = λ v h. refl;
   exports = λ v h. refl;
@@ -69,7 +70,7 @@ settled = record {
   attached = λ s h. refl;
 }
 
--- 3. Once LDP is off on the way, and all is heard, that has failed
+-- 3. Once LDP is off on the way, and all is received, that has failed
 
 abbrev unlabelled_world : World
 unlabelled_world = world_of two_links unlabelled

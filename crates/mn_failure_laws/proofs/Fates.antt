@@ -26,7 +26,8 @@ use Rattle.mn_ledger.proofs.Members.{In, in_filter, in_range}
 use Rattle.mn_ledger_laws.specs.Accounts.{Sending, world_at}
 use Rattle.mn_ledger_laws.proofs.At.{lawful_step}
 use Rattle.mn_fate_laws.specs.Fate.{HasFate}
-use Rattle.mn_reach_laws.specs.Fates.{up_links, before, over_hop, lsp_within, lsp_by, lsp, routes_at_rest, is_reached, taking_part, ends_over, ends_towards, ends_by, verdict_at_rest}
+use Rattle.mn_reach_laws.specs.Fates.{up_links, before, over_hop, lsp_within, lsp_by, lsp, routes_at_rest, is_reached, taking_part, ends_over, ends_towards}
+use Rattle.mn_reach_laws.specs.Fates.{ends_by, verdict_at_rest}
 use Rattle.mn_reach_laws.proofs.Homes.{home-is-edge}
 use Rattle.mn_resting_laws.specs.Resting.{IsSentAtRest}
 use Rattle.mn_resting_laws.proofs.Stretches.{have_their_fates}
@@ -117,10 +118,12 @@ module _ (t : Network) (a : Config) (f : Failure) (under : IsUnder t a f) where
 
   same_part : (edge v address : ℕ) → In (edges t) edge → v < length t.vrfs → taking_part t a edge v address ≡ taking_part t b edge v address
   same_part edge v address i below =
-      ap (λ rs. only_if (t.resolve && list_any (covers address) (filter (is_reached t a edge) rs)) (is_reached t a edge) rs) (same_routes t a f under edge v i below)
+      ap (λ rs. only_if (t.resolve && list_any (covers address) (filter (is_reached t a edge) rs)) (is_reached t a edge) rs)
+      (same_routes t a f under edge v i below)
       ∙ ap (λ rs. only_if (t.resolve && list_any (covers address) rs) (is_reached t a edge) (routes_at_rest t b edge v))
       (same_filter (is_reached t a edge) (is_reached t b edge) (routes_at_rest t b edge v) (λ r j. same_reached edge r))
-      ∙ only_same (t.resolve && list_any (covers address) (filter (is_reached t b edge) (routes_at_rest t b edge v))) (is_reached t a edge) (is_reached t b edge)
+      ∙ only_same (t.resolve && list_any (covers address) (filter (is_reached t b edge) (routes_at_rest t b edge v))) (is_reached t a edge)
+      (is_reached t b edge)
       (routes_at_rest t b edge v) (same_reached edge)
 
   same_end : (home ttl : ℕ) (o : Option HeldRoute) → ends_towards t a home ttl o ≡ ends_towards t b home ttl o

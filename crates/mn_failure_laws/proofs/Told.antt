@@ -31,7 +31,7 @@ use Rattle.mn_reach_laws.proofs.First.{chosen_is_best}
 use Rattle.mn_failure_laws.specs.Failures.{Failure, config_under}
 use Rattle.mn_failure_laws.specs.Fates.{fate_under}
 
--- 1. As if each edge had told all others what it exports, and they had heard it
+-- 1. As if each edge had told all others what it exports, and they had received it
 
 announce : List Export → List Telling
 announce es = map (λ export. Announcement export) es
@@ -62,7 +62,8 @@ module _ (t : Network) (c : Config) (statics : HasStatics t c.statics) (forms : 
       is =
           ap (λ b. if b then believed_from [] (heard_of (all_told t c) edge peer) else []) live
           ∙ ap (believed_from [])
-          (take_all (length (map (λ export. Announcement export) (exports_of t c peer))) (map (λ export. Announcement export) (exports_of t c peer)) (omega arith))
+          (take_all (length (map (λ export. Announcement export) (exports_of t c peer))) (map (λ export. Announcement export) (exports_of t c peer))
+          (omega arith))
 
   abbrev route_from : ℕ → Export → HeldRoute
   route_from peer export = held_by peer (Far (loopback t peer) (vrf_at t export.vrf).rd.0) export

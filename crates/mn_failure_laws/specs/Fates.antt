@@ -28,7 +28,8 @@ fate_under topology failure s ttl address = fate_to topology (config_under topol
 
 -- in a lawful journal the packet is sent between two places: at the first the network is at rest under the failure, only packets move
 -- from there to the second, and no frame flies there; and no rule on its bytes drops the packet
-pub record IsSentUnder (topology : Network) (failure : Failure) (entries : List JournalEntry) (inputs : List (List ℕ)) (sending : Sending) (from to : ℕ) : Type 0 where
+pub record IsSentUnder (topology : Network) (failure : Failure) (entries : List JournalEntry) (inputs : List (List ℕ)) (sending : Sending)
+    (from to : ℕ) : Type 0 where
   pub journal : IsLawfulJournal topology entries inputs
   pub sent : IsSentAtRest topology entries inputs sending from to
   pub under : IsUnder topology (world_at topology entries from).config failure

@@ -44,7 +44,7 @@ pub record TwoLinksHaveTheirFates : Type 0 where
   pub ended : fate_under two_links far_link_down_and_session 0 64 at_site_b ≡ Falls rule.NoRoute 0 (0 ∷ [])
   pub off : fate_under two_links session_off 0 64 at_site_b ≡ Falls rule.NoRoute 0 (0 ∷ [])
 
--- once all is settled LDP is switched off from p to pe2; p takes back what it told pe1 of the way to pe2
+-- once all is settled LDP is switched off from p to pe2; p takes back what it sent pe1 of the way to pe2
 abbrev pub unlabelled : List JournalEntry
 unlabelled = settling ++ map at_start (LdpAdmin (link_no 1) false ∷ heard_on 0 Back 1 ++ heard_on 0 Forth 2 ++ heard_on 0 Back 1)
 

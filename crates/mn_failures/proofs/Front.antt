@@ -6,7 +6,8 @@ use Rattle.mn_topo.specs.Network.{Network}
 use Rattle.mn_failures.specs.declared.command.Each.{Each}
 use Rattle.mn_failures.specs.declared.command.Each.TheVariants as each
 use Rattle.mn_failures.specs.Language.{link_part, ldp_part, bgp_part, node_part, part_says}
-use Rattle.mn_failures.specs.Language.{one_of, all_links, links_between, links_line, each_line, sessions_line, losses_line, counts_line, ttl_line, is_lone, lone_line}
+use Rattle.mn_failures.specs.Language.{one_of, all_links, links_between, links_line, each_line, sessions_line, losses_line, counts_line, ttl_line, is_lone}
+use Rattle.mn_failures.specs.Language.{lone_line}
 
 -- eight words and more
 abbrev eight : (a b c d e f g h : List ℕ) → List (List ℕ) → List (List ℕ)
@@ -19,26 +20,37 @@ many a b c d e f g h ws k few = grind arith
 there : (a b c d e f g h : List ℕ) (ws : List (List ℕ)) (k : ℕ) → k < 8 → nat_lt k (length (eight a b c d e f g h ws)) ≡ true
 there a b c d e f g h ws k few = grind (arith, nat_tests)
 
-link_more : (network : Network) (a b c d e f g h : List ℕ) (ws : List (List ℕ)) → link_part network (eight a b c d e f g h ws) ≡ link_part network (eight a b c d e f g h [])
+link_more : (network : Network) (a b c d e f g h : List ℕ) (ws : List (List ℕ)) →
+    link_part network (eight a b c d e f g h ws) ≡ link_part network (eight a b c d e f g h [])
 unfolding link_part
 link_more network a b c d e f g h ws = rw (there a b c d e f g h ws 1 (lit< tt), many a b c d e f g h ws 4 (lit< tt)) refl
 
-ldp_more : (network : Network) (a b c d e f g h : List ℕ) (ws : List (List ℕ)) → ldp_part network (eight a b c d e f g h ws) ≡ ldp_part network (eight a b c d e f g h [])
+ldp_more : (network : Network) (a b c d e f g h : List ℕ) (ws : List (List ℕ)) →
+    ldp_part network (eight a b c d e f g h ws) ≡ ldp_part network (eight a b c d e f g h [])
 unfolding ldp_part
 ldp_more network a b c d e f g h ws = rw (there a b c d e f g h ws 1 (lit< tt), many a b c d e f g h ws 4 (lit< tt)) refl
 
-bgp_more : (network : Network) (a b c d e f g h : List ℕ) (ws : List (List ℕ)) → bgp_part network (eight a b c d e f g h ws) ≡ bgp_part network (eight a b c d e f g h [])
+bgp_more : (network : Network) (a b c d e f g h : List ℕ) (ws : List (List ℕ)) →
+    bgp_part network (eight a b c d e f g h ws) ≡ bgp_part network (eight a b c d e f g h [])
 unfolding bgp_part
 bgp_more network a b c d e f g h ws = rw (there a b c d e f g h ws 1 (lit< tt), many a b c d e f g h ws 4 (lit< tt)) refl
 
-node_more : (network : Network) (a b c d e f g h : List ℕ) (ws : List (List ℕ)) → node_part network (eight a b c d e f g h ws) ≡ node_part network (eight a b c d e f g h [])
+node_more : (network : Network) (a b c d e f g h : List ℕ) (ws : List (List ℕ)) →
+    node_part network (eight a b c d e f g h ws) ≡ node_part network (eight a b c d e f g h [])
 unfolding node_part
 node_more network a b c d e f g h ws = rw (there a b c d e f g h ws 1 (lit< tt), many a b c d e f g h ws 3 (lit< tt)) refl
 
-part_more : (network : Network) (a b c d e f g h : List ℕ) (ws : List (List ℕ)) → part_says network (eight a b c d e f g h ws) ≡ part_says network (eight a b c d e f g h [])
+part_more : (network : Network) (a b c d e f g h : List ℕ) (ws : List (List ℕ)) →
+    part_says network (eight a b c d e f g h ws) ≡ part_says network (eight a b c d e f g h [])
 unfolding part_says
 part_more network a b c d e f g h ws =
-    rw (many a b c d e f g h ws 0 (lit< tt), link_more network a b c d e f g h ws, ldp_more network a b c d e f g h ws, bgp_more network a b c d e f g h ws, node_more network a b c d e f g h ws) refl
+    rw (
+      many a b c d e f g h ws 0 (lit< tt),
+      link_more network a b c d e f g h ws,
+      ldp_more network a b c d e f g h ws,
+      bgp_more network a b c d e f g h ws,
+      node_more network a b c d e f g h ws,
+    ) refl
 
 -- eight words are enough to know what a part says
 part_by_eight : (network : Network) (ws : List (List ℕ)) → part_says network (take 8 ws) ≡ part_says network ws
@@ -99,7 +111,13 @@ ttl_more a b c d e f g h ws = rw (many a b c d e f g h ws 2 (lit< tt)) refl
 lone_more : (a b c d e f g h : List ℕ) (ws : List (List ℕ)) → lone_line (eight a b c d e f g h ws) ≡ lone_line (eight a b c d e f g h [])
 unfolding lone_line
 lone_more a b c d e f g h ws =
-    rw (each_more a b c d e f g h ws, sessions_more a b c d e f g h ws, losses_more a b c d e f g h ws, counts_more a b c d e f g h ws, ttl_more a b c d e f g h ws) refl
+    rw (
+      each_more a b c d e f g h ws,
+      sessions_more a b c d e f g h ws,
+      losses_more a b c d e f g h ws,
+      counts_more a b c d e f g h ws,
+      ttl_more a b c d e f g h ws,
+    ) refl
 
 -- and so any other line
 lone_by_eight : (ws : List (List ℕ)) → lone_line (take 8 ws) ≡ lone_line ws

@@ -46,7 +46,8 @@ few_and_once parts not = both (nat_lt 1024 (length parts)) (is_twice parts) refl
   both false false many is off = (grind (arith, nat_tests, many), is)
 
 -- parts that aren't refused fit where each does
-pub parts_fit : (network : Network) (text : List ℕ) (parts : List Part) → Ok parts ≡ parts_say network (pieces text) → list_all (part_fits network) parts ≡ true →
+pub parts_fit : (network : Network) (text : List ℕ) (parts : List Part) → Ok parts ≡ parts_say network (pieces text) →
+    list_all (part_fits network) parts ≡ true →
     are_refused parts ≡ false → command_fits network (command.Fail parts) ≡ true
 parts_fit network text parts is each taken =
     let some : 1 ≤ length parts = told network (slice_split is_comma text) parts (some_pieces text) is in

@@ -34,7 +34,8 @@ all_of : (bytes : List ℕ) → Cut bytes → pieces bytes ≡ closed (seen byte
 all_of bytes cut =
     let parts = slice_split is_comma bytes in
     ap (map words) cut.whole
-    ∙ ap (λ ws. ws ∷ map words (but_first parts)) (words_are (first_of parts) ∙ ap (λ w. put w (behind_of (first_of parts))) cut.head ∙ ap (put (seen bytes).0) cut.behind)
+    ∙ ap (λ ws. ws ∷ map words (but_first parts)) (words_are (first_of parts) ∙ ap (λ w. put w (behind_of (first_of parts))) cut.head
+    ∙ ap (put (seen bytes).0) cut.behind)
     ∙ ap (λ ps. closed (seen bytes) ∷ ps) cut.others
 
 first_onto : (byte : ℕ) (parts : List (List ℕ)) → first_of (onto_first byte parts) ≡ byte ∷ first_of parts
@@ -121,7 +122,8 @@ abbrev in_words : List ℕ → List ℕ
 in_words bytes = head_of bytes ++ 32 ∷ spaced (behind_of bytes)
 
 seen_step : (blank : Bool) (byte : ℕ) (bytes : List ℕ) → is_blank byte ≡ blank → seen bytes ≡ seen (in_words bytes) →
-    with_byte byte (seen bytes) ≡ seen (cond blank [] (byte ∷ head_of bytes) ++ 32 ∷ spaced (cond blank (put (head_of bytes) (behind_of bytes)) (behind_of bytes)))
+    with_byte byte (seen bytes) ≡ seen (cond blank [] (byte ∷ head_of bytes) ++ 32 ∷ spaced
+    (cond blank (put (head_of bytes) (behind_of bytes)) (behind_of bytes)))
 seen_step true byte bytes blank same =
     as_space byte (seen bytes) blank ∙ ap (with_byte 32) same ∙ sym (behind_blank (head_of bytes) (behind_of bytes))
 seen_step false byte bytes blank same = ap (with_byte byte) same

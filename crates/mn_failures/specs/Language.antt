@@ -159,7 +159,8 @@ ttl_line ws = do
 -- the first word is that of a line that is no failure of its own
 abbrev pub is_lone : List (List ℕ) → Bool
 is_lone ws =
-    is_word ws 0 (codes "each") || (is_word ws 0 (codes "sessions") || (is_word ws 0 (codes "losses") || (is_word ws 0 (codes "counts") || is_word ws 0 (codes "ttl"))))
+    is_word ws 0 (codes "each") || (is_word ws 0
+    (codes "sessions") || (is_word ws 0 (codes "losses") || (is_word ws 0 (codes "counts") || is_word ws 0 (codes "ttl"))))
 
 -- such a line, by its first word
 unfoldable pub lone_line : List (List ℕ) → Result FailureCommand ScriptRule

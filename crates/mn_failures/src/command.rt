@@ -84,9 +84,9 @@ pub enum FailureCommand {
     Each(Each),
     /// That from here on sessions end between edges that no links join, or that they stay.
     Sessions { end: bool },
-    /// That from here on each loss is told.
+    /// That from here on each loss is reported.
     Losses,
-    /// That from here on only the number of losses is told.
+    /// That from here on only the number of losses is reported.
     Counts,
     /// That from here on packets are sent with this TTL.
     Ttl(u8),

@@ -511,7 +511,8 @@ module _ (t : Network) (w : World) (a : Packets) (count s : ℕ) (bytes : List �
   within : length a.verdicts < length (one_more a (home_of t s)).verdicts
   within = (fresh a count (home_of t s) one).within
 
-  drops : (r : HeldRoute) (cause : Rule) → Sets r (Falls cause (home_of t s) (home_of t s ∷ [])) (drop_at (one_more a (home_of t s)) (length a.verdicts) cause (home_of t s))
+  drops : (r : HeldRoute) (cause : Rule) →
+      Sets r (Falls cause (home_of t s) (home_of t s ∷ [])) (drop_at (one_more a (home_of t s)) (length a.verdicts) cause (home_of t s))
   drops r cause =
       falls t w (length a.verdicts) r (Falls cause (home_of t s) (home_of t s ∷ [])) (one_more a (home_of t s)) (length a.verdicts) cause (home_of t s)
       (home_of t s ∷ []) within refl first-path refl
@@ -593,7 +594,8 @@ what_becomes t before earlier later tick number mark site ps moving none =
     let a : Packets = packets_by t w k entry bytes in
     let j : ℕ = length k.verdicts in
     let fate : Fate = fate_of t w site.0 bytes in
-    let one_a : AreInOnePlace a (1 + injections done) = stepped t w now (Inject site number) bytes (injections done) (timed_places t entry k (injections done) one) in
+    let one_a : AreInOnePlace a (1 + injections done) =
+    stepped t w now (Inject site number) bytes (injections done) (timed_places t entry k (injections done) one) in
     let first = sent t w (before_step now) (injections done) site.0 bytes (unmarked now (injections done) (timed_places t entry k (injections done) one)) in
     let last = travels-on t w j first.0 fate later a (1 + injections done)
     (left_by (Inject site number) (left_after done ps)) parts.1 one_a (next_number one.verdicts) first.1 in

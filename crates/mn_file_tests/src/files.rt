@@ -30,7 +30,7 @@ fn is_named(names: &[String], number: u32, text: &str) -> bool {
     }
 }
 
-/// The number of what the edge told, where both are edges.
+/// The number of what the edge sent, where both are edges.
 fn told(alloc: Global, topology: &Topology, edge: u16, peer: u16) -> Result<u32, AllocError> {
     let Ok(places) = EdgePlaces::new(alloc, topology) else {
         return Err(AllocError);

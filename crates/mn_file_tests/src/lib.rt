@@ -4,8 +4,8 @@
 #![tactic(auto)]
 
 #[cfg(test)]
-mod files;
+mod files; // the names of files
 #[cfg(test)]
-mod lines;
+mod lines; // lines of the report, and pages that fill
 #[cfg(test)]
-mod tables;
+mod tables; // one line of each table

@@ -73,7 +73,7 @@ frames_there t l = by_kind (l < length t.links) t (Frames l)
     (λ m. let x = in_flat_map saids (links_in t) (Frames l) m in absurd (frames_in_saids x.0 l x.2))
     (λ m. let x = in_flat_map (told_files t) (edges t) (Frames l) m in absurd (frames_in_told t l x.0 x.2))
 
--- 2. What LDP said over a link
+-- 2. What LDP sent over a link
 
 said_in_saids : (k l : ℕ) (dir : Dir) → In (saids k) (Said l dir) → k ≡ l
 said_in_saids k l dir (inl e) = let f : Said k Forth ≡ Said l dir = e in cc

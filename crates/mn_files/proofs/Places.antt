@@ -172,7 +172,8 @@ table_at t places n v e h at =
     at ∙ ap (λ ps. slice_index_or ps n 0) e ∙ get_or-map-range_with_len (edges_before t) 0 (length t.loopbacks + 1) n n 0 h (omega arith)
 
 -- as many edges come before an edge as the table says
-pub edge_at : (t : Network) (places : List ℕ) (edge v : ℕ) → places ≡ edge_places t → IsLawful t → is_edge t.vrfs edge ≡ true → v ≡ slice_index_or places edge 0 →
+pub edge_at : (t : Network) (places : List ℕ) (edge v : ℕ) → places ≡ edge_places t → IsLawful t → is_edge t.vrfs edge ≡ true →
+    v ≡ slice_index_or places edge 0 →
     v ≡ edges_before t edge
 edge_at t places edge v e lawful is =
     table_at t places edge v e (let below : edge < length t.loopbacks = edge_below t edge lawful is in omega (arith, below))

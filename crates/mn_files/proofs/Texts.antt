@@ -99,7 +99,7 @@ told-more t n h =
 pub told-same : (t : Network) (n : ℕ) → is_edge t.vrfs n ≡ false → flat_map (told_files t) (edges_below t (n + 1)) ≡ flat_map (told_files t) (edges_below t n)
 told-same t n h = ap (flat_map (told_files t)) (edges-more t n false h ∙ append-nil (edges_below t n))
 
--- what an edge tells the edges below a number
+-- what an edge sends the edges below a number
 abbrev pub told_below : Network → ℕ → ℕ → List OutputFile
 told_below t edge n = map (λ peer. Told edge peer) (filter (λ peer. not (edge == peer)) (edges_below t n))
 

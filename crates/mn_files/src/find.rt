@@ -21,7 +21,7 @@ pub fn find_frames(topology: &Topology, link: LinkNo) -> Option<u32>
     }
 }
 
-/// What LDP said over a link in a direction.
+/// What LDP sent over a link in a direction.
 pub fn find_said(topology: &Topology, link: LinkNo, dir: Dir) -> Option<u32>
     ensures { IsPlace topology.now (Said link.0 dir) result }
 {
@@ -39,7 +39,7 @@ fn are_two(topology: &Topology, edge: NodeNo, peer: NodeNo) -> bool
     topology.is_edge(edge) && topology.is_edge(peer) && edge.0 != peer.0
 }
 
-/// What one edge told another by BGP. It is told where the places are the topology's.
+/// What one edge sent another by BGP. It is answered where the places are the topology's.
 pub fn find_told(
     topology: &Topology,
     places: &EdgePlaces,

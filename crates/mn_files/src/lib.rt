@@ -1,8 +1,8 @@
 //! The files that a run writes: their names, and the number of each.
 //!
 //! A run writes a journal, a list of labels, a capture of what was delivered, for each link a capture of its frames
-//! and the PDUs of LDP that were said over it in each direction (RFC 5036), and for each pair of edges the messages
-//! that the one told the other by BGP (RFC 4271). A file has two names: people know it by the nodes, as
+//! and the PDUs of LDP that were sent over it in each direction (RFC 5036), and for each pair of edges the messages
+//! that the one sent the other by BGP (RFC 4271). A file has two names: people know it by the nodes, as
 //! `out/pe1+p.ldp`, and whoever writes many small pieces by its number, from 0, in the order in which the files are
 //! begun.
 //!

@@ -165,7 +165,7 @@ fn is_told(topology: &Topology, edge: NodeNo, peer: NodeNo) -> bool
     topology.is_edge(peer) && edge.0 != peer.0
 }
 
-/// Adds the files of what the edge told, one for each other edge.
+/// Adds the files of what the edge sent, one for each other edge.
 fn push_told_by(
     alloc: Global,
     topology: &Topology,

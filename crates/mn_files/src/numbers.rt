@@ -42,7 +42,7 @@ pub fn frames_file(link: LinkNo) -> u32
     FIRST + u32::from(link.0)
 }
 
-/// What LDP said over the link in the direction.
+/// What LDP sent over the link in the direction.
 pub fn said_file(topology: &Topology, link: LinkNo, dir: Dir) -> u32
     requires { link.0 < length topology.now.links }
     ensures { IsNumber topology.now result (Said link.0 dir) }
@@ -55,7 +55,7 @@ pub fn said_file(topology: &Topology, link: LinkNo, dir: Dir) -> u32
     }
 }
 
-/// What the edge told the other edge by BGP.
+/// What the edge sent the other edge by BGP.
 pub fn told_file(topology: &Topology, places: &EdgePlaces, edge: NodeNo, peer: NodeNo) -> u32
     requires places { places.now ≡ edge_places topology.now }
     requires edge { IsTrue (is_edge topology.now.vrfs edge.0) }

@@ -34,7 +34,7 @@ pub trait Flight<T> {
         ensures channels { channels self.new ≡ channels self.old }
         ensures flight { IsFlight (channels self.new) (items self.new) };
 
-    /// Puts an item on a channel, behind all others. Its number is greater than each in flight. A `Back` is want of memory,
+    /// Puts an item on a channel, behind all others. Its number is greater than each in flight. A `Back` means out of memory,
     /// hands the item back and leaves the items as they were.
     fn push(&mut self, channel: u32, due: u64, number: u64, item: T) -> Result<(), Back<T>>
         requires channel { channel < channels self.old }

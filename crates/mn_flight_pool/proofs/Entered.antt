@@ -171,7 +171,10 @@ module _ {T : Type 0} where
         room_past_link Channel p (prev_of Channel one first) q one ∙ room_past_item p q (Some x) cells
 
     room_order : (qs : List ℕ) → ((q : ℕ) → IsIn q qs → room_at cells q ≡ true) → (q : ℕ) → IsIn q (qs ++ p ∷ []) → room_at cells q ≡ true
-    room_order [] old q i = elim i [ inl e ↦ subst (λ r. room_at cells r ≡ true) (sym e) (linked.free_room p (in_right free (p ∷ []) p (inl refl))) | inr j ↦ absurd j ]
+    room_order [] old q i = elim i [
+      | inl e ↦ subst (λ r. room_at cells r ≡ true) (sym e) (linked.free_room p (in_right free (p ∷ []) p (inl refl)))
+      | inr j ↦ absurd j
+    ]
     room_order (r ∷ qs) old q i = elim i [ inl e ↦ old q (inl e) | inr j ↦ room_order qs (λ s k. old s (inr k)) q j ]
 
     pub linked_entered : IsLinked head heads free (order ++ p ∷ []) two

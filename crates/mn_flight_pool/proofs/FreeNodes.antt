@@ -2,7 +2,8 @@
 use Rattle.std.proofs.Common.{◌≡◌, ℕ, zero, suc, false, List, [], ◌∷◌, ◌++◌, Some, None, IsSome, inl, inr, refl, sym, ap, ◌∙◌, subst, append_assoc, append-nil}
 use Rattle.std.specs.List.{AllByRecursion, IsDistinct}
 use Rattle.mn_flight_pool.specs.Cells.{same_place, value_at}
-use Rattle.mn_flight_pool.specs.Rings.{IsFree, IsIn, IsRing, item_in, item_at, room_in, next_in, prev_in, next_of, prev_of, with_item, set_next, set_prev, link_behind, unlink}
+use Rattle.mn_flight_pool.specs.Rings.{IsFree, IsIn, IsRing, item_in, item_at, room_in, next_in, prev_in, next_of, prev_of, with_item, set_next, set_prev}
+use Rattle.mn_flight_pool.specs.Rings.{link_behind, unlink}
 use Rattle.mn_flight_pool.specs.Pool.{chain, free_of, entered, left, IsLinked}
 use Rattle.mn_flight_pool.specs.ByDue.{IsByDue, IsTick}
 use Rattle.mn_flight_pool.specs.Nodes.{Node}
@@ -12,7 +13,8 @@ use Rattle.mn_flight_pool.specs.declared.node.Pair.TheVariants.{Channel, Due}
 use Rattle.mn_flight_pool.specs.declared.tick.Tick.{Tick}
 use Rattle.mn_flight.specs.declared.Item.{Item}
 use Rattle.mn_flight_pool.proofs.Changed.{next_stays, keeps}
-use Rattle.mn_flight_pool.proofs.Neighbours.{free_left, free_right, others_free, distinct_with, distinct_without, apart_parts, all_turned, free_at, same_neighbours}
+use Rattle.mn_flight_pool.proofs.Neighbours.{free_left, free_right, others_free, distinct_with, distinct_without, apart_parts, all_turned, free_at}
+use Rattle.mn_flight_pool.proofs.Neighbours.{same_neighbours}
 use Rattle.mn_flight_pool.proofs.Rings.{Unlike, item_kept, room_kept, link_unlike, set_next_leaves, link_leaves, unlink_leaves, ring_same, item_next}
 use Rattle.mn_flight_pool.proofs.Rings.{next_at, next_else, next_past, prev_past}
 use Rattle.mn_flight_pool.proofs.Sooner.{all_in, sooner_same, tick_item, item_tick, all_kept}
@@ -125,7 +127,8 @@ module _ {T : Type 0} where
   pub next_entered : (first p : ℕ) (x : Item T) (cells : List (Node T)) (q : ℕ) → next_of Due (entered first p x cells) q ≡ next_of Due cells q
   next_entered first p x cells q =
       let one = with_item p (Some x) cells in
-      link_leaves Channel (next_in Due) (λ link node. ap (λ (l : Link). l.next.index) (link_unlike Channel Due channel_due link node)) p (prev_of Channel one first) q one
+      link_leaves Channel (next_in Due) (λ link node. ap (λ (l : Link). l.next.index) (link_unlike Channel Due channel_due link node)) p
+      (prev_of Channel one first) q one
       ∙ keeps (next_in Due) p q (λ (node : Node T). record node { item = Some x }) cells (item_next Due (Some x))
 
   pub next_left : (p : ℕ) (cells : List (Node T)) (q : ℕ) → next_of Due (left p cells) q ≡ next_of Due cells q

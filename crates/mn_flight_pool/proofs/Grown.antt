@@ -125,7 +125,8 @@ module _ {T : Type 0} where
     items_added : items_in new (order_of pool.head.index pool.count new) ≡ items_of pool
     items_added =
         ap (λ o. items_in new o) same_order
-        ∙ held.items_added node.index pool.store new added fresh pool.head.index (firsts pool.channels) (free_in pool) (order_in pool) whole.held.linked heads_there
+        ∙ held.items_added node.index pool.store new added fresh pool.head.index (firsts pool.channels) (free_in pool)
+        (order_in pool) whole.held.linked heads_there
 
     held_added : room_at new node.index ≡ true → IsHeld pool.head.index (firsts pool.channels) (free_in pool ++ node.index ∷ []) pool.count new
     held_added own = record {
@@ -172,16 +173,19 @@ module _ {T : Type 0} where
           let more : free.count ≡ suc pool.free.count = omega (arith, m) in
           subst (λ l. IsHeld pool.head.index (firsts pool.channels) l pool.count then)
           ((λ i. free_of (sym f i).index (sym more i) then))
-          (held_freed pool.head.index (firsts pool.channels) (free_in pool) pool.count node.index pool.free.first.index pool.ticks.items new (held_added own) by_due_added then is
+          (held_freed pool.head.index (firsts pool.channels) (free_in pool) pool.count node.index pool.free.first.index pool.ticks.items new
+          (held_added own) by_due_added then is
           pool.free.count same_free)
 
       order_grown : order_of pool.head.index pool.count then ≡ order_of pool.head.index pool.count new
       order_grown =
-          order_freed pool.head.index (firsts pool.channels) (free_in pool) pool.count node.index pool.free.first.index pool.ticks.items new (held_added own) by_due_added then is
+          order_freed pool.head.index (firsts pool.channels) (free_in pool) pool.count node.index pool.free.first.index pool.ticks.items new
+          (held_added own) by_due_added then is
 
       pub grown_items : items_in then (order_of pool.head.index pool.count then) ≡ items_of pool
       grown_items =
-          items_freed pool.head.index (firsts pool.channels) (free_in pool) pool.count node.index pool.free.first.index pool.ticks.items new (held_added own) by_due_added then is
+          items_freed pool.head.index (firsts pool.channels) (free_in pool) pool.count node.index pool.free.first.index pool.ticks.items new
+          (held_added own) by_due_added then is
           ∙ items_added
 
       pub grown_latest : All (λ (e : Item T). e.number ≤ pool.latest) (items_in then (order_of pool.head.index pool.count then))
@@ -190,21 +194,25 @@ module _ {T : Type 0} where
       pub grown_recent : AreLast (order_of pool.head.index pool.count then) (ptrs pool.recent.items)
       grown_recent = subst (λ o. AreLast o (ptrs pool.recent.items)) (sym order_grown) recent_added
 
-      pub grown_finger : MatchOption pool.finger ⊤ (λ f. slice_get (nodes_on then f.channel (order_of pool.head.index pool.count then)) f.place ≡ Some f.node.index)
+      pub grown_finger : MatchOption pool.finger ⊤ (λ f. slice_get (nodes_on then f.channel (order_of pool.head.index pool.count then)) f.place
+          ≡ Some f.node.index)
       grown_finger =
           finger_kept pool.finger _ _ (λ f at.
           ap (λ l. slice_get l f.place)
-          (nodes_freed pool.head.index (firsts pool.channels) (free_in pool) pool.count node.index pool.free.first.index pool.ticks.items new (held_added own) by_due_added then is f.channel)
+          (nodes_freed pool.head.index (firsts pool.channels) (free_in pool) pool.count node.index pool.free.first.index pool.ticks.items new
+          (held_added own) by_due_added then is f.channel)
           ∙ at) finger_added
 
       pub grown_counted : IsCounted pool.counts.items pool.channels (order_of pool.head.index pool.count then) then
       grown_counted =
-          counted_freed pool.head.index (firsts pool.channels) (free_in pool) pool.count node.index pool.free.first.index pool.ticks.items new (held_added own) by_due_added then is
+          counted_freed pool.head.index (firsts pool.channels) (free_in pool) pool.count node.index pool.free.first.index pool.ticks.items new
+          (held_added own) by_due_added then is
           pool.counts.items pool.channels counted_added
 
       pub grown_by_due : IsByDue pool.head.index (order_of pool.head.index pool.count then) (dues_of pool.head.index pool.count then) pool.ticks.items then
       grown_by_due =
-          by_due_freed pool.head.index (firsts pool.channels) (free_in pool) pool.count node.index pool.free.first.index pool.ticks.items new (held_added own) by_due_added then is
+          by_due_freed pool.head.index (firsts pool.channels) (free_in pool) pool.count node.index pool.free.first.index pool.ticks.items new
+          (held_added own) by_due_added then is
 
   -- 3. The pool that holds nothing
   module _ (n : ℕ) (head : ℕ) (one two : List (Node T)) (added : IsVacantLast head (lone_firsts n) one)

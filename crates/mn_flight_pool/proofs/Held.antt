@@ -71,8 +71,10 @@ module _ {T : Type 0} where
 
       pub alone : IsFree p ((head ∷ heads) ++ (order ++ free))
       alone =
-          free_both p (head ∷ heads) (order ++ free)
-          (apart head (head_there head heads free order old linked), free_from p heads (λ q i. apart q (all_in (λ r. IsSome (value_at r old)) heads q heads_there i)))
+          free_both p (head ∷ heads) (order ++ free) (
+            apart head (head_there head heads free order old linked),
+            free_from p heads (λ q i. apart q (all_in (λ r. IsSome (value_at r old)) heads q heads_there i)),
+          )
           (free_both p order free
           (free_from p order (λ q i. apart q (order_there head heads free order old linked q i)))
           (free_from p free (λ q i. apart q (all_in (λ r. IsSome (value_at r old)) free q linked.there i))))

@@ -175,7 +175,8 @@ module _ {T : Type 0} (pool : Pool T) (whole : IsWhole pool) where
                 ∙ items_entered pool.head.index (firsts pool.channels) rest (order_in pool) node.index pool.store held_cut.linked x first.index at
 
             flight_then : IsFlight (length (firsts pool.channels)) (items_of pool ++ x ∷ [])
-            flight_then = flight_push (length (firsts pool.channels)) (items_of pool) x whole.held.flight above (omega (arith, below, firsts_length pool.channels))
+            flight_then = flight_push (length (firsts pool.channels)) (items_of pool) x whole.held.flight above
+                (omega (arith, below, firsts_length pool.channels))
 
             dues_four : dues_of pool.head.index (pool.count + 1) four ≡ dues_then
             dues_four =
@@ -185,7 +186,8 @@ module _ {T : Type 0} (pool : Pool T) (whole : IsWhole pool) where
 
             order_four : order_of pool.head.index (pool.count + 1) four ≡ order_in pool ++ node.index ∷ []
             order_four =
-                order_is four pool.head.index (pool.count + 1) (order_in pool ++ node.index ∷ []) dues_then (put_tick x.due node.index pool.ticks.items) entered_dues
+                order_is four pool.head.index (pool.count + 1) (order_in pool ++ node.index ∷ []) dues_then (put_tick x.due node.index pool.ticks.items)
+                entered_dues
                 dues_four
                 (ascend_of four (order_in pool ++ node.index ∷ []) linked_four.held
                 (subst (λ xs. IsFlight (length (firsts pool.channels)) xs) (sym items_then) flight_then).ascending)
@@ -202,7 +204,8 @@ module _ {T : Type 0} (pool : Pool T) (whole : IsWhole pool) where
             rest_four : free_of (next_of Due pool.store pool.free.first.index) (pool.free.count - 1) four ≡ rest
             rest_four = free_same pool.store four (next_of Due pool.store pool.free.first.index) (pool.free.count - 1) (λ q i.
                 let in_order : IsIn last (pool.head.index ∷ order_in pool) = elim last_in [ inl e ↦ inl e | inr j ↦ inr (whole.by_due.flies last j) ] in
-                next_linked node.index last three q (first_apart pool.head.index (firsts pool.channels) rest (order_in pool) node.index pool.store linked_cut q i)
+                next_linked node.index last three q
+                (first_apart pool.head.index (firsts pool.channels) rest (order_in pool) node.index pool.store linked_cut q i)
                 (free_apart pool.head.index (firsts pool.channels) (node.index ∷ rest) (order_in pool) pool.store linked_cut last q in_order (inr i))
                 ∙ next_entered first.index node.index x pool.store q)
 

@@ -1,5 +1,6 @@
 -- A whole pool gives an item out, and its node is free.
-use Rattle.std.proofs.Common.{◌≡◌, ◌<◌, ◌+◌, ◌-◌, ℕ, zero, suc, true, false, Bool, cond, List, [], ◌∷◌, ◌++◌, length, Option, Some, None, IsSome, inl, inr, refl, sym, ap, ◌∙◌, subst, arith}
+use Rattle.std.proofs.Common.{◌≡◌, ◌<◌, ◌+◌, ◌-◌, ℕ, zero, suc, true, false, Bool, cond, List, [], ◌∷◌, ◌++◌, length, Option, Some, None, IsSome, inl, inr}
+use Rattle.std.proofs.Common.{refl, sym, ap, ◌∙◌, subst, arith}
 use Rattle.std.proofs.Common.{length-append, get_or, eq-eqb}
 use Rattle.std.specs.Prelude.{◌≤◌, ◌==◌, not, slice_get, slice_set}
 use Rattle.std.specs.List.{All, IsDistinct}
@@ -235,7 +236,8 @@ module _ {T : Type 0} (pool : Pool T) (whole : IsWhole pool) (p : ℕ) (i : IsIn
 
         before_two : (c m k q : ℕ) → slice_get (nodes_on pool.store c (order_in pool)) m ≡ Some p →
             slice_get (nodes_on pool.store c (order_in pool)) k ≡ Some q → k < m → slice_get (nodes_on two c (order_of head n two)) k ≡ Some q
-        before_two c m k q e f h = ap (λ z. slice_get (nodes_on z c (order_of head n z)) k) is ∙ ap (λ l. slice_get l k) nodes_two ∙ by (x.channel == c) nodes_old
+        before_two c m k q e f h = ap (λ z. slice_get (nodes_on z c (order_of head n z)) k) is ∙ ap (λ l. slice_get l k) nodes_two
+            ∙ by (x.channel == c) nodes_old
           where
             nodes_two : nodes_on (left p mid) c (order_of head n (left p mid)) ≡ nodes_on pool.store c us ++ nodes_on pool.store c vs
             nodes_two =
@@ -251,7 +253,8 @@ module _ {T : Type 0} (pool : Pool T) (whole : IsWhole pool) (p : ℕ) (i : IsIn
             distinct = distinct_nodes (λ r. is_on c (item_at pool.store r)) head (order_in pool)
                 (order_apart head heads free (order_in pool) pool.store whole.held.linked)
 
-            by : (b : Bool) → nodes_on pool.store c (order_in pool) ≡ nodes_on pool.store c us ++ cond b (p ∷ nodes_on pool.store c vs) (nodes_on pool.store c vs) →
+            by : (b : Bool) → nodes_on pool.store c (order_in pool) ≡ nodes_on pool.store c us ++ cond b (p ∷ nodes_on pool.store c vs)
+                (nodes_on pool.store c vs) →
                 slice_get (nodes_on pool.store c us ++ nodes_on pool.store c vs) k ≡ Some q
             by true old =
                 kept_before (nodes_on pool.store c us) (nodes_on pool.store c vs) p m k q (subst (λ l. IsDistinct same_place l) old distinct)
@@ -294,7 +297,8 @@ module _ {T : Type 0} (pool : Pool T) (whole : IsWhole pool) (p : ℕ) (i : IsIn
           pub take_before : (c m k q : ℕ) → slice_get (nodes_on pool.store c (order_in pool)) m ≡ Some p →
               slice_get (nodes_on pool.store c (order_in pool)) k ≡ Some q → k < m → slice_get (nodes_on three c (order_of head n three)) k ≡ Some q
           take_before c m k q e f h =
-              ap (λ l. slice_get l k) (nodes_freed head heads free n p pool.free.first.index ticks_then two held_two due_two three three_is c) ∙ before_two c m k q e f h
+              ap (λ l. slice_get l k) (nodes_freed head heads free n p pool.free.first.index ticks_then two held_two due_two three three_is c)
+              ∙ before_two c m k q e f h
 
           pub take_counted : (counts : List ℕ) → counts ≡ slice_set pool.counts.items x.channel (get_or pool.counts.items x.channel 0 - 1) →
               IsCounted counts pool.channels (order_of head n three) three

@@ -33,7 +33,8 @@ module _ {T : Type 0} where
   -- the item is due at this tick, and none that is due then has a greater number
   abbrev pub IsLastAt : List (Node T) → List ℕ → ℕ → Option (Item T) → Type 0
   IsLastAt cells order due None = ⊥
-  IsLastAt cells order due (Some last) = (last.due ≡ due) × ((q : ℕ) (item : Item T) → IsIn q order → item_at cells q ≡ Some item → item.due ≡ due → item.number ≤ last.number)
+  IsLastAt cells order due (Some last) = (last.due ≡ due) × ((q : ℕ) (item : Item T) → IsIn q order → item_at cells q ≡ Some item → item.due ≡ due →
+      item.number ≤ last.number)
 
   -- the tick's node is the last that is due then
   pub record IsTick (cells : List (Node T)) (order : List ℕ) (tick : Tick) : Type 0 where
@@ -54,4 +55,5 @@ module _ {T : Type 0} where
 
   -- the ticks once a node between two others left, the first of which may be due then and the second too
   abbrev pub ticks_left : ℕ → ℕ → Option (Item T) → Option (Item T) → List Tick → List Tick
-  ticks_left due before at_before at_after ticks = cond (is_due due at_after) ticks (cond (is_due due at_before) (set_tick due before ticks) (drop_tick due ticks))
+  ticks_left due before at_before at_after ticks =
+      cond (is_due due at_after) ticks (cond (is_due due at_before) (set_tick due before ticks) (drop_tick due ticks))

@@ -1,6 +1,7 @@
 -- What a pool keeps: the nodes that hold items, in a ring of all by due tick and in one for each channel, in the order of the
 -- items' numbers; and the nodes that hold none.
-use Rattle.std.specs.Prelude.{◌≡◌, ◌==◌, ℕ, zero, suc, Bool, true, false, nat_lt, cond, List, [], ◌∷◌, ◌++◌, length, filter, filter_map, slice_get, Option, None, Some, IsSome}
+use Rattle.std.specs.Prelude.{◌≡◌, ◌==◌, ℕ, zero, suc, Bool, true, false, nat_lt, cond, List, [], ◌∷◌, ◌++◌, length, filter, filter_map, slice_get, Option}
+use Rattle.std.specs.Prelude.{None, Some, IsSome}
 use Rattle.std.specs.List.{AllByRecursion, IsDistinct}
 use Rattle.mn_flight.specs.declared.Item.{Item}
 use Rattle.mn_flight.specs.Flying.{IsFlight}

@@ -4,14 +4,14 @@
 #![tactic(auto)]
 
 #[cfg(test)]
-mod calls;
+mod calls; // calls on any flight, and forty of them with answers by hand
 #[cfg(test)]
-mod flight;
+mod flight; // these forty on the plain list
 #[cfg(test)]
-mod flight_pool;
+mod flight_pool; // these forty on the pool, and three thousand on both
 #[cfg(test)]
-mod net_tally;
+mod net_tally; // the counts of a topology at its start
 #[cfg(test)]
-mod transit;
+mod transit; // packets over two links
 #[cfg(test)]
-mod transport;
+mod transport; // a site that is detached and attached anew

@@ -1,5 +1,6 @@
 -- Calls of a flight, as the list of what flies sees them.
-use Rattle.std.proofs.Common.{ℕ, ◌≡◌, ◌≢◌, ◌+◌, ◌*◌, ◌<◌, inl, inr, Bool, true, false, cond, List, [], ◌∷◌, ◌++◌, refl, arith, sym, ◌∙◌, ap, subst, Some, None, filter, Option, ◌≤◌}
+use Rattle.std.proofs.Common.{ℕ, ◌≡◌, ◌≢◌, ◌+◌, ◌*◌, ◌<◌, inl, inr, Bool, true, false, cond, List, [], ◌∷◌, ◌++◌, refl, arith, sym, ◌∙◌, ap, subst, Some, None}
+use Rattle.std.proofs.Common.{filter, Option, ◌≤◌}
 use Rattle.std.specs.Prelude.{◌==◌, ◌&&◌, not, slice_get, option_map, nat_lt, nat_le}
 use Rattle.std.specs.List.{AllByRecursion}
 use Rattle.std.proofs.lemmas.Bool.Decides.{eqb_tells}
@@ -54,13 +55,15 @@ off : (b : Bool) → (b && false) ≡ false
 off true = refl
 off false = refl
 
-by_parts : (k l : ℕ) (one dir : Dir) → (channel k one == channel l dir) ≡ flies_on l dir (record { link = k; dir = one; advert = record { origin = 0; number = 0; links = [] } })
+by_parts : (k l : ℕ) (one dir : Dir) →
+    (channel k one == channel l dir) ≡ flies_on l dir (record { link = k; dir = one; advert = record { origin = 0; number = 0; links = [] } })
 by_parts k l Forth Forth = same_side k l (k == l) refl ∙ sym (and_true (k == l))
 by_parts k l Back Back = odd_side k l (k == l) refl ∙ sym (and_true (k == l))
 by_parts k l Forth Back = tests (2 * k) (2 * l + 1) ((k == l) && false) (λ q. absurd (no (sym (off (k == l)) ∙ q))) (λ q e. even_apart k l e)
 by_parts k l Back Forth = tests (2 * k + 1) (2 * l) ((k == l) && false) (λ q. absurd (no (sym (off (k == l)) ∙ q))) (λ q e. even_apart l k (sym e))
 
-whatever : (l : ℕ) (dir : Dir) (sent : Sent) → flies_on l dir (record { link = sent.link; dir = sent.dir; advert = record { origin = 0; number = 0; links = [] } }) ≡ flies_on l dir sent
+whatever : (l : ℕ) (dir : Dir) (sent : Sent) →
+    flies_on l dir (record { link = sent.link; dir = sent.dir; advert = record { origin = 0; number = 0; links = [] } }) ≡ flies_on l dir sent
 whatever l Forth sent = refl
 whatever l Back sent = refl
 
@@ -75,7 +78,8 @@ sent_of item = item.item
 pub first_is : (made l : ℕ) (dir : Dir) (items : List (Item Sent)) → AllByRecursion (IsInPlace made) items →
     option_map sent_of (slice_get (on_channel (channel l dir) items) 0) ≡ first_on l dir (sents_of items)
 first_is made l dir [] h = refl
-first_is made l dir (x ∷ items) h = by (flies_on l dir x.item) (x.channel == channel l dir) (on_its_channel made l dir x h.0) refl (first_is made l dir items h.1)
+first_is made l dir (x ∷ items) h =
+    by (flies_on l dir x.item) (x.channel == channel l dir) (on_its_channel made l dir x h.0) refl (first_is made l dir items h.1)
   where
     by : (b c : Bool) → c ≡ flies_on l dir x.item → flies_on l dir x.item ≡ b →
         option_map sent_of (slice_get (on_channel (channel l dir) items) 0) ≡ first_on l dir (sents_of items) →
@@ -124,7 +128,8 @@ left_is links made l dir items (Some x) h e = one_left made l dir items x h.each
 
 -- 3. What stays is in its place
 
-pub all_without : (made : ℕ) (items : List (Item Sent)) (taken : Option (Item Sent)) → AllByRecursion (IsInPlace made) items → AllByRecursion (IsInPlace made) (without taken items)
+pub all_without : (made : ℕ) (items : List (Item Sent)) (taken : Option (Item Sent)) → AllByRecursion (IsInPlace made) items →
+    AllByRecursion (IsInPlace made) (without taken items)
 all_without made items None h = h
 all_without made items (Some x) h = all_filter (IsInPlace made) (λ item. not (item.number == x.number)) items h
 
@@ -140,7 +145,8 @@ all_later : (made : ℕ) (items : List (Item Sent)) (x : Item Sent) → AllByRec
 all_later made [] x h g = (g, tt)
 all_later made (y ∷ items) x h g = (later made y h.0, all_later made items x h.1 g)
 
-pub sending_more : (links made channels c : ℕ) (items new : List (Item Sent)) (sent : Sent) → IsSending links made items → channels ≡ 2 * links → IsFlight channels new →
+pub sending_more : (links made channels c : ℕ) (items new : List (Item Sent)) (sent : Sent) → IsSending links made items → channels ≡ 2 * links →
+    IsFlight channels new →
     c ≡ channel sent.link sent.dir → new ≡ items ++ record { channel = c; due = 0; number = made; item = sent } ∷ [] → IsSending links (made + 1) new
 sending_more links made channels c items new sent h all f e g =
     record {
@@ -148,10 +154,12 @@ sending_more links made channels c items new sent h all f e g =
       each = subst (AllByRecursion (IsInPlace (made + 1))) (sym g) (all_later made items _ h.each (record { channel = e; due = refl; number = omega arith }));
     }
 
-pub sending_less : (links made channels : ℕ) (new : List (Item Sent)) → channels ≡ 2 * links → IsFlight channels new → AllByRecursion (IsInPlace made) new → IsSending links made new
+pub sending_less : (links made channels : ℕ) (new : List (Item Sent)) → channels ≡ 2 * links → IsFlight channels new → AllByRecursion (IsInPlace made) new →
+    IsSending links made new
 sending_less links made channels new all f each = record { flight = subst (λ n. IsFlight n new) all f; each = each }
 
-first_sent : (items : List (Item Sent)) → option_map way_of (slice_get (sents_of items) 0) ≡ option_map (λ (item : Item Sent). way_of item.item) (slice_get items 0)
+first_sent : (items : List (Item Sent)) →
+    option_map way_of (slice_get (sents_of items) 0) ≡ option_map (λ (item : Item Sent). way_of item.item) (slice_get items 0)
 first_sent [] = refl
 first_sent (x ∷ items) = refl
 
@@ -187,13 +195,17 @@ off_link made l (x ∷ items) h =
         sents_of (off_channel (channel l Back) (off_channel (channel l Forth) items)) ≡ filter (λ sent. not (sent.link == l)) (sents_of items) →
         sents_of (off_channel (channel l Back) (cond (not b) (x ∷ off_channel (channel l Forth) items) (off_channel (channel l Forth) items)))
         ≡ cond d (x.item ∷ filter (λ sent. not (sent.link == l)) (sents_of items)) (filter (λ sent. not (sent.link == l)) (sents_of items))
-    by true c d e q f = f ∙ ap (λ k. cond k (x.item ∷ filter (λ sent. not (sent.link == l)) (sents_of items)) (filter (λ sent. not (sent.link == l)) (sents_of items))) q
+    by true c d e q f = f ∙ ap (λ k. cond k (x.item ∷ filter (λ sent. not (sent.link == l)) (sents_of items))
+        (filter (λ sent. not (sent.link == l)) (sents_of items))) q
     by false true d e q f =
-        ap (λ k. sents_of (cond (not k) (x ∷ off_channel (channel l Back) (off_channel (channel l Forth) items)) (off_channel (channel l Back) (off_channel (channel l Forth) items)))) e
+        ap (λ k. sents_of (cond (not k) (x ∷ off_channel (channel l Back) (off_channel (channel l Forth) items))
+        (off_channel (channel l Back) (off_channel (channel l Forth) items)))) e
         ∙ f ∙ ap (λ k. cond k (x.item ∷ filter (λ sent. not (sent.link == l)) (sents_of items)) (filter (λ sent. not (sent.link == l)) (sents_of items))) q
     by false false d e q f =
-        ap (λ k. sents_of (cond (not k) (x ∷ off_channel (channel l Back) (off_channel (channel l Forth) items)) (off_channel (channel l Back) (off_channel (channel l Forth) items)))) e
-        ∙ ap (λ ss. x.item ∷ ss) f ∙ ap (λ k. cond k (x.item ∷ filter (λ sent. not (sent.link == l)) (sents_of items)) (filter (λ sent. not (sent.link == l)) (sents_of items))) q
+        ap (λ k. sents_of (cond (not k) (x ∷ off_channel (channel l Back) (off_channel (channel l Forth) items))
+        (off_channel (channel l Back) (off_channel (channel l Forth) items)))) e
+        ∙ ap (λ ss. x.item ∷ ss) f ∙ ap (λ k. cond k (x.item ∷ filter (λ sent. not (sent.link == l)) (sents_of items))
+        (filter (λ sent. not (sent.link == l)) (sents_of items))) q
 
 -- 5. The item that was sent first of all is the earliest
 
@@ -224,4 +236,5 @@ earliest_of links made (x ∷ items) h = earliest_is (2 * links) 0 (x ∷ items)
 
 pub first_way : (links made : ℕ) (items : List (Item Sent)) (found : Option (Item Sent)) → IsSending links made items → found ≡ earliest 0 items →
     option_map way_of (slice_get (sents_of items) 0) ≡ option_map (λ (item : Item Sent). way_of item.item) found
-first_way links made items found h e = first_sent items ∙ ap (option_map (λ (item : Item Sent). way_of item.item)) (sym (earliest_of links made items h) ∙ sym e)
+first_way links made items found h e = first_sent items ∙ ap (option_map (λ (item : Item Sent). way_of item.item)) (sym (earliest_of links made items h)
+    ∙ sym e)

@@ -1,5 +1,6 @@
 -- What is sent, one advert after another.
-use Rattle.std.proofs.Common.{ℕ, zero, suc, ◌≡◌, ◌+◌, ◌<◌, ◌≤◌, Bool, true, false, cond, List, [], ◌∷◌, ◌++◌, map, filter, length, get_or, take, Option, Some, None}
+use Rattle.std.proofs.Common.{ℕ, zero, suc, ◌≡◌, ◌+◌, ◌<◌, ◌≤◌, Bool, true, false, cond, List, [], ◌∷◌, ◌++◌, map, filter, length, get_or, take, Option, Some}
+use Rattle.std.proofs.Common.{None}
 use Rattle.std.proofs.Common.{refl, arith, sym, ◌∙◌, ap, append_assoc, length-append}
 use Rattle.std.specs.Prelude.{◌==◌, ◌&&◌, ◌||◌, not}
 use Rattle.std.specs.List.{list_any}
@@ -23,7 +24,8 @@ none_sent q = ap (λ s. queued q.links s (q.made + 0)) (append-nil q.sents) ∙ 
 pub sent_again : (q : Queued) (xs ys : List Sent) → with_sents (with_sents q xs) ys ≡ with_sents q (xs ++ ys)
 sent_again q xs ys =
     ap (λ s. queued q.links s (q.made + length xs + length ys)) (append_assoc q.sents xs ys)
-    ∙ ap (queued q.links (q.sents ++ (xs ++ ys))) (let e : q.made + length xs + length ys ≡ q.made + length (xs ++ ys) = omega (arith, length-append xs ys) in e)
+    ∙ ap (queued q.links (q.sents ++ (xs ++ ys)))
+    (let e : q.made + length xs + length ys ≡ q.made + length (xs ++ ys) = omega (arith, length-append xs ys) in e)
 
 one_filtered : (p : ℕ → Bool) (b : Bool) (l : ℕ) → filter p (cond b (l ∷ []) []) ≡ cond (b && p l) (l ∷ []) []
 one_filtered p true l = refl
@@ -32,7 +34,8 @@ one_filtered p false l = refl
 -- 2. The links at a node that are up
 
 pub up_more : (up : View) (links : List LinkNo) (k : ℕ) (d : LinkNo) → k < length links →
-    filter (is_up up) (numbers_of (take (k + 1) links)) ≡ filter (is_up up) (numbers_of (take k links)) ++ cond (is_up up (get_or links k d).0) ((get_or links k d).0 ∷ []) []
+    filter (is_up up) (numbers_of (take (k + 1) links)) ≡ filter (is_up up) (numbers_of (take k links)) ++ cond (is_up up (get_or links k d).0)
+    ((get_or links k d).0 ∷ []) []
 up_more up links k d h =
     ap (λ ls. filter (is_up up) (numbers_of ls)) (take_more links k d h)
     ∙ ap (filter (is_up up)) (map-append (λ (l : LinkNo). l.0) (take k links) (get_or links k d ∷ []))
@@ -43,17 +46,20 @@ abbrev pub onward : View → ℕ → List LinkNo → List ℕ
 onward up but links = filter (λ other. not (other == but)) (filter (is_up up) (numbers_of links))
 
 onward_more : (up : View) (but : ℕ) (links : List LinkNo) (k : ℕ) (d : LinkNo) → k < length links →
-    onward up but (take (k + 1) links) ≡ onward up but (take k links) ++ cond (is_up up (get_or links k d).0 && not ((get_or links k d).0 == but)) ((get_or links k d).0 ∷ []) []
+    onward up but (take (k + 1) links) ≡ onward up but (take k links) ++ cond (is_up up (get_or links k d).0 && not ((get_or links k d).0 == but))
+    ((get_or links k d).0 ∷ []) []
 onward_more up but links k d h =
     ap (filter (λ other. not (other == but))) (up_more up links k d h)
-    ∙ filter-append (λ other. not (other == but)) (filter (is_up up) (numbers_of (take k links))) (cond (is_up up (get_or links k d).0) ((get_or links k d).0 ∷ []) [])
+    ∙ filter-append (λ other. not (other == but)) (filter (is_up up) (numbers_of (take k links)))
+    (cond (is_up up (get_or links k d).0) ((get_or links k d).0 ∷ []) [])
     ∙ ap (λ ls. onward up but (take k links) ++ ls) (one_filtered (λ other. not (other == but)) (is_up up (get_or links k d).0) (get_or links k d).0)
 
 module _ (wiring : Wiring) (node : ℕ) (advert : Advert) (up : View) (but : ℕ) where
   abbrev pub all_sent : List LinkNo → List Sent
   all_sent links = map (sent_over wiring node advert) (onward up but links)
 
-  sent_more : (links : List LinkNo) (k : ℕ) (d : LinkNo) (b : Bool) → k < length links → (is_up up (get_or links k d).0 && not ((get_or links k d).0 == but)) ≡ b →
+  sent_more : (links : List LinkNo) (k : ℕ) (d : LinkNo) (b : Bool) → k < length links →
+      (is_up up (get_or links k d).0 && not ((get_or links k d).0 == but)) ≡ b →
       all_sent (take k links) ++ cond b (sent_over wiring node advert (get_or links k d).0 ∷ []) [] ≡ all_sent (take (k + 1) links)
   sent_more links k d b h e =
       ap (λ ls. all_sent (take k links) ++ ls) (mapped b)
@@ -61,13 +67,15 @@ module _ (wiring : Wiring) (node : ℕ) (advert : Advert) (up : View) (but : ℕ
       ∙ ap (λ c. map (sent_over wiring node advert) (onward up but (take k links) ++ cond c ((get_or links k d).0 ∷ []) [])) (sym e)
       ∙ ap (map (sent_over wiring node advert)) (sym (onward_more up but links k d h))
     where
-      mapped : (b : Bool) → cond b (sent_over wiring node advert (get_or links k d).0 ∷ []) [] ≡ map (sent_over wiring node advert) (cond b ((get_or links k d).0 ∷ []) [])
+      mapped : (b : Bool) → cond b (sent_over wiring node advert (get_or links k d).0 ∷ []) [] ≡ map (sent_over wiring node advert)
+          (cond b ((get_or links k d).0 ∷ []) [])
       mapped true = refl
       mapped false = refl
 
   -- over one link more
   pub goes_on : (first now new : Queued) (links : List LinkNo) (k : ℕ) (d : LinkNo) → k < length links → now ≡ with_sents first (all_sent (take k links)) →
-      (is_up up (get_or links k d).0 && not ((get_or links k d).0 == but)) ≡ true → new ≡ with_sents now (sent_over wiring node advert (get_or links k d).0 ∷ []) →
+      (is_up up (get_or links k d).0 && not ((get_or links k d).0 == but)) ≡ true →
+      new ≡ with_sents now (sent_over wiring node advert (get_or links k d).0 ∷ []) →
       new ≡ with_sents first (all_sent (take (k + 1) links))
   goes_on first now new links k d h e b f =
       f ∙ ap (λ q. with_sents q (sent_over wiring node advert (get_or links k d).0 ∷ [])) e
@@ -80,7 +88,8 @@ module _ (wiring : Wiring) (node : ℕ) (advert : Advert) (up : View) (but : ℕ
       e ∙ ap (with_sents first) (sym (append-nil (all_sent (take k links))) ∙ sent_more links k d false h b)
 
   -- over all of them
-  pub sent_on : (first now : Queued) (links : List LinkNo) (k : ℕ) → length links ≤ k → now ≡ with_sents first (all_sent (take k links)) → numbers_of links ≡ links_at wiring node →
+  pub sent_on : (first now : Queued) (links : List LinkNo) (k : ℕ) → length links ≤ k → now ≡ with_sents first (all_sent (take k links)) →
+      numbers_of links ≡ links_at wiring node →
       now ≡ with_sents first (map (sent_over wiring node advert) (others_up wiring up node but))
   sent_on first now links k h e f =
       e ∙ ap (λ ls. with_sents first (all_sent ls)) (take_all k links h)
@@ -130,13 +139,15 @@ module _ (wiring : Wiring) (node l : ℕ) where
       one None = refl
       one (Some advert) = refl
 
-  pub one_sent : (first now new : Queued) (row : List (Option Advert)) (k : ℕ) (d : Option Advert) (advert : Advert) → k < length row → now ≡ with_sents first (over_it (take k row)) →
+  pub one_sent : (first now new : Queued) (row : List (Option Advert)) (k : ℕ) (d : Option Advert) (advert : Advert) → k < length row →
+      now ≡ with_sents first (over_it (take k row)) →
       get_or row k d ≡ Some advert → new ≡ with_sents now (sent_over wiring node advert l ∷ []) → new ≡ with_sents first (over_it (take (k + 1) row))
   one_sent first now new row k d advert h e f g =
       g ∙ ap (λ q. with_sents q (sent_over wiring node advert l ∷ [])) e ∙ sent_again first (over_it (take k row)) (sent_over wiring node advert l ∷ [])
       ∙ ap (with_sents first) (sym (over_more row k d (Some advert) h f))
 
-  pub no_one_sent : (first now : Queued) (row : List (Option Advert)) (k : ℕ) (d : Option Advert) → k < length row → now ≡ with_sents first (over_it (take k row)) →
+  pub no_one_sent : (first now : Queued) (row : List (Option Advert)) (k : ℕ) (d : Option Advert) → k < length row →
+      now ≡ with_sents first (over_it (take k row)) →
       get_or row k d ≡ None → now ≡ with_sents first (over_it (take (k + 1) row))
   no_one_sent first now row k d h e f = e ∙ ap (with_sents first) (sym (append-nil (over_it (take k row))) ∙ sym (over_more row k d None h f))
 
@@ -149,7 +160,8 @@ module _ (wiring : Wiring) (node l : ℕ) where
 
 -- 4. How many were sent
 
-pub still_room : (first now : Queued) (sents : List Sent) (most n : ℕ) → now ≡ with_sents first sents → length sents ≤ most → first.made + most < n → now.made < n
+pub still_room : (first now : Queued) (sents : List Sent) (most n : ℕ) → now ≡ with_sents first sents → length sents ≤ most → first.made + most < n →
+    now.made < n
 still_room first now sents most n e few room = omega (arith, ap (λ (q : Queued). q.made) e, few, room)
 
 pub few_more : (first now : Queued) (sents : List Sent) (most : ℕ) → now ≡ with_sents first sents → length sents ≤ most → now.made ≤ first.made + most

@@ -12,7 +12,8 @@ use Rattle.mn_flood.proofs.Worlds.{own_changed, own_heard}
 
 module _ (wiring : Wiring) (world : FloodWorld) (done made : ℕ) (wired : IsWired wiring) (sound : IsSound wiring world done made) (few : done ≤ most_steps)
     (l : ℕ) (within : l < length wiring.ends) where
-  pub sound_changed : (up : Bool) (w : Wiring) (new : FloodWorld) (sent : ℕ) → w ≡ wiring → new ≡ changed wiring world l up → sent ≤ made + 2560 → IsSound w new (done + 1) sent
+  pub sound_changed : (up : Bool) (w : Wiring) (new : FloodWorld) (sent : ℕ) → w ≡ wiring → new ≡ changed wiring world l up → sent ≤ made + 2560 →
+      IsSound w new (done + 1) sent
   sound_changed up w new sent e f g = subst (λ v. IsSound v new (done + 1) sent) (sym e) (subst (λ n. IsSound wiring n (done + 1) sent) (sym f) (record {
     flood = changed_keeps wiring wired.joins wired.differ world sound.flood l within up;
     own = λ node h. omega (arith, own_changed wiring wired.joins wired.differ world sound.flood l within up node, sound.own node h);
@@ -20,7 +21,8 @@ module _ (wiring : Wiring) (world : FloodWorld) (done made : ℕ) (wired : IsWir
     sent = omega (arith, g, sound.sent);
   }))
 
-  pub sound_heard : (dir : Dir) (first : Sent) (w : Wiring) (new : FloodWorld) (sent : ℕ) → first_on l dir world.flying ≡ Some first → w ≡ wiring → new ≡ heard wiring world l dir → sent ≤ made + 1024 →
+  pub sound_heard : (dir : Dir) (first : Sent) (w : Wiring) (new : FloodWorld) (sent : ℕ) → first_on l dir world.flying ≡ Some first → w ≡ wiring →
+      new ≡ heard wiring world l dir → sent ≤ made + 1024 →
       IsSound w new (done + 1) sent
   sound_heard dir first w new sent q e f g = subst (λ v. IsSound v new (done + 1) sent) (sym e) (subst (λ n. IsSound wiring n (done + 1) sent) (sym f) (record {
     flood = heard_keeps wiring wired.joins wired.differ world sound.flood l within dir;

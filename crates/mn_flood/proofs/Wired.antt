@@ -1,5 +1,6 @@
 -- A topology's links, and the lists of those at each node.
-use Rattle.std.proofs.Common.{ℕ, zero, suc, ◌≡◌, ◌≢◌, ◌+◌, ◌<◌, ◌≤◌, inl, inr, Bool, true, false, cond, List, [], ◌∷◌, ◌++◌, map, filter, length, get_or, set, replicate}
+use Rattle.std.proofs.Common.{ℕ, zero, suc, ◌≡◌, ◌≢◌, ◌+◌, ◌<◌, ◌≤◌, inl, inr, Bool, true, false, cond, List, [], ◌∷◌, ◌++◌, map, filter, length, get_or, set}
+use Rattle.std.proofs.Common.{replicate}
 use Rattle.std.proofs.Common.{refl, arith, sym, ◌∙◌, ap, subst, get_or-set_same, get_or-set_other}
 use Rattle.std.specs.Prelude.{◌==◌, ◌||◌, All}
 use Rattle.std.specs.List.{range_with_len}
@@ -58,7 +59,8 @@ pub loopbacks_again : (loopbacks : List ℕ) → map (λ (node : Node). node.loo
 loopbacks_again [] = refl
 loopbacks_again (x ∷ xs) = ap (λ ys. x ∷ ys) (loopbacks_again xs)
 
-pub wiring_again : (t : Network) (loopbacks : List ℕ) (ends : List LinkEnds) (nodes : List Node) → nodes ≡ nodes_with t.loopbacks → loopbacks ≡ map (λ (node : Node). node.loopback) nodes →
+pub wiring_again : (t : Network) (loopbacks : List ℕ) (ends : List LinkEnds) (nodes : List Node) → nodes ≡ nodes_with t.loopbacks →
+    loopbacks ≡ map (λ (node : Node). node.loopback) nodes →
     ends ≡ t.links → record { loopbacks = loopbacks; ends = ends } ≡ wiring_of t
 wiring_again t loopbacks ends nodes n l e =
     ap (λ ls. record { loopbacks = ls; ends = ends }) (l ∙ ap (map (λ (node : Node). node.loopback)) n ∙ loopbacks_again t.loopbacks)
@@ -71,7 +73,8 @@ pub record AreBelow (wiring : Wiring) (k : ℕ) (lists : List (List LinkNo)) : T
   pub one_each : length lists ≡ length wiring.loopbacks
   pub at : (node : ℕ) → node < length wiring.loopbacks → numbers_of (get_or lists node []) ≡ filter (λ l. is_end wiring l node) (range_with_len 0 k)
 
-pub none_below : (wiring : Wiring) (lists : List (List LinkNo)) (count : ℕ) → lists ≡ replicate count [] → count ≡ length wiring.loopbacks → AreBelow wiring 0 lists
+pub none_below : (wiring : Wiring) (lists : List (List LinkNo)) (count : ℕ) → lists ≡ replicate count [] → count ≡ length wiring.loopbacks →
+    AreBelow wiring 0 lists
 none_below wiring lists count e q = record {
   one_each = ap (λ (ls : List (List LinkNo)). length ls) e ∙ length-replicate count _ ∙ q;
   at = λ node h. ap (λ (ls : List (List LinkNo)). numbers_of (get_or ls node [])) e ∙ ap numbers_of (get_or-replicate count node [] [] (omega (arith, h, q)));
@@ -91,12 +94,14 @@ one_more p k =
     ∙ ap (filter p) (range_more 0 k ∙ ap (λ n. range_with_len 0 k ++ n ∷ []) (let e : 0 + k ≡ k = omega arith in e))
     ∙ filter-append p (range_with_len 0 k) (k ∷ [])
 
-put_here : (lists : List (List LinkNo)) (m k : ℕ) → m < length lists → numbers_of (get_or (put lists m (record { 0 = k })) m []) ≡ numbers_of (get_or lists m []) ++ k ∷ []
+put_here : (lists : List (List LinkNo)) (m k : ℕ) → m < length lists →
+    numbers_of (get_or (put lists m (record { 0 = k })) m []) ≡ numbers_of (get_or lists m []) ++ k ∷ []
 put_here lists m k h =
     ap numbers_of (get_or-set_same lists m (get_or lists m [] ++ record { 0 = k } ∷ []) [] h)
     ∙ map-append (λ (l : LinkNo). l.0) (get_or lists m []) (record { 0 = k } ∷ [])
 
-put_there : (lists : List (List LinkNo)) (m node k : ℕ) → node ≢ m → numbers_of (get_or (put lists m (record { 0 = k })) node []) ≡ numbers_of (get_or lists node [])
+put_there : (lists : List (List LinkNo)) (m node k : ℕ) → node ≢ m →
+    numbers_of (get_or (put lists m (record { 0 = k })) node []) ≡ numbers_of (get_or lists node [])
 put_there lists m node k apart = ap numbers_of (get_or-set_other lists m node (get_or lists m [] ++ record { 0 = k } ∷ []) [] apart)
 
 neither : (a b node : ℕ) → node ≢ a → node ≢ b → ((a == node) || (b == node)) ≡ false
@@ -108,7 +113,8 @@ neither a b node h g = elim (eqb_tells a node) [
   ]
 ]
 
-module _ (wiring : Wiring) (k a b : ℕ) (is_a : a ≡ (link wiring k).a.0) (is_b : b ≡ (link wiring k).b.0) (differ : a ≢ b) (lists : List (List LinkNo)) (below : AreBelow wiring k lists)
+module _ (wiring : Wiring) (k a b : ℕ) (is_a : a ≡ (link wiring k).a.0) (is_b : b ≡ (link wiring k).b.0) (differ : a ≢ b) (lists : List (List LinkNo))
+    (below : AreBelow wiring k lists)
     (a_there : a < length lists) (b_there : b < length lists) where
   abbrev once : List (List LinkNo)
   once = put lists a (record { 0 = k })
@@ -155,7 +161,8 @@ module _ (wiring : Wiring) (k a b : ℕ) (is_a : a ≡ (link wiring k).a.0) (is_
     at = at_node;
   }
 
-pub all_below : (wiring : Wiring) (k : ℕ) (lists : List (List LinkNo)) → IsWired wiring → k ≡ length wiring.ends → AreBelow wiring k lists → AreLinks wiring lists
+pub all_below : (wiring : Wiring) (k : ℕ) (lists : List (List LinkNo)) → IsWired wiring → k ≡ length wiring.ends → AreBelow wiring k lists →
+    AreLinks wiring lists
 all_below wiring k lists w e below = record {
   wired = w;
   one_each = below.one_each;
@@ -176,7 +183,8 @@ within_all wiring node links e k d h = (node_at wiring (get_or links k d).0 node
     number_in (x ∷ xs) zero d h = inl refl
     number_in (x ∷ xs) (suc k) d h = inr (number_in xs k d (omega (arith, h)))
 
-pub links_within : (wiring : Wiring) (node : ℕ) (links : List LinkNo) → numbers_of links ≡ links_at wiring node → All (λ (l : LinkNo). l.0 < length wiring.ends) links
+pub links_within : (wiring : Wiring) (node : ℕ) (links : List LinkNo) → numbers_of links ≡ links_at wiring node →
+    All (λ (l : LinkNo). l.0 < length wiring.ends) links
 links_within wiring node links e = within_all wiring node links e
 
 pub links_few : (wiring : Wiring) (node : ℕ) (links : List LinkNo) → numbers_of links ≡ links_at wiring node → length links ≤ length wiring.ends

@@ -8,7 +8,7 @@ use mn_wiring::Dir;
 use std::alloc::{AllocError, Global};
 use std::marker::Model;
 
-/// The links of a node that were up, as it said them the number-th time.
+/// The links of a node that were up, as it advertised them the number-th time.
 #[derive(Drop)]
 pub(crate) struct Advert {
     pub(crate) origin: NodeNo,

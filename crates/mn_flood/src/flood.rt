@@ -92,7 +92,7 @@ impl Flood {
         Ok(())
     }
 
-    /// The advert that was sent first of those that fly in a direction is heard by the receiver: it is kept and sent on over the
+    /// The advert that was sent first of those that fly in a direction is received by the receiver: it is kept and sent on over the
     /// receiver's other links that are up if it is newer than what the receiver has of its origin, and else passed over.
     ///
     /// `NoMemory` where memory was refused before; else `Empty` where none flies in the direction.

@@ -26,7 +26,7 @@ mod database;
 mod flood;
 mod links;
 mod queue;
-mod refusal;
+mod refusal; // why an event is refused
 mod sending;
 mod view;
 mod world;

@@ -9,7 +9,7 @@ pub enum FloodBad {
     /// A link is to change while 100,000 adverts fly, or more.
     #[error("too many adverts in flight")]
     FloodFull,
-    /// An advert is to be heard where none flies.
+    /// An advert is to be received where none flies.
     #[error("no advert flies in this direction")]
     Empty,
     /// Memory was refused, in this call or an earlier one.

@@ -33,7 +33,7 @@ fn send_over(
     queue.send(sent)
 }
 
-/// A node sends an advert over each of its links that are up, but for one. An `Err` is want of memory, after some of them.
+/// A node sends an advert over each of its links that are up, but for one. An `Err` means out of memory, after some of them.
 pub(crate) fn send_on(
     alloc: Global,
     queue: &mut Queue,
@@ -59,7 +59,7 @@ pub(crate) fn send_on(
     Ok(())
 }
 
-/// A node sends all adverts that it has over a link. An `Err` is want of memory, after some of them.
+/// A node sends all adverts that it has over a link. An `Err` means out of memory, after some of them.
 pub(crate) fn send_all(
     alloc: Global,
     queue: &mut Queue,

@@ -142,7 +142,7 @@ impl World {
     }
 
     /// The receiver of a direction takes an advert in that came over it: it keeps it and sends it on if it is news, else passes
-    /// it over. An `Err` is want of memory, after some sends.
+    /// it over. An `Err` means out of memory, after some sends.
     pub(crate) fn take_in(
         &mut self,
         alloc: Global,
@@ -216,7 +216,7 @@ impl World {
     }
 
     /// An end of a link that changed sends what it has to: all over the link if it came up, and its own new advert over its
-    /// other links that are up. An `Err` is want of memory, after some sends.
+    /// other links that are up. An `Err` means out of memory, after some sends.
     fn send(
         &mut self,
         alloc: Global,

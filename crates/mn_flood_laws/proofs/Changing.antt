@@ -1,5 +1,6 @@
 -- A link comes up or goes down.
-use Rattle.std.proofs.Common.{ℕ, zero, suc, ◌≡◌, ◌≢◌, ◌<◌, ◌≤◌, ◌⊎◌, inl, inr, Bool, true, false, cond, List, [], ◌∷◌, ◌++◌, map, length, get_or, Some, None, Option, Contains, filter}
+use Rattle.std.proofs.Common.{ℕ, zero, suc, ◌≡◌, ◌≢◌, ◌<◌, ◌≤◌, ◌⊎◌, inl, inr, Bool, true, false, cond, List, [], ◌∷◌, ◌++◌, map, length, get_or, Some, None}
+use Rattle.std.proofs.Common.{Option, Contains, filter}
 use Rattle.std.proofs.Common.{refl, arith, sym, ◌∙◌, ap, subst, get_or-set_same, get_or-set_other, length-set}
 use Rattle.std.specs.Prelude.{◌==◌, not}
 use Rattle.std.proofs.lemmas.Bool.Decides.{eqb_tells}
@@ -8,7 +9,8 @@ use Rattle.mn_base.proofs.Members.{In, in_contained, contained_in, in_append, in
 use Rattle.mn_wiring.specs.Wiring.{Wiring, is_up, link, is_end, links_at, sender, receiver, JoinsNodes, EndsDiffer}
 use Rattle.mn_wiring.specs.declared.links.Dir.{Dir}
 use Rattle.mn_wiring.specs.declared.links.Dir.TheVariants.{Forth, Back}
-use Rattle.mn_flood_laws.specs.Flood.{Advert, Sent, FloodWorld, has, keep, age, away, sent_over, others_up, adverts_in, adverts_of, renewal, sends, turned, renewed, changed}
+use Rattle.mn_flood_laws.specs.Flood.{Advert, Sent, FloodWorld, has, keep, age, away, sent_over, others_up, adverts_in, adverts_of, renewal, sends, turned}
+use Rattle.mn_flood_laws.specs.Flood.{renewed, changed}
 use Rattle.mn_flood_laws.specs.Laws.{FliesAsNew, ReachesTheFarEnd, IsCopy, HasItsOwn, IsOnItsWay, IsFlood}
 use Rattle.mn_flood_laws.proofs.Kept.{Elsewhere, here_or_elsewhere, has_kept, has_still, columns_still, rows_still}
 use Rattle.mn_flood_laws.proofs.Ends.{sender_ends, sends_away, among_others, of_others, node_at, away_of}
@@ -228,7 +230,8 @@ module _ (wiring : Wiring) (joins : JoinsNodes wiring) (differ : EndsDiffer wiri
       columns : (x : ℕ) → x < length wiring.loopbacks → length (get_or (renewed wiring now l).kept x []) ≡ length wiring.loopbacks
       columns = columns_still half end_b two row_b (length wiring.loopbacks) half_columns
 
-  sent_own : (x : ℕ) (own : Advert) → IsRenewed x own → (k : ℕ) → In (others_up wiring new_world.up x l) k → IsOnItsWay wiring new_world (sent_over wiring x own k)
+  sent_own : (x : ℕ) (own : Advert) → IsRenewed x own → (k : ℕ) → In (others_up wiring new_world.up x l) k →
+      IsOnItsWay wiring new_world (sent_over wiring x own k)
   sent_own x own r k i = let f = of_others wiring new_world.up l x k i in record {
     link = f.0;
     up = f.2;
@@ -241,10 +244,12 @@ module _ (wiring : Wiring) (joins : JoinsNodes wiring) (differ : EndsDiffer wiri
   abbrev pub all_over : ℕ → Bool → List Sent
   all_over x b = cond b (map (λ advert. sent_over wiring x advert l) (adverts_of (renewed wiring now l) x)) []
 
-  sent_by : (x : ℕ) (own : Advert) → IsRenewed x own → (other : Sent) → In (sends wiring (renewed wiring now l) l up x own) other → IsOnItsWay wiring new_world other
+  sent_by : (x : ℕ) (own : Advert) → IsRenewed x own → (other : Sent) → In (sends wiring (renewed wiring now l) l up x own) other →
+      IsOnItsWay wiring new_world other
   sent_by x own r other i = elim (in_append (all_over x up) (map (sent_over wiring x own) (others_up wiring new_world.up x l)) other i) [
     | inl j ↦ over_it up refl j
-    | inr j ↦ let f = in_map (sent_over wiring x own) (others_up wiring new_world.up x l) other j in subst (IsOnItsWay wiring new_world) f.2 (sent_own x own r f.0 f.1)
+    | inr j ↦ let f = in_map (sent_over wiring x own) (others_up wiring new_world.up x l) other j in subst (IsOnItsWay wiring new_world) f.2
+        (sent_own x own r f.0 f.1)
   ]
     where
       over_it : (b : Bool) → up ≡ b → In (all_over x b) other → IsOnItsWay wiring new_world other
@@ -311,7 +316,8 @@ module _ (wiring : Wiring) (joins : JoinsNodes wiring) (differ : EndsDiffer wiri
   over_the_link x own r which on d e o h (Some advert) q = inr (record {
     sent = sent_over wiring x advert l;
     flies = flies_from x own r which (sent_over wiring x advert l)
-        (in_front (cond up (map (λ z. sent_over wiring x z l) (adverts_of (renewed wiring now l) x)) []) (map (sent_over wiring x own) (others_up wiring new_world.up x l))
+        (in_front (cond up (map (λ z. sent_over wiring x z l) (adverts_of (renewed wiring now l) x)) [])
+        (map (sent_over wiring x own) (others_up wiring new_world.up x l))
         (sent_over wiring x advert l)
         (subst (λ b. In (cond b (map (λ z. sent_over wiring x z l) (adverts_of (renewed wiring now l) x)) []) (sent_over wiring x advert l)) (sym on)
         (map_in (λ z. sent_over wiring x z l) (adverts_of (renewed wiring now l) x) advert (in_adverts (get_or (renewed wiring now l).kept x []) o advert q))));
@@ -327,7 +333,8 @@ module _ (wiring : Wiring) (joins : JoinsNodes wiring) (differ : EndsDiffer wiri
   own_over x own r which k d h u apart e = record {
     sent = sent_over wiring x own k;
     flies = flies_from x own r which (sent_over wiring x own k)
-        (in_rest (cond up (map (λ z. sent_over wiring x z l) (adverts_of (renewed wiring now l) x)) []) (map (sent_over wiring x own) (others_up wiring new_world.up x l))
+        (in_rest (cond up (map (λ z. sent_over wiring x z l) (adverts_of (renewed wiring now l) x)) [])
+        (map (sent_over wiring x own) (others_up wiring new_world.up x l))
         (sent_over wiring x own k)
         (map_in (sent_over wiring x own) (others_up wiring new_world.up x l) k
         (among_others wiring new_world.up l x k h (subst (λ y. is_end wiring k y ≡ true) e (sender_ends wiring k d)) u apart)));

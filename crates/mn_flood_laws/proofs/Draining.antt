@@ -8,20 +8,25 @@ use Rattle.mn_base.proofs.Members.{In, in_contained, contained_in, map_in, in_ma
 use Rattle.mn_wiring.specs.Wiring.{Wiring, is_up, nodes_of, links_at, receiver, JoinsNodes, EndsDiffer}
 use Rattle.mn_wiring.specs.declared.links.Dir.{Dir}
 use Rattle.mn_wiring.specs.declared.links.Dir.TheVariants.{Forth, Back}
-use Rattle.mn_flood_laws.specs.Flood.{Advert, Sent, FloodWorld, has, age, sent_over, others_up, up_at, flies_on, first_on, without_first, is_news, spread, heard_by, heard}
+use Rattle.mn_flood_laws.specs.Flood.{Advert, Sent, FloodWorld, has, age, sent_over, others_up, up_at, flies_on, first_on, without_first, is_news, spread}
+use Rattle.mn_flood_laws.specs.Flood.{heard_by, heard}
 use Rattle.mn_flood_laws.specs.Drain.{hear_first, drained, drain_bound}
 use Rattle.mn_flood_laws.specs.Laws.{IsFlood}
 use Rattle.mn_flood_laws.proofs.Hearing.{news_tells, heard_keeps, now_has, never_older, there}
 use Rattle.mn_flood_laws.proofs.Sums.{sum_of, sum_below, sum_less, sum_most, filter_fewer, links_of_all}
 
--- 1. What is first is heard
+-- 1. What is first is received
 
 flies_itself : (sent : Sent) → flies_on sent.link sent.dir sent ≡ true
 flies_itself sent = by sent.dir refl
   where
     by : (dir : Dir) → sent.dir ≡ dir → flies_on sent.link dir sent ≡ true
-    by Forth e = and_on (sent.link == sent.link) (elim sent.dir [ Forth ↦ true | Back ↦ false ]) (same_test sent.link) (ap (λ d. elim d [ Forth ↦ true | Back ↦ false ]) e)
-    by Back e = and_on (sent.link == sent.link) (elim sent.dir [ Forth ↦ false | Back ↦ true ]) (same_test sent.link) (ap (λ d. elim d [ Forth ↦ false | Back ↦ true ]) e)
+    by Forth e = and_on (sent.link == sent.link) (elim sent.dir [ Forth ↦ true | Back ↦ false ]) (same_test sent.link)
+        (ap (λ d. elim d [ Forth ↦ true | Back ↦ false ]) e)
+    by Back e = and_on (sent.link == sent.link) (elim sent.dir [
+      | Forth ↦ false
+      | Back ↦ true
+    ]) (same_test sent.link) (ap (λ d. elim d [ Forth ↦ false | Back ↦ true ]) e)
 
 is_first : (sent : Sent) (more : List Sent) → first_on sent.link sent.dir (sent ∷ more) ≡ Some sent
 is_first sent more = ap (λ b. cond b (Some sent) (first_on sent.link sent.dir more)) (flies_itself sent)
@@ -56,7 +61,8 @@ module _ (wiring : Wiring) where
           not_both : new < least → least ≤ old → ⊥
           not_both p q = omega (arith, h, p, q)
 
-  module _ (joins : JoinsNodes wiring) (differ : EndsDiffer wiring) (world : FloodWorld) (flood : IsFlood wiring world) (sent : Sent) (within : sent.link < length wiring.ends)
+  module _ (joins : JoinsNodes wiring) (differ : EndsDiffer wiring) (world : FloodWorld) (flood : IsFlood wiring world) (sent : Sent)
+      (within : sent.link < length wiring.ends)
       (first : first_on sent.link sent.dir world.flying ≡ Some sent) (more : List Sent) (split : without_first sent.link sent.dir world.flying ≡ more)
       (counted : length world.flying ≡ suc (length more)) (adverts : List Advert) (among : In adverts sent.advert) where
     abbrev pub hearer : ℕ
@@ -66,10 +72,15 @@ module _ (wiring : Wiring) where
     rest_world = record world { flying = without_first sent.link sent.dir world.flying }
 
     hearer_there : In (nodes_of wiring) hearer
-    hearer_there = range_in 0 (length wiring.loopbacks) hearer (omega arith) (omega (arith, there wiring joins differ world flood sent.link within sent.dir sent first))
+    hearer_there = range_in 0 (length wiring.loopbacks) hearer (omega arith)
+        (omega (arith, there wiring joins differ world flood sent.link within sent.dir sent first))
 
     few : (up_list : ℕ) → length (others_up wiring world.up hearer sent.link) ≤ length (links_at wiring hearer)
-    few n = omega (arith, filter_fewer (λ other. not (other == sent.link)) (up_at wiring world.up hearer), filter_fewer (is_up world.up) (links_at wiring hearer))
+    few n = omega (
+      arith,
+      filter_fewer (λ other. not (other == sent.link)) (up_at wiring world.up hearer),
+      filter_fewer (is_up world.up) (links_at wiring hearer),
+    )
 
     module _ (new : age (has world hearer sent.advert.origin) < age (Some sent.advert)) where
       abbrev pub spread_world : FloodWorld
@@ -84,7 +95,8 @@ module _ (wiring : Wiring) where
       here = omega (
         arith,
         ap (λ b. cond b (length (links_at wiring hearer)) 0) (less_is (age (has world hearer sent.advert.origin)) (age (Some sent.advert)) new),
-        ap (λ o. cond (nat_lt (age o) (age (Some sent.advert))) (length (links_at wiring hearer)) 0) (now_has wiring joins differ world flood sent.link within sent.dir sent first new),
+        ap (λ o. cond (nat_lt (age o) (age (Some sent.advert))) (length (links_at wiring hearer)) 0)
+            (now_has wiring joins differ world flood sent.link within sent.dir sent first new),
         ap (λ b. cond b (length (links_at wiring hearer)) 0) (not_less (age (Some sent.advert)) (age (Some sent.advert)) (omega arith)),
       )
 
@@ -94,7 +106,8 @@ module _ (wiring : Wiring) where
           (never_older wiring joins differ world flood sent.link within sent.dir sent first new x sent.advert.origin)) hearer_there here
 
       all : to_do spread_world adverts + length (links_at wiring hearer) ≤ to_do world adverts
-      all = sum_less (λ advert. sum_of (lack world advert) (nodes_of wiring)) (λ advert. sum_of (lack spread_world advert) (nodes_of wiring)) adverts sent.advert
+      all = sum_less (λ advert. sum_of (lack world advert) (nodes_of wiring)) (λ advert. sum_of (lack spread_world advert) (nodes_of wiring)) adverts
+          sent.advert
           (length (links_at wiring hearer)) (λ advert i. monotone advert) among one
 
       pub less_spread : suc (left spread_world adverts) ≤ left world adverts
@@ -144,7 +157,8 @@ module _ (wiring : Wiring) where
               (is_news (has world (receiver wiring sent.link sent.dir) sent.advert.origin) sent.advert) refl;
           among = among_still joins differ world flood sent within first more split (ap length e) adverts (f sent flies) f
               (is_news (has world (receiver wiring sent.link sent.dir) sent.advert.origin) sent.advert);
-          flood = subst (λ o. IsFlood wiring (heard_by wiring world sent.link sent.dir o)) first (heard_keeps wiring joins differ world flood sent.link within sent.dir);
+          flood = subst (λ o. IsFlood wiring (heard_by wiring world sent.link sent.dir o)) first
+              (heard_keeps wiring joins differ world flood sent.link within sent.dir);
         })
 
     stays : (fuel : ℕ) (world : FloodWorld) → world.flying ≡ [] → (drained fuel wiring world).flying ≡ []
@@ -183,12 +197,14 @@ module _ (wiring : Wiring) where
   product : (f n : ℕ) → f * (1 + n) ≡ f + f * n
   product f n = grind arith
 
-  pub drain_ends : JoinsNodes wiring → EndsDiffer wiring → (world : FloodWorld) → IsFlood wiring world → (drained (drain_bound wiring world) wiring world).flying ≡ []
+  pub drain_ends : JoinsNodes wiring → EndsDiffer wiring → (world : FloodWorld) → IsFlood wiring world →
+      (drained (drain_bound wiring world) wiring world).flying ≡ []
   drain_ends joins differ world flood = ends joins differ (map (λ sent. sent.advert) world.flying) (drain_bound wiring world) world flood
       (λ sent i. map_in (λ s. s.advert) world.flying sent i)
       (omega (
         arith,
-        sum_most (λ advert. sum_of (lack world advert) (nodes_of wiring)) (map (λ sent. sent.advert) world.flying) (2 * length wiring.ends) (λ advert i. at_most world advert),
+        sum_most (λ advert. sum_of (lack world advert) (nodes_of wiring)) (map (λ sent. sent.advert) world.flying) (2 * length wiring.ends)
+            (λ advert i. at_most world advert),
         ap (λ n. n * (2 * length wiring.ends)) (length-map world.flying (λ sent. sent.advert)),
         product (length world.flying) (2 * length wiring.ends),
       ))

@@ -37,9 +37,11 @@ module _ (wiring : Wiring) where
   pub node_at : (l node : ℕ) → In (links_at wiring node) l → (l < length wiring.ends) × (is_end wiring l node ≡ true)
   node_at l node i = let f = in_filter (λ k. is_end wiring k node) (links_of wiring) l i in (omega (arith, (in_range 0 (length wiring.ends) l f.0).1), f.1)
 
-  pub among_others : (up : View) (l node k : ℕ) → k < length wiring.ends → is_end wiring k node ≡ true → is_up up k ≡ true → k ≢ l → In (others_up wiring up node l) k
+  pub among_others : (up : View) (l node k : ℕ) → k < length wiring.ends → is_end wiring k node ≡ true → is_up up k ≡ true → k ≢ l →
+      In (others_up wiring up node l) k
   among_others up l node k h g u apart =
-      filter_in (λ other. not (other == l)) (up_at wiring up node) k (filter_in (is_up up) (links_at wiring node) k (at_node k node h g) u) (unlike (eqb_tells k l))
+      filter_in (λ other. not (other == l)) (up_at wiring up node) k (filter_in (is_up up) (links_at wiring node) k (at_node k node h g) u)
+      (unlike (eqb_tells k l))
     where
       unlike : (((k == l) ≡ true) × (k ≡ l)) ⊎ (((k == l) ≡ false) × (k ≢ l)) → not (k == l) ≡ true
       unlike (inl e) = absurd (apart e.1)
@@ -74,7 +76,8 @@ module _ (wiring : Wiring) where
     ]
 
     -- in the other direction the ends change places
-    pub turned_round : (l : ℕ) (dir one : Dir) → l < length wiring.ends → sender wiring l one ≡ receiver wiring l dir → receiver wiring l one ≡ sender wiring l dir
+    pub turned_round : (l : ℕ) (dir one : Dir) → l < length wiring.ends → sender wiring l one ≡ receiver wiring l dir →
+        receiver wiring l one ≡ sender wiring l dir
     turned_round l Forth Forth h e = absurd (differ l h e)
     turned_round l Forth Back h e = refl
     turned_round l Back Forth h e = refl

@@ -1,4 +1,4 @@
--- A node hears an advert.
+-- A node receives an advert.
 use Rattle.std.proofs.Common.{ℕ, ◌≡◌, ◌≢◌, ◌<◌, ◌≤◌, ◌⊎◌, inl, inr, Bool, true, false, cond, List, [], map, length, get_or, Some, None, Option, Contains}
 use Rattle.std.proofs.Common.{refl, arith, sym, ◌∙◌, ap, subst}
 use Rattle.std.proofs.lemmas.Bool.Decides.{eqb_tells}
@@ -178,9 +178,10 @@ module _ (wiring : Wiring) (joins : JoinsNodes wiring) (differ : EndsDiffer wiri
       | inr s ↦ subst (IsOnItsWay wiring then_world) s.2 (sent_on s.0 s.1)
     ]
 
-    -- the node that heard it: over the link on which it came the other end has it, over another link it flies
+    -- the node that received it: over the link on which it came the other end has it, over another link it flies
     from_node : (k : ℕ) (d : Dir) → k < length wiring.ends → is_up world.up k ≡ true → sender wiring k d ≡ node →
-        (age (has then_world node origin) ≤ age (has then_world (receiver wiring k d) origin)) ⊎ FliesAsNew then_world k d origin (age (has then_world node origin))
+        (age (has then_world node origin) ≤ age (has then_world (receiver wiring k d) origin)) ⊎ FliesAsNew then_world k d origin
+        (age (has then_world node origin))
     from_node k d h u e = elim (eqb_tells k l) [
       | inl q ↦ inl (back (turned_round wiring joins differ l dir d within (subst (λ j. sender wiring j d ≡ node) q.1 e)) q.1)
       | inr q ↦ inr (record {
@@ -234,7 +235,8 @@ module _ (wiring : Wiring) (joins : JoinsNodes wiring) (differ : EndsDiffer wiri
       | inl e ↦
           subst (λ q. (age (has then_world (sender wiring k d) q) ≤ age (has then_world (receiver wiring k d) q))
           ⊎ FliesAsNew then_world k d q (age (has then_world (sender wiring k d) q))) (sym e.1)
-          (subst (λ x. (age (has then_world x origin) ≤ age (has then_world (receiver wiring k d) origin)) ⊎ FliesAsNew then_world k d origin (age (has then_world x origin)))
+          (subst (λ x. (age (has then_world x origin) ≤ age (has then_world (receiver wiring k d) origin)) ⊎ FliesAsNew then_world k d origin
+          (age (has then_world x origin)))
           (sym e.0) (from_node k d h u e.0))
     ]
 
@@ -252,7 +254,8 @@ module _ (wiring : Wiring) (joins : JoinsNodes wiring) (differ : EndsDiffer wiri
     copies_still x o advert h g e = elim (here_or_elsewhere node origin x o) [
       | inr apart ↦ copy_still o advert (flood.copies x o advert h g (sym (has_same x o apart) ∙ e))
       | inl q ↦
-          subst (IsCopy (has then_world o o)) (some_same sent.advert advert (sym now_has ∙ sym (ap (λ y. has then_world y o) q.0 ∙ ap (has then_world node) q.1) ∙ e))
+          subst (IsCopy (has then_world o o)) (some_same sent.advert advert (sym now_has ∙ sym (ap (λ y. has then_world y o) q.0 ∙ ap (has then_world node) q.1)
+          ∙ e))
           (subst (λ p. IsCopy (has then_world p p) sent.advert) (sym q.1) (copy_still origin sent.advert way.copy))
     ]
 
@@ -279,4 +282,5 @@ heard_keeps wiring joins differ world flood l within dir = by (first_on l dir wo
   where
     by : (o : Option Sent) → first_on l dir world.flying ≡ o → IsFlood wiring (heard_by wiring world l dir o)
     by None e = flood
-    by (Some sent) e = took_in wiring joins differ world flood l within dir sent e (is_news (has world (receiver wiring l dir) sent.advert.origin) sent.advert) refl
+    by (Some sent) e = took_in wiring joins differ world flood l within dir sent e (is_news (has world (receiver wiring l dir) sent.advert.origin) sent.advert)
+        refl

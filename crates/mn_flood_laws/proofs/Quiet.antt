@@ -28,8 +28,10 @@ module _ (wiring : Wiring) (Reached : ℕ → Type 0) (one other : View) (agree 
   same_walks node r [] = refl
   same_walks node r (l ∷ ls) = by (λ q. same_walks (across wiring l node) q ls) (may_go wiring one node l) refl
     where
-      by : (Reached (across wiring l node) → walk_end wiring one (across wiring l node) ls ≡ walk_end wiring other (across wiring l node) ls) → (b : Bool) → may_go wiring one node l ≡ b →
-          cond (may_go wiring one node l) (walk_end wiring one (across wiring l node) ls) None ≡ cond (may_go wiring other node l) (walk_end wiring other (across wiring l node) ls) None
+      by : (Reached (across wiring l node) → walk_end wiring one (across wiring l node) ls ≡ walk_end wiring other (across wiring l node) ls) → (b : Bool) →
+          may_go wiring one node l ≡ b →
+          cond (may_go wiring one node l) (walk_end wiring one (across wiring l node) ls) None ≡ cond (may_go wiring other node l)
+          (walk_end wiring other (across wiring l node) ls) None
       by f true e =
           ap (λ c. cond c (walk_end wiring one (across wiring l node) ls) None) e
           ∙ f (agree.onward node l r e)
@@ -51,7 +53,8 @@ module _ (wiring : Wiring) (Reached : ℕ → Type 0) (one other : View) (agree 
   turned : Agree wiring Reached other one
   turned = record { same = λ node l r. sym (agree.same node l r); onward = λ node l r e. agree.onward node l r (agree.same node l r ∙ e) }
 
-going : (wiring : Wiring) (view : View) (node l : ℕ) → is_up view l ≡ true → is_end wiring l node ≡ true → l < length wiring.ends → may_go wiring view node l ≡ true
+going : (wiring : Wiring) (view : View) (node l : ℕ) → is_up view l ≡ true → is_end wiring l node ≡ true → l < length wiring.ends →
+    may_go wiring view node l ≡ true
 going wiring view node l u e h =
     and_on (is_up view l) (is_end wiring l node && nat_lt l (length wiring.ends)) u
     (and_on (is_end wiring l node) (nat_lt l (length wiring.ends)) e (less_is l (length wiring.ends) h))
@@ -92,7 +95,8 @@ module _ (wiring : Wiring) (Reached : ℕ → Type 0) (one other : View) (agree 
 
 -- 2. Where none flies
 
-module _ (wiring : Wiring) (joins : JoinsNodes wiring) (differ : EndsDiffer wiring) (world : FloodWorld) (flood : IsFlood wiring world) (quiet : world.flying ≡ [])
+module _ (wiring : Wiring) (joins : JoinsNodes wiring) (differ : EndsDiffer wiring) (world : FloodWorld) (flood : IsFlood wiring world)
+    (quiet : world.flying ≡ [])
   where
     none_flies : (l : ℕ) (dir : Dir) (o least : ℕ) → FliesAsNew world l dir o least → ⊥
     none_flies l dir o least f = in_contained [] f.sent (subst (λ sents. Contains sents f.sent) quiet f.flies)
@@ -158,11 +162,13 @@ module _ (wiring : Wiring) (joins : JoinsNodes wiring) (differ : EndsDiffer wiri
           by : (b : Bool) → is_up world.up l ≡ b → list_any (λ other. other == l) (up_at wiring world.up node) ≡ is_up world.up l
           by true u = present (list_any (λ other. other == l) (up_at wiring world.up node)) refl ∙ sym u
             where
-              present : (c : Bool) → list_any (λ other. other == l) (up_at wiring world.up node) ≡ c → list_any (λ other. other == l) (up_at wiring world.up node) ≡ true
+              present : (c : Bool) → list_any (λ other. other == l) (up_at wiring world.up node) ≡ c →
+                  list_any (λ other. other == l) (up_at wiring world.up node) ≡ true
               present true q = q
               present false q = absurd (no (sym (none_passes (λ other. other == l) (up_at wiring world.up node) l q
                   (filter_in (is_up world.up) (links_at wiring node) l (at_node wiring l node h e) u)) ∙ same_test l))
-          by false u = passes_none (λ other. other == l) (up_at wiring world.up node) (λ k i. never (k == l) (λ q. no (sym u ∙ ap (is_up world.up) (sym (same_numbers k l q))
+          by false u = passes_none (λ other. other == l) (up_at wiring world.up node)
+              (λ k i. never (k == l) (λ q. no (sym u ∙ ap (is_up world.up) (sym (same_numbers k l q))
               ∙ (in_filter (is_up world.up) (links_at wiring node) k i).1))) ∙ sym u
 
       -- a link at a node that it reaches is up in its view where it is up
@@ -178,8 +184,10 @@ module _ (wiring : Wiring) (joins : JoinsNodes wiring) (differ : EndsDiffer wiri
           at_other u = by ((link wiring l).a.0 == node)
             where
               by : (b : Bool) → is_end wiring l (cond b (link wiring l).b.0 (link wiring l).a.0) ≡ true
-              by true = Rattle.mn_base.proofs.Bools.or_right ((link wiring l).a.0 == (link wiring l).b.0) ((link wiring l).b.0 == (link wiring l).b.0) (same_test (link wiring l).b.0)
-              by false = Rattle.mn_base.proofs.Bools.or_left ((link wiring l).a.0 == (link wiring l).a.0) ((link wiring l).b.0 == (link wiring l).a.0) (same_test (link wiring l).a.0)
+              by true = Rattle.mn_base.proofs.Bools.or_right ((link wiring l).a.0 == (link wiring l).b.0) ((link wiring l).b.0 == (link wiring l).b.0)
+                  (same_test (link wiring l).b.0)
+              by false = Rattle.mn_base.proofs.Bools.or_left ((link wiring l).a.0 == (link wiring l).a.0) ((link wiring l).b.0 == (link wiring l).a.0)
+                  (same_test (link wiring l).a.0)
 
           -- the link's two ends are this node and the other
           ends_are : (P : ℕ → ℕ → Type 0) → P node (across wiring l node) → P (across wiring l node) node → P (link wiring l).a.0 (link wiring l).b.0
@@ -199,7 +207,8 @@ module _ (wiring : Wiring) (joins : JoinsNodes wiring) (differ : EndsDiffer wiri
 
           both_list : is_up world.up l ≡ true → is_flooded wiring world root l ≡ true
           both_list u =
-              let theirs : lists (has world root (across wiring l node)) l ≡ true = listed (across wiring l node) l (reaches_on node l r h e u) h (at_other u) ∙ u in
+              let theirs : lists (has world root (across wiring l node)) l ≡ true = listed (across wiring l node) l (reaches_on node l r h e u) h (at_other u)
+              ∙ u in
               ends_are (λ a b. (lists (has world root a) l && lists (has world root b) l) ≡ true)
               (and_on (lists (has world root node) l) (lists (has world root (across wiring l node)) l) (mine ∙ u) theirs)
               (and_on (lists (has world root (across wiring l node)) l) (lists (has world root node) l) theirs (mine ∙ u))
@@ -217,9 +226,11 @@ module _ (wiring : Wiring) (joins : JoinsNodes wiring) (differ : EndsDiffer wiri
             reaches_on node l r p.2 p.1 (sym (sees node l r p.2 p.1) ∙ p.0);
       }
         where
-          parts : (view : View) (node l : ℕ) → may_go wiring view node l ≡ true → (is_up view l ≡ true) × (is_end wiring l node ≡ true) × (l < length wiring.ends)
+          parts : (view : View) (node l : ℕ) → may_go wiring view node l ≡ true →
+              (is_up view l ≡ true) × (is_end wiring l node ≡ true) × (l < length wiring.ends)
           parts view node l q =
-              let rest : (is_end wiring l node && nat_lt l (length wiring.ends)) ≡ true = and_right (is_up view l) (is_end wiring l node && nat_lt l (length wiring.ends)) q in (
+              let rest : (is_end wiring l node && nat_lt l (length wiring.ends)) ≡ true =
+              and_right (is_up view l) (is_end wiring l node && nat_lt l (length wiring.ends)) q in (
                 and_left (is_up view l) (is_end wiring l node && nat_lt l (length wiring.ends)) q,
                 and_left (is_end wiring l node) (nat_lt l (length wiring.ends)) rest,
                 less_tells l (length wiring.ends) (and_right (is_end wiring l node) (nat_lt l (length wiring.ends)) rest),
@@ -231,7 +242,8 @@ module _ (wiring : Wiring) (joins : JoinsNodes wiring) (differ : EndsDiffer wiri
               by : (b : Bool) → (is_end wiring l node && nat_lt l (length wiring.ends)) ≡ b →
                   may_go wiring (flooded wiring world root) node l ≡ may_go wiring world.up node l
               by true q = ap (λ b. b && (is_end wiring l node && nat_lt l (length wiring.ends)))
-                  (sees node l r (less_tells l (length wiring.ends) (and_right (is_end wiring l node) (nat_lt l (length wiring.ends)) q)) (and_left (is_end wiring l node) (nat_lt l (length wiring.ends)) q))
+                  (sees node l r (less_tells l (length wiring.ends) (and_right (is_end wiring l node) (nat_lt l (length wiring.ends)) q))
+                  (and_left (is_end wiring l node) (nat_lt l (length wiring.ends)) q))
               by false q = off (is_up (flooded wiring world root) l) ∙ sym (off (is_up world.up l))
                 where
                   off : (b : Bool) → (b && (is_end wiring l node && nat_lt l (length wiring.ends))) ≡ false

@@ -53,19 +53,22 @@ module _ (wiring : Wiring) where
     links = sym (none_up (start wiring).up (all_off (links_of wiring)) (links_at wiring node));
   }
 
-  copy_first : (node origin : ℕ) (advert : Advert) → node < length wiring.loopbacks → origin < length wiring.loopbacks → has (start wiring) node origin ≡ Some advert →
+  copy_first : (node origin : ℕ) (advert : Advert) → node < length wiring.loopbacks → origin < length wiring.loopbacks →
+      has (start wiring) node origin ≡ Some advert →
       IsCopy (has (start wiring) origin origin) advert
   copy_first node origin advert h g e = record { no_newer = omega (arith, ap age is_own); same = λ q. is_own }
     where
       is_own : has (start wiring) origin origin ≡ Some advert
       is_own = ap (λ x. has (start wiring) x origin) (own_alone node origin advert (sym (has_first node origin h g) ∙ e)) ∙ e
 
-  named_first : (node origin : ℕ) (advert : Advert) → node < length wiring.loopbacks → origin < length wiring.loopbacks → has (start wiring) node origin ≡ Some advert →
+  named_first : (node origin : ℕ) (advert : Advert) → node < length wiring.loopbacks → origin < length wiring.loopbacks →
+      has (start wiring) node origin ≡ Some advert →
       advert.origin ≡ origin
   named_first node origin advert h g e =
       let first : first_of node origin ≡ Some advert = sym (has_first node origin h g) ∙ e in
       let same : origin ≡ node = own_alone node origin advert first in
-      ap (λ a. a.origin) (sym (some_same (record { origin = node; number = 0; links = [] }) advert (sym (first_itself node) ∙ ap (first_of node) (sym same) ∙ first))) ∙ sym same
+      ap (λ a. a.origin) (sym (some_same (record { origin = node; number = 0; links = [] }) advert (sym (first_itself node) ∙ ap (first_of node) (sym same)
+      ∙ first))) ∙ sym same
 
   pub start_is : IsFlood wiring (start wiring)
   start_is = record {
@@ -80,9 +83,11 @@ module _ (wiring : Wiring) where
   }
 
   module _ (joins : JoinsNodes wiring) (differ : EndsDiffer wiring) where
-    pub from_any : (world : FloodWorld) → IsFlood wiring world → (events : List FloodEvent) → AreEvents wiring events → IsFlood wiring (flood_from wiring world events)
+    pub from_any : (world : FloodWorld) → IsFlood wiring world → (events : List FloodEvent) → AreEvents wiring events →
+        IsFlood wiring (flood_from wiring world events)
     from_any world f [] h = f
-    from_any world f (Change l up ∷ events) h = from_any (flood_after wiring world (Change l up)) (changed_keeps wiring joins differ world f l h.0 up) events h.1
+    from_any world f (Change l up ∷ events) h =
+        from_any (flood_after wiring world (Change l up)) (changed_keeps wiring joins differ world f l h.0 up) events h.1
     from_any world f (Hear l dir ∷ events) h = from_any (flood_after wiring world (Hear l dir)) (heard_keeps wiring joins differ world f l h.0 dir) events h.1
 
     pub every_flood : (events : List FloodEvent) → AreEvents wiring events → IsFlood wiring (flood_of wiring events)

@@ -18,7 +18,8 @@ sum_below f g [] h = omega arith
 sum_below f g (x ∷ xs) h = omega (arith, h x (inl refl), sum_below f g xs (λ y i. h y (inr i)))
 
 -- where none is greater, what is less at one is less in all
-pub sum_less : {A : Type 0} (f g : A → ℕ) (xs : List A) (y : A) (d : ℕ) → ((x : A) → In xs x → g x ≤ f x) → In xs y → g y + d ≤ f y → sum_of g xs + d ≤ sum_of f xs
+pub sum_less : {A : Type 0} (f g : A → ℕ) (xs : List A) (y : A) (d : ℕ) → ((x : A) → In xs x → g x ≤ f x) → In xs y → g y + d ≤ f y →
+    sum_of g xs + d ≤ sum_of f xs
 sum_less f g [] y d h i e = absurd i
 sum_less f g (x ∷ xs) y d h i e = elim i [
   | inl q ↦ omega (arith, subst (λ z. g z + d ≤ f z) (sym q) e, sum_below f g xs (λ z j. h z (inr j)))
@@ -46,7 +47,8 @@ pub length-filter : {A : Type 0} (p : A → Bool) (xs : List A) → length (filt
 length-filter p [] = refl
 length-filter p (x ∷ xs) = by (p x) (length-filter p xs)
   where
-    by : (b : Bool) → length (filter p xs) ≡ sum_of (λ y. cond (p y) 1 0) xs → length (cond b (x ∷ filter p xs) (filter p xs)) ≡ cond b 1 0 + sum_of (λ y. cond (p y) 1 0) xs
+    by : (b : Bool) → length (filter p xs) ≡ sum_of (λ y. cond (p y) 1 0) xs →
+        length (cond b (x ∷ filter p xs) (filter p xs)) ≡ cond b 1 0 + sum_of (λ y. cond (p y) 1 0) xs
     by true e = omega (arith, e)
     by false e = omega (arith, e)
 
@@ -96,7 +98,8 @@ links_of_all wiring =
     two : (l : ℕ) → sum_of (λ node. cond (is_end wiring l node) 1 0) (nodes_of wiring) ≤ 2
     two l = omega (
       arith,
-      sum_below (λ node. cond ((link wiring l).a.0 == node) 1 0 + cond ((link wiring l).b.0 == node) 1 0) (λ node. cond (is_end wiring l node) 1 0) (nodes_of wiring)
+      sum_below (λ node. cond ((link wiring l).a.0 == node) 1 0 + cond ((link wiring l).b.0 == node) 1 0) (λ node. cond (is_end wiring l node) 1 0)
+          (nodes_of wiring)
           (λ node i. either ((link wiring l).a.0 == node) ((link wiring l).b.0 == node)),
       sum_add (λ node. cond ((link wiring l).a.0 == node) 1 0) (λ node. cond ((link wiring l).b.0 == node) 1 0) (nodes_of wiring),
       one_in (link wiring l).a.0 0 (length wiring.loopbacks),

@@ -16,7 +16,8 @@ two_links P a b (suc (suc l)) h = absurd (none h)
     none h = omega (arith, h)
 
 joins : JoinsNodes row
-joins = two_links (λ l. ((link row l).a.0 < length row.loopbacks) × ((link row l).b.0 < length row.loopbacks)) (omega arith, omega arith) (omega arith, omega arith)
+joins = two_links (λ l. ((link row l).a.0 < length row.loopbacks) × ((link row l).b.0 < length row.loopbacks)) (omega arith, omega arith)
+    (omega arith, omega arith)
 
 less_is_other : (m n : ℕ) → m < n → m ≢ n
 less_is_other m n h e = omega (arith, h, e)

@@ -71,7 +71,10 @@ unfoldable pub every_hearing : ℕ
 every_hearing = 4000001
 
 abbrev pub with_line : Wiring → FloodRun → FloodLine → FloodRun
-with_line wiring run line = elim line.command [ Do event ↦ tried wiring run line.number event (flood_refusal run.world event) | Drain ↦ drain_for every_hearing wiring run ]
+with_line wiring run line = elim line.command [
+  | Do event ↦ tried wiring run line.number event (flood_refusal run.world event)
+  | Drain ↦ drain_for every_hearing wiring run
+]
 
 abbrev pub run_from : Wiring → FloodRun → List FloodLine → FloodRun
 run_from wiring run [] = run

@@ -9,7 +9,7 @@ use Rattle.mn_wiring.specs.declared.links.Dir.TheVariants.{Forth, Back}
 
 -- 1. What there is
 
--- the links of a node that were up, as it said them the number-th time
+-- the links of a node that were up, as it advertised them the number-th time
 pub record Advert : Type 0 where
   pub origin : ℕ
   pub number : ℕ
@@ -70,7 +70,7 @@ adverts_of world node = adverts_in (slice_index_or world.kept node [])
 
 -- 3. A link comes up or goes down
 
--- how new an advert is: how often its origin had said its links by then; where none is kept, never
+-- how new an advert is: how often its origin had advertised its links by then; where none is kept, never
 abbrev pub age : Option Advert → ℕ
 age None = 0
 age (Some advert) = advert.number + 1
@@ -105,7 +105,7 @@ changed wiring world l up =
       flying = now.flying ++ (sends wiring later l up ends.a.0 (renewal wiring now ends.a.0) ++ sends wiring later l up ends.b.0 (renewal wiring now ends.b.0));
     }
 
--- 4. An advert is heard
+-- 4. An advert is received
 
 abbrev pub flies_on : ℕ → Dir → Sent → Bool
 flies_on l Forth sent = (sent.link == l) && elim sent.dir [ Forth ↦ true | Back ↦ false ]

@@ -1,4 +1,4 @@
--- What holds of every flood, whatever links change and whatever order adverts are heard in.
+-- What holds of every flood, whatever links change and whatever order adverts are received in.
 use Rattle.std.specs.Prelude.{slice_index_or, ◌≡◌, ◌<◌, ◌≤◌, ◌⊎◌, ℕ, true, List, [], length, Option, Some}
 use Rattle.std.specs.List.{Contains, AllByRecursion}
 use Rattle.mn_wiring.specs.Wiring.{Wiring, is_up, sender, receiver}
@@ -36,7 +36,7 @@ is_of count (Hear l dir) = l < count
 abbrev pub AreEvents : Wiring → List FloodEvent → Type 0
 AreEvents wiring events = AllByRecursion (is_of (length wiring.ends)) events
 
--- an advert is no newer than what its origin has said, and where it is as new it is that
+-- an advert is no newer than what its origin has sent, and where it is as new it is that
 pub record IsCopy (own : Option Advert) (advert : Advert) : Type 0 where
   pub no_newer : age (Some advert) ≤ age own
   pub same : age (Some advert) ≡ age own → own ≡ Some advert

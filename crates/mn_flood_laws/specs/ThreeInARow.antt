@@ -19,7 +19,7 @@ row = record { loopbacks = 0xC0000201 ∷ 0xC0000202 ∷ 0xC0000203 ∷ []; ends
 abbrev pub both_up : FloodWorld
 both_up = flood_of row (Change 0 true ∷ Change 1 true ∷ [])
 
--- five adverts fly; the seventh that is heard is the last; before any is heard nothing is known, and in the end both links are, and
+-- five adverts fly; the seventh that is received is the last; before any is received nothing is known, and in the end both links are, and
 -- the ways over them
 pub record IsFlooded : Type 0 where
   pub joins : JoinsNodes row

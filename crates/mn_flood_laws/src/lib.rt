@@ -1,7 +1,7 @@
 //! Adverts of links, flooded from node to node (RFC 2328, section 13), and what holds of every flood: laws of the definitions.
 //!
 //! ```text
-//!   a link changes: both ends renew their own adverts      an advert is heard: is it newer than what is kept?
+//!   a link changes: both ends renew their own adverts      an advert is received: is it newer than what is kept?
 //!     over the link, if it is up: all that the end has        yes: kept, and sent on over the other links that are up
 //!     over each other link that is up: its own advert         no:  passed over
 //! ```
@@ -39,7 +39,7 @@ pub fn a_drain_is_bounded()
         (drained (drain_bound wiring (flood_of wiring events)) wiring (flood_of wiring events)).flying ≡ [] }
 {}
 
-/// Three nodes in a row: both links come up, five adverts fly, and the seventh that is heard is the last.
+/// Three nodes in a row: both links come up, five adverts fly, and the seventh that is received is the last.
 pub fn three_in_a_row_are_flooded()
     ensures { IsFlooded }
 {}

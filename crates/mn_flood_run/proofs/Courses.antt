@@ -14,7 +14,8 @@ use Rattle.mn_topo.specs.Network.{Network, wiring_of}
 use Rattle.std.specs.declared.alloc.AllocError.{AllocError}
 use Rattle.mn_flood_laws.specs.Laws.{IsFlood}
 use Rattle.mn_flood_laws.specs.Flood.{FloodWorld, FloodEvent, Sent, Hear, flies_on, first_on, flood_after}
-use Rattle.mn_flood_laws.specs.Course.{FloodRefused, FloodRun, RefusedLine, flood_refusal, stepped, tried, unless_stopped, drained_by, drain_for, every_hearing, with_line, run_from}
+use Rattle.mn_flood_laws.specs.Course.{FloodRefused, FloodRun, RefusedLine, flood_refusal, stepped, tried, unless_stopped, drained_by, drain_for, every_hearing}
+use Rattle.mn_flood_laws.specs.Course.{with_line, run_from}
 use Rattle.mn_flood_laws.specs.Course as course
 use Rattle.mn_flood.specs.declared.refusal.FloodBad.{FloodBad}
 use Rattle.mn_flood.specs.declared.refusal.FloodBad.TheVariants as bad
@@ -70,7 +71,8 @@ module _ (run : FloodRun) (old new : FloodNow) (number : ℕ) (event : FloodEven
       ∙ ap (λ w. option_map bad_of (flood_refusal w event)) at.world
 
   -- it was done
-  pub done_at : run.steps < most_steps → new ≡ happened old event → IsAt (record run { world = flood_after old.wiring run.world event; steps = run.steps + 1 }) new
+  pub done_at : run.steps < most_steps → new ≡ happened old event →
+      IsAt (record run { world = flood_after old.wiring run.world event; steps = run.steps + 1 }) new
   done_at h e = record {
     world = ap (λ (n : FloodNow). n.world) e ∙ ap (λ w. flood_after old.wiring w event) at.world;
     steps = ap (λ (n : FloodNow). n.done) e ∙ ap (λ n. n + 1) at.steps;
@@ -82,7 +84,8 @@ module _ (run : FloodRun) (old new : FloodNow) (number : ℕ) (event : FloodEven
   pub below : old.done ≢ most_steps → run.steps < most_steps
   below apart = grind (arith, apart, at.steps, at.few)
 
-  done_full : flood_refusal run.world event ≡ None → old.done ≡ most_steps → Follows (tried old.wiring run number event (flood_refusal run.world event)) run number played.TooManySteps new
+  done_full : flood_refusal run.world event ≡ None → old.done ≡ most_steps →
+      Follows (tried old.wiring run number event (flood_refusal run.world event)) run number played.TooManySteps new
   done_full none e =
       subst (λ r. (r.is_stopped ≡ true) × (r.refused ≡ run.refused))
       (sym (ap (tried old.wiring run number event) none ∙ full old.wiring run event (sym at.steps ∙ e))) (refl, refl)
@@ -127,13 +130,15 @@ module _ (run : FloodRun) (old new : FloodNow) (number : ℕ) (event : FloodEven
       by (Some cause) e (Ok done) answered is =
           absurd (no_err done (bad_of cause) (subst (λ o. IfSome o (λ why. the_ok done ≡ Err why)) (refusal_is ∙ ap (option_map bad_of) e) answered.0))
       by (Some cause) e (Err why) answered is =
-          let same : why ≡ bad_of cause = same_err why (bad_of cause) (subst (λ o. IfSome o (λ w. the_err why ≡ Err w)) (refusal_is ∙ ap (option_map bad_of) e) answered.0) in
+          let same : why ≡ bad_of cause = same_err why (bad_of cause) (subst (λ o. IfSome o (λ w. the_err why ≡ Err w)) (refusal_is
+          ∙ ap (option_map bad_of) e) answered.0) in
           let stays : new ≡ old = answered.1 (subst (λ o. IsSome o) (sym (refusal_is ∙ ap (option_map bad_of) e)) refl) in
           subst (λ h. Follows (tried old.wiring run number event (flood_refusal run.world event)) run number h new) (sym (is.0 ∙ ap played.Refused same))
           (refused_by cause e stays)
 
 -- a line that does an event
-pub line_follows : (result : Result Played AllocError) (done : Done) (line : FloodLine) (old new : FloodNow) (event : FloodEvent) (steps : ℕ) → ordered line.command ≡ course.Do event →
+pub line_follows : (result : Result Played AllocError) (done : Done) (line : FloodLine) (old new : FloodNow) (event : FloodEvent) (steps : ℕ) →
+    ordered line.command ≡ course.Do event →
     Answered old new event done → steps ≡ old.done → IfOk result (λ how. IsAnswered steps done how) →
     IfOk result (λ how. (run : FloodRun) → IsAt run old → Follows (with_line old.wiring run (order_of line)) run line.number how new)
 line_follows (Err bad) done line old new event steps is answered same how = tt
@@ -238,7 +243,8 @@ none_left turn past = omega (arith, past)
 pub ends_by : (wiring : Wiring) (run : FloodRun) (all turn number : ℕ) (now : FloodNow) → 4000001 ≤ turn → ComesTo wiring run all (every_hearing - turn) now →
     Follows (drain_for all wiring run) run number played.All now
 ends_by wiring run all turn number now past come =
-    subst (λ r. IsAt r now × (r.refused ≡ run.refused)) (sym (come.same_end ∙ ap (λ n. drain_for n wiring come.later) (none_left turn past))) (come.at, come.refused)
+    subst (λ r. IsAt r now × (r.refused ≡ run.refused)) (sym (come.same_end ∙ ap (λ n. drain_for n wiring come.later) (none_left turn past)))
+    (come.at, come.refused)
 
 -- one flies: where steps are full, the run stops
 pub ends_full : (wiring : Wiring) (run : FloodRun) (all left number : ℕ) (now : FloodNow) (sent : Sent) → ComesTo wiring run all (suc left) now →
@@ -304,7 +310,8 @@ both_more one two three f g = record {
 stepped_refuses : (wiring : Wiring) (run : FloodRun) (event : FloodEvent) → (stepped wiring run event).refused ≡ run.refused
 stepped_refuses wiring run event = by (nat_le most_steps run.steps)
   where
-    by : (b : Bool) → (cond b (record run { is_stopped = true }) (record run { world = flood_after wiring run.world event; steps = run.steps + 1 })).refused ≡ run.refused
+    by : (b : Bool) → (cond b (record run { is_stopped = true }) (record run { world = flood_after wiring run.world event; steps = run.steps + 1 })).refused
+        ≡ run.refused
     by true = refl
     by false = refl
 
@@ -316,7 +323,8 @@ drained_refuses : (wiring : Wiring) (run : FloodRun) (on : FloodRun → FloodRun
     (drained_by wiring on run flying).refused ≡ run.refused
 drained_refuses wiring run on same [] = refl
 drained_refuses wiring run on same (sent ∷ more) =
-    unless (stepped wiring run (Hear sent.link sent.dir)) on (stepped wiring run (Hear sent.link sent.dir)).is_stopped (same (stepped wiring run (Hear sent.link sent.dir)))
+    unless (stepped wiring run (Hear sent.link sent.dir)) on (stepped wiring run (Hear sent.link sent.dir)).is_stopped
+    (same (stepped wiring run (Hear sent.link sent.dir)))
     ∙ stepped_refuses wiring run (Hear sent.link sent.dir)
 
 drains_refuse : (count : ℕ) (wiring : Wiring) (run : FloodRun) → (drain_for count wiring run).refused ≡ run.refused
@@ -337,7 +345,8 @@ lines_refuse wiring [] run = as_before run run refl
 lines_refuse wiring (line ∷ lines) run =
     by (with_line wiring run line) (line_refuses wiring run line.number line.command) (λ r. lines_refuse wiring lines r) (with_line wiring run line).is_stopped
   where
-    by : (r : FloodRun) → RefusesMore run r → ((x : FloodRun) → RefusesMore x (run_from wiring x lines)) → (b : Bool) → RefusesMore run (cond b r (run_from wiring r lines))
+    by : (r : FloodRun) → RefusesMore run r → ((x : FloodRun) → RefusesMore x (run_from wiring x lines)) → (b : Bool) →
+        RefusesMore run (cond b r (run_from wiring r lines))
     by r first rest true = first
     by r first rest false = both_more run r (run_from wiring r lines) first (rest r)
 
@@ -352,7 +361,8 @@ pub run_on : (wiring : Wiring) (xs ys : List course.FloodLine) (run : FloodRun) 
 run_on wiring [] ys run goes = refl
 run_on wiring (x ∷ xs) ys run goes = by (with_line wiring run x) (λ r g. run_on wiring xs ys r g) (with_line wiring run x).is_stopped refl goes
   where
-    by : (r : FloodRun) → ((z : FloodRun) → (run_from wiring z xs).is_stopped ≡ false → run_from wiring z (xs ++ ys) ≡ run_from wiring (run_from wiring z xs) ys) →
+    by : (r : FloodRun) → ((z : FloodRun) → (run_from wiring z xs).is_stopped ≡ false →
+        run_from wiring z (xs ++ ys) ≡ run_from wiring (run_from wiring z xs) ys) →
         (b : Bool) → r.is_stopped ≡ b → (cond b r (run_from wiring r xs)).is_stopped ≡ false →
         cond b r (run_from wiring r (xs ++ ys)) ≡ run_from wiring (cond b r (run_from wiring r xs)) ys
     by r rest true e g = let wrong : true ≡ false = sym e ∙ g in cc
@@ -370,7 +380,8 @@ module _ (topology : Network) where
       course_of topology (front ++ line ∷ []) ≡ with_line (wiring_of topology) (course_of topology front) (order_of line)
   course_next front line goes =
       course_on front (line ∷ []) goes
-      ∙ unless_by (with_line (wiring_of topology) (course_of topology front) (order_of line)) (with_line (wiring_of topology) (course_of topology front) (order_of line)).is_stopped
+      ∙ unless_by (with_line (wiring_of topology) (course_of topology front) (order_of line))
+      (with_line (wiring_of topology) (course_of topology front) (order_of line)).is_stopped
 
   pub course_at : (lines : List FloodLine) (i : ℕ) (d : FloodLine) → i < length lines → (course_of topology (take i lines)).is_stopped ≡ false →
       course_of topology (take (i + 1) lines) ≡ with_line (wiring_of topology) (course_of topology (take i lines)) (order_of (get_or lines i d))
@@ -389,4 +400,5 @@ module _ (topology : Network) where
       course_all lines i goes
       ∙ ap (λ rest. run_from (wiring_of topology) (course_of topology (take i lines)) (orders_of rest)) (drop_more lines i d below)
       ∙ ap (λ b. cond b (with_line (wiring_of topology) (course_of topology (take i lines)) (order_of (get_or lines i d)))
-      (run_from (wiring_of topology) (with_line (wiring_of topology) (course_of topology (take i lines)) (order_of (get_or lines i d))) (orders_of (drop (i + 1) lines)))) stops
+      (run_from (wiring_of topology) (with_line (wiring_of topology) (course_of topology (take i lines)) (order_of (get_or lines i d)))
+      (orders_of (drop (i + 1) lines)))) stops

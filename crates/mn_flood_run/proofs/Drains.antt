@@ -12,7 +12,8 @@ use Rattle.mn_topo.specs.Network.{Network, wiring_of}
 use Rattle.mn_flood_laws.specs.Flood.{FloodWorld, FloodEvent, Hear, Sent, flood_after, heard}
 use Rattle.mn_flood_laws.specs.Laws.{IsFlood, is_of}
 use Rattle.mn_flood_laws.specs.Drain.{hear_first, drained, drain_bound}
-use Rattle.mn_flood_laws.specs.Course.{FloodRefused, FloodRun, flood_refusal, stepped, tried, unless_stopped, drained_by, drain_for, every_hearing, with_line, run_from, first_run}
+use Rattle.mn_flood_laws.specs.Course.{FloodRefused, FloodRun, flood_refusal, stepped, tried, unless_stopped, drained_by, drain_for, every_hearing, with_line}
+use Rattle.mn_flood_laws.specs.Course.{run_from, first_run}
 use Rattle.mn_flood_laws.specs.Course as course
 use Rattle.mn_flood_laws.proofs.Start.{start_is, from_any}
 use Rattle.mn_flood_laws.proofs.Draining.{drain_ends}
@@ -31,10 +32,12 @@ pub record IsSoundRun (wiring : Wiring) (run : FloodRun) : Type 0 where
 module _ (wiring : Wiring) (joins : JoinsNodes wiring) (differ : EndsDiffer wiring) where
   -- 1. Wherever it has come
 
-  event_keeps : (world : FloodWorld) (event : FloodEvent) → IsFlood wiring world → is_of (length wiring.ends) event → IsFlood wiring (flood_after wiring world event)
+  event_keeps : (world : FloodWorld) (event : FloodEvent) → IsFlood wiring world → is_of (length wiring.ends) event →
+      IsFlood wiring (flood_after wiring world event)
   event_keeps world event f h = from_any wiring joins differ world f (event ∷ []) (h, tt)
 
-  pub step_keeps : (run : FloodRun) (event : FloodEvent) → is_of (length wiring.ends) event → IsSoundRun wiring run → IsSoundRun wiring (stepped wiring run event)
+  pub step_keeps : (run : FloodRun) (event : FloodEvent) → is_of (length wiring.ends) event → IsSoundRun wiring run →
+      IsSoundRun wiring (stepped wiring run event)
   step_keeps run event h sound = by (nat_le most_steps run.steps) refl
     where
       by : (b : Bool) → nat_le most_steps run.steps ≡ b →
@@ -44,7 +47,8 @@ module _ (wiring : Wiring) (joins : JoinsNodes wiring) (differ : EndsDiffer wiri
           let room : run.steps < most_steps = not_at_most_tells most_steps run.steps e in
           record { flood = event_keeps run.world event sound.flood h; few = omega (arith, room) }
 
-  unless_keeps : (run : FloodRun) (on : FloodRun → FloodRun) (b : Bool) → IsSoundRun wiring run → IsSoundRun wiring (on run) → IsSoundRun wiring (cond b run (on run))
+  unless_keeps : (run : FloodRun) (on : FloodRun → FloodRun) (b : Bool) → IsSoundRun wiring run → IsSoundRun wiring (on run) →
+      IsSoundRun wiring (cond b run (on run))
   unless_keeps run on true one other = one
   unless_keeps run on false one other = other
 
@@ -79,7 +83,8 @@ module _ (wiring : Wiring) (joins : JoinsNodes wiring) (differ : EndsDiffer wiri
 
   -- 2. A drain
 
-  heard_first : (world : FloodWorld) (sent : Sent) (more : List Sent) → world.flying ≡ sent ∷ more → hear_first wiring world world.flying ≡ heard wiring world sent.link sent.dir
+  heard_first : (world : FloodWorld) (sent : Sent) (more : List Sent) → world.flying ≡ sent ∷ more →
+      hear_first wiring world world.flying ≡ heard wiring world sent.link sent.dir
   heard_first world sent more e = ap (hear_first wiring world) e
 
   stays : (run : FloodRun) (on : FloodRun → FloodRun) (most : ℕ) (b : Bool) → run.steps ≤ most → (on run).steps ≤ most → (cond b run (on run)).steps ≤ most
@@ -115,7 +120,8 @@ module _ (wiring : Wiring) (joins : JoinsNodes wiring) (differ : EndsDiffer wiri
   drain_quiet zero run few many goes = absurd (omega (arith, few, many))
   drain_quiet (suc count) run few many goes = by run.world.flying refl goes (λ r f m g. drain_quiet count r f m g)
     where
-      past : (next : FloodRun) → ((drain_for count wiring next).is_stopped ≡ false → (drain_for count wiring next).world.flying ≡ []) → (b : Bool) → next.is_stopped ≡ b →
+      past : (next : FloodRun) → ((drain_for count wiring next).is_stopped ≡ false → (drain_for count wiring next).world.flying ≡ []) → (b : Bool) →
+          next.is_stopped ≡ b →
           (cond b next (drain_for count wiring next)).is_stopped ≡ false → (cond b next (drain_for count wiring next)).world.flying ≡ []
       past next rest true e g = let wrong : true ≡ false = sym e ∙ g in cc
       past next rest false e g = rest g
@@ -133,20 +139,24 @@ module _ (wiring : Wiring) (joins : JoinsNodes wiring) (differ : EndsDiffer wiri
           past next (rest next (omega (arith, room)) (omega (arith, many))) run.is_stopped refl g
 
       by : (flying : List Sent) → run.world.flying ≡ flying → (drained_by wiring (λ later. drain_for count wiring later) run flying).is_stopped ≡ false →
-          ((r : FloodRun) → r.steps ≤ most_steps → most_steps < r.steps + count → (drain_for count wiring r).is_stopped ≡ false → (drain_for count wiring r).world.flying ≡ []) →
+          ((r : FloodRun) → r.steps ≤ most_steps → most_steps < r.steps + count → (drain_for count wiring r).is_stopped ≡ false →
+          (drain_for count wiring r).world.flying ≡ []) →
           (drained_by wiring (λ later. drain_for count wiring later) run flying).world.flying ≡ []
       by [] e g rest = e
       by (sent ∷ more) e g rest = after sent rest (nat_le most_steps run.steps) refl g
 
 -- 3. Over the lines of a script
 
-lines_keep : (wiring : Wiring) (joins : JoinsNodes wiring) (differ : EndsDiffer wiring) (orders : List course.FloodLine) (run : FloodRun) → IsSoundRun wiring run →
+lines_keep : (wiring : Wiring) (joins : JoinsNodes wiring) (differ : EndsDiffer wiring) (orders : List course.FloodLine) (run : FloodRun) →
+    IsSoundRun wiring run →
     All (λ (line : course.FloodLine). IsOf wiring joins differ line.command) orders → IsSoundRun wiring (run_from wiring run orders)
 lines_keep wiring joins differ [] run sound h = sound
 lines_keep wiring joins differ (line ∷ lines) run sound h =
-    let next : IsSoundRun wiring (with_line wiring run line) = line_keeps wiring joins differ run line.number line.command (All-head (λ (x : course.FloodLine). IsOf wiring joins differ x.command) line lines h) sound in
+    let next : IsSoundRun wiring (with_line wiring run line) = line_keeps wiring joins differ run line.number line.command
+    (All-head (λ (x : course.FloodLine). IsOf wiring joins differ x.command) line lines h) sound in
     unless_keeps wiring joins differ (with_line wiring run line) (λ later. run_from wiring later lines) (with_line wiring run line).is_stopped next
-    (lines_keep wiring joins differ lines (with_line wiring run line) next (All-tail (λ (x : course.FloodLine). IsOf wiring joins differ x.command) line lines h))
+    (lines_keep wiring joins differ lines (with_line wiring run line) next
+    (All-tail (λ (x : course.FloodLine). IsOf wiring joins differ x.command) line lines h))
 
 module _ (topology : Network) (joins : JoinsNodes (wiring_of topology)) (differ : EndsDiffer (wiring_of topology)) where
   pub is_of_it : (command : FloodCommand) → command_fits topology command ≡ true →
@@ -163,7 +173,8 @@ module _ (topology : Network) (joins : JoinsNodes (wiring_of topology)) (differ 
       (is_of_it line.command (All-head (λ (x : FloodLine). command_fits topology x.command ≡ true) line lines h))
       (are_of_it lines (All-tail (λ (x : FloodLine). command_fits topology x.command ≡ true) line lines h))
 
-  pub course_sound : (lines : List FloodLine) → All (λ (line : FloodLine). command_fits topology line.command ≡ true) lines → IsSoundRun (wiring_of topology) (course_of topology lines)
+  pub course_sound : (lines : List FloodLine) → All (λ (line : FloodLine). command_fits topology line.command ≡ true) lines →
+      IsSoundRun (wiring_of topology) (course_of topology lines)
   course_sound lines h = lines_keep (wiring_of topology) joins differ (orders_of lines) (first_run (wiring_of topology))
       (record { flood = start_is (wiring_of topology); few = omega arith }) (are_of_it lines h)
 
@@ -180,8 +191,10 @@ module _ (topology : Network) (joins : JoinsNodes (wiring_of topology)) (differ 
       IsSoundRun (wiring_of topology) (course_of topology front) →
       (course_of topology (front ++ line ∷ [])).steps ≤ (course_of topology front).steps + drain_bound (wiring_of topology) (course_of topology front).world
   bounded front line e goes sound =
-      subst (λ r. r.steps ≤ (course_of topology front).steps + drain_bound (wiring_of topology) (course_of topology front).world) (sym (drain_course front line e goes))
-      (drain_within (wiring_of topology) joins differ every_hearing (drain_bound (wiring_of topology) (course_of topology front).world) (course_of topology front)
+      subst (λ r. r.steps ≤ (course_of topology front).steps + drain_bound (wiring_of topology) (course_of topology front).world)
+      (sym (drain_course front line e goes))
+      (drain_within (wiring_of topology) joins differ every_hearing (drain_bound (wiring_of topology) (course_of topology front).world)
+      (course_of topology front)
       (drain_ends (wiring_of topology) joins differ (course_of topology front).world sound.flood))
 
   many_turns : (steps : ℕ) → most_steps < steps + every_hearing

@@ -75,10 +75,12 @@ begins_with topology run past more e =
     ∙ ap (λ xs. xs ++ rest_of topology run) (sym (flat_map-append refused_text past more) ∙ ap (flat_map refused_text) (sym e))
 
 -- out of memory after some lines
-pub want_after : (topology : Network) (run : FloodRun) (past more : List RefusedLine) (s t : Stand) → run.refused ≡ past ++ more → Told (flat_map refused_text past) s t →
+pub want_after : (topology : Network) (run : FloodRun) (past more : List RefusedLine) (s t : Stand) → run.refused ≡ past ++ more →
+    Told (flat_map refused_text past) s t →
     Tells {T = Unit {0}} (report topology run) s t (Err NoMemory)
 want_after topology run past more s t e before =
-    tells_within (flat_map refused_text past) [] (flat_map refused_text more ++ rest_of topology run) (report topology run) s t t NoMemory (Err NoMemory) (refl, refl) before
+    tells_within (flat_map refused_text past) [] (flat_map refused_text more ++ rest_of topology run) (report topology run) s t t NoMemory (Err NoMemory)
+    (refl, refl) before
     (tells_want [] t) (begins_with topology run past more e)
 
 -- the line after them is cut
@@ -86,7 +88,8 @@ pub cut_after : (topology : Network) (run : FloodRun) (past more : List RefusedL
     run.refused ≡ (past ++ line ∷ []) ++ more → Told (flat_map refused_text past) s t → Tells {T = Unit {0}} (refused_text line) t u (Err e) →
     Tells {T = Unit {0}} (report topology run) s u (Err e)
 cut_after topology run past more line s t u e is before this =
-    tells_within (flat_map refused_text past) (refused_text line) (flat_map refused_text more ++ rest_of topology run) (report topology run) s t u e (Err e) (refl, refl) before
+    tells_within (flat_map refused_text past) (refused_text line) (flat_map refused_text more ++ rest_of topology run) (report topology run) s t u e (Err e)
+    (refl, refl) before
     this
     (
     sym (append_assoc (flat_map refused_text past) (refused_text line) (flat_map refused_text more ++ rest_of topology run))
@@ -110,7 +113,8 @@ item_is (x ∷ xs) (suc i) d below = item_is xs i d (omega (arith, below))
 pub none_played : (topology : Network) (now : FloodNow) (s : Stand) → IsAt (course_of topology []) now → ArePlayed topology [] now 0 s s
 none_played topology now s at = record { at = at; counted = refl; told = told_nothing s }
 
-module _ (topology : Network) (lines : List FloodLine) (i : ℕ) (s t : Stand) (refused : ℕ) (old : FloodNow) (past : ArePlayed topology (take i lines) old refused s t) where
+module _ (topology : Network) (lines : List FloodLine) (i : ℕ) (s t : Stand) (refused : ℕ) (old : FloodNow)
+    (past : ArePlayed topology (take i lines) old refused s t) where
   abbrev before : FloodRun
   before = course_of topology (take i lines)
 
@@ -118,7 +122,8 @@ module _ (topology : Network) (lines : List FloodLine) (i : ℕ) (s t : Stand) (
   pub want_at : Tells {T = Unit {0}} (report topology (course_of topology lines)) s t (Err NoMemory)
   want_at =
       let more = lines_refuse (wiring_of topology) (orders_of (drop i lines)) before in
-      want_after topology (course_of topology lines) before.refused more.more s t (ap (λ (r : FloodRun). r.refused) (course_all topology lines i past.at.goes_on) ∙ more.is) past.told
+      want_after topology (course_of topology lines) before.refused more.more s t
+      (ap (λ (r : FloodRun). r.refused) (course_all topology lines i past.at.goes_on) ∙ more.is) past.told
 
   module _ (line : FloodLine) (below : i < length lines) (here : line ≡ get_or lines i line) where
     abbrev after : FloodRun
@@ -133,7 +138,8 @@ module _ (topology : Network) (lines : List FloodLine) (i : ℕ) (s t : Stand) (
     named : (why : FloodBad) (by : IsRefusedBy after before line.number why) → refused_line line.number (bad_name why) ≡ refused_text (refused_as by.cause)
     named why by = ap (refused_line line.number) (ap bad_name (sym by.is) ∙ same_name by.cause)
 
-    all_done : (now : FloodNow) (u : Stand) → Follows after before line.number played.All now → Told [] t u → ArePlayed topology (take (i + 1) lines) now (refused + 0) s u
+    all_done : (now : FloodNow) (u : Stand) → Follows after before line.number played.All now → Told [] t u →
+        ArePlayed topology (take (i + 1) lines) now (refused + 0) s u
     all_done now u f this = record {
       at = subst (λ r. IsAt r now) (sym next) f.0;
       counted = ap (λ (r : FloodRun). length r.refused) next ∙ ap length f.1 ∙ past.counted ∙ (omega arith);
@@ -146,7 +152,8 @@ module _ (topology : Network) (lines : List FloodLine) (i : ℕ) (s t : Stand) (
         Told (refused_line line.number (bad_name why)) t u → ArePlayed topology (take (i + 1) lines) now (refused + 1) s u
     one_refused now why u f this = record {
       at = subst (λ r. IsAt r now) (sym next) f.0;
-      counted = ap (λ (r : FloodRun). length r.refused) next ∙ ap length f.1.refused ∙ length-append before.refused (refused_as f.1.cause ∷ []) ∙ ap (λ n. n + 1) past.counted;
+      counted = ap (λ (r : FloodRun). length r.refused) next ∙ ap length f.1.refused ∙ length-append before.refused (refused_as f.1.cause ∷ [])
+          ∙ ap (λ n. n + 1) past.counted;
       told = subst (λ xs. Told xs s u)
           (ap (λ xs. flat_map refused_text before.refused ++ xs) (named why f.1) ∙ sym (one_more before.refused (refused_as f.1.cause))
           ∙ ap (flat_map refused_text) (sym (ap (λ (r : FloodRun). r.refused) next ∙ f.1.refused)))
@@ -161,7 +168,8 @@ module _ (topology : Network) (lines : List FloodLine) (i : ℕ) (s t : Stand) (
     played_more played.TooManySteps now u not f this = absurd (not refl)
 
     refusal_cut : (now : FloodNow) (why : FloodBad) (u : Stand) (e : DeviceBad) → Follows after before line.number (played.Refused why) now →
-        Tells {T = Unit {0}} (refused_line line.number (bad_name why)) t u (Err e) → Tells {T = Unit {0}} (report topology (course_of topology lines)) s u (Err e)
+        Tells {T = Unit {0}} (refused_line line.number (bad_name why)) t u (Err e) →
+        Tells {T = Unit {0}} (report topology (course_of topology lines)) s u (Err e)
     refusal_cut now why u e f this =
         let goes : (course_of topology (take (i + 1) lines)).is_stopped ≡ false = ap (λ (r : FloodRun). r.is_stopped) next ∙ f.0.goes_on in
         let more = lines_refuse (wiring_of topology) (orders_of (drop (i + 1) lines)) (course_of topology (take (i + 1) lines)) in
@@ -171,12 +179,14 @@ module _ (topology : Network) (lines : List FloodLine) (i : ℕ) (s t : Stand) (
         ∙ ap (λ xs. xs ++ more.more) (ap (λ (r : FloodRun). r.refused) next ∙ f.1.refused)
         ) past.told (tells_as (refused_line line.number (bad_name why)) (refused_text (refused_as f.1.cause)) t u (Err e) this (named why f.1))
 
-    nothing_cut : (u : Stand) (e : DeviceBad) → Tells {T = Unit {0}} [] t u (Err e) → Tells {T = Unit {0}} (report topology (course_of topology lines)) s u (Err e)
+    nothing_cut : (u : Stand) (e : DeviceBad) → Tells {T = Unit {0}} [] t u (Err e) →
+        Tells {T = Unit {0}} (report topology (course_of topology lines)) s u (Err e)
     nothing_cut u e this =
         let more = lines_refuse (wiring_of topology) (orders_of (drop i lines)) before in
         tells_within (flat_map refused_text before.refused) [] (flat_map refused_text more.more ++ rest_of topology (course_of topology lines))
         (report topology (course_of topology lines)) s t u e (Err e) (refl, refl) past.told this
-        (begins_with topology (course_of topology lines) before.refused more.more (ap (λ (r : FloodRun). r.refused) (course_all topology lines i past.at.goes_on) ∙ more.is))
+        (begins_with topology (course_of topology lines) before.refused more.more
+        (ap (λ (r : FloodRun). r.refused) (course_all topology lines i past.at.goes_on) ∙ more.is))
 
     -- what it puts was cut
     pub played_cut : (how : Played) (now : FloodNow) (u : Stand) (e : DeviceBad) → Follows after before line.number how now →
@@ -201,29 +211,35 @@ module _ (topology : Network) (lines : List FloodLine) (i : ℕ) (s t : Stand) (
 abbrev pub Goes : FloodNow → Wiring → FloodLine → Played → FloodNow → Type 0
 Goes old wiring line how now = (run : FloodRun) → IsAt run old → Follows (with_line wiring run (order_of line)) run line.number how now
 
-module _ (topology : Network) (lines : List FloodLine) (i : ℕ) (s t : Stand) (refused : ℕ) (old : FloodNow) (past : ArePlayed topology (take i lines) old refused s t)
-    (line : FloodLine) (below : i < length lines) (here : line ≡ get_or lines i line) (wiring : Wiring) (over : wiring ≡ wiring_of topology) (how : Played) (now : FloodNow)
+module _ (topology : Network) (lines : List FloodLine) (i : ℕ) (s t : Stand) (refused : ℕ) (old : FloodNow)
+    (past : ArePlayed topology (take i lines) old refused s t)
+    (line : FloodLine) (below : i < length lines) (here : line ≡ get_or lines i line) (wiring : Wiring) (over : wiring ≡ wiring_of topology) (how : Played)
+    (now : FloodNow)
     (goes : Goes old wiring line how now) where
   follows : Follows (with_line (wiring_of topology) (course_of topology (take i lines)) (order_of line)) (course_of topology (take i lines)) line.number how now
   follows = subst (λ w. Follows (with_line w (course_of topology (take i lines)) (order_of line)) (course_of topology (take i lines)) line.number how now) over
       (goes (course_of topology (take i lines)) past.at)
 
-  pub line_played : (u : Stand) (count : ℕ) → (how ≡ played.TooManySteps → ⊥) → Tells {T = ℕ} (played_text line.number how) t u (Ok count) → count ≡ played_count how →
+  pub line_played : (u : Stand) (count : ℕ) → (how ≡ played.TooManySteps → ⊥) → Tells {T = ℕ} (played_text line.number how) t u (Ok count) →
+      count ≡ played_count how →
       ArePlayed topology (take (i + 1) lines) now (refused + count) s u
   line_played u count not this is =
       subst (λ n. ArePlayed topology (take (i + 1) lines) now (refused + n) s u) (sym is)
       (played_more topology lines i s t refused old past line below here how now u not follows (told_of (played_text line.number how) t u count this))
 
-  pub line_cut : (u : Stand) (e : DeviceBad) → Tells {T = ℕ} (played_text line.number how) t u (Err e) → Tells {T = Unit {0}} (report topology (course_of topology lines)) s u (Err e)
+  pub line_cut : (u : Stand) (e : DeviceBad) → Tells {T = ℕ} (played_text line.number how) t u (Err e) →
+      Tells {T = Unit {0}} (report topology (course_of topology lines)) s u (Err e)
   line_cut u e this =
       played_cut topology lines i s t refused old past line below here how now u e follows (tells_in (played_text line.number how) t u e this)
 
   pub line_full : how ≡ played.TooManySteps → AreCut topology lines s t
   line_full is = cut_at topology lines i s t refused old past line below here now
-      (subst (λ h. Follows (with_line (wiring_of topology) (course_of topology (take i lines)) (order_of line)) (course_of topology (take i lines)) line.number h now) is follows)
+      (subst (λ h. Follows (with_line (wiring_of topology) (course_of topology (take i lines)) (order_of line)) (course_of topology (take i lines)) line.number
+      h now) is follows)
 
 -- an error of the call
-pub plays_err : (topology : Network) (lines : List FloodLine) (now : FloodNow) (s t : Stand) (e : DeviceBad) (r : Result Ended DeviceBad) → IsErr r × IsErrAnd r (λ y. y ≡ e) →
+pub plays_err : (topology : Network) (lines : List FloodLine) (now : FloodNow) (s t : Stand) (e : DeviceBad) (r : Result Ended DeviceBad) →
+    IsErr r × IsErrAnd r (λ y. y ≡ e) →
     Tells {T = Unit {0}} (report topology (course_of topology lines)) s t (Err e) → PlaysAll topology lines now s t r
 plays_err topology lines now s t e (Ok how) from this = absurd from.1
 plays_err topology lines now s t e (Err other) from this =
@@ -246,8 +262,10 @@ module _ (topology : Network) (lines : List FloodLine) (now : FloodNow) (refused
       ∙ ap (λ b. flat_map refused_text ran.refused ++ cond b (codes "too large steps\n")
       (trees_text topology ran.world ++ total_line ran.steps (length ran.refused) (length ran.world.flying))) (sym past.at.goes_on)
 
-  pub trees_cut : (u : Stand) (e : DeviceBad) → Tells {T = Unit {0}} (trees_text topology now.world) t u (Err e) → Tells {T = Unit {0}} (report topology ran) s u (Err e)
-  trees_cut u e this = tells_within (flat_map refused_text ran.refused) (trees_text topology now.world) last (report topology ran) s t u e (Err e) (refl, refl) past.told this whole_is
+  pub trees_cut : (u : Stand) (e : DeviceBad) → Tells {T = Unit {0}} (trees_text topology now.world) t u (Err e) →
+      Tells {T = Unit {0}} (report topology ran) s u (Err e)
+  trees_cut u e this = tells_within (flat_map refused_text ran.refused) (trees_text topology now.world) last (report topology ran) s t u e (Err e)
+      (refl, refl) past.told this whole_is
 
   pub total_cut : (u v : Stand) (e : DeviceBad) → Told (trees_text topology now.world) t u → Tells {T = Unit {0}} last u v (Err e) →
       Tells {T = Unit {0}} (report topology ran) s v (Err e)
@@ -268,14 +286,17 @@ module _ (topology : Network) (lines : List FloodLine) (s t : Stand) (past : Are
   full_is : flat_map refused_text (course_of topology lines).refused ++ codes "too large steps\n" ≡ report topology (course_of topology lines)
   full_is = ap (λ b. flat_map refused_text (course_of topology lines).refused ++ cond b (codes "too large steps\n")
       (trees_text topology (course_of topology lines).world
-      ++ total_line (course_of topology lines).steps (length (course_of topology lines).refused) (length (course_of topology lines).world.flying))) (sym past.stopped)
+      ++ total_line (course_of topology lines).steps (length (course_of topology lines).refused) (length (course_of topology lines).world.flying)))
+      (sym past.stopped)
 
   pub full_told : (u : Stand) → Told (codes "too large steps\n") t u → Told (report topology (course_of topology lines)) s u
-  full_told u this = subst (λ xs. Told xs s u) full_is (told_more (flat_map refused_text (course_of topology lines).refused) (codes "too large steps\n") s t u past.told this)
+  full_told u this = subst (λ xs. Told xs s u) full_is
+      (told_more (flat_map refused_text (course_of topology lines).refused) (codes "too large steps\n") s t u past.told this)
 
   pub full_cut : (u : Stand) (e : DeviceBad) → Tells {T = Unit {0}} (codes "too large steps\n") t u (Err e) →
       Tells {T = Unit {0}} (report topology (course_of topology lines)) s u (Err e)
   full_cut u e this =
-      tells_within (flat_map refused_text (course_of topology lines).refused) (codes "too large steps\n") [] (report topology (course_of topology lines)) s t u e (Err e)
+      tells_within (flat_map refused_text (course_of topology lines).refused) (codes "too large steps\n") [] (report topology (course_of topology lines)) s t u
+      e (Err e)
       (refl, refl) past.told this
       (ap (λ xs. flat_map refused_text (course_of topology lines).refused ++ xs) (append-nil (codes "too large steps\n")) ∙ full_is)

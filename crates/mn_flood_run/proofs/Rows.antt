@@ -10,7 +10,8 @@ use Rattle.mn_tables.proofs.Telling.{flat_filter}
 use Rattle.mn_flood_run.specs.Report.{tree_text, total_line}
 use Rattle.mn_flood_run.specs.Playing.{walk_row}
 
-pub tree_rows : (topology : Network) (view : View) (node : ℕ) → flat_map (walk_row topology view node) (nodes_of (wiring_of topology)) ≡ tree_text topology view node
+pub tree_rows : (topology : Network) (view : View) (node : ℕ) →
+    flat_map (walk_row topology view node) (nodes_of (wiring_of topology)) ≡ tree_text topology view node
 tree_rows topology view node = flat_filter (tree_line topology view node) (λ to. not (to == node)) (nodes_of (wiring_of topology))
 
 -- the node itself has no line

@@ -19,7 +19,8 @@ use Rattle.mn_flood_run.specs.Report.{tree_text, trees_text, settled_text}
 
 -- what the calls of the laws tell: each root has the tree that is computed, and the entries of a tree are the computed ones
 abbrev pub HasTrees : Type 0
-HasTrees = (wiring : Wiring) (view : View) (root : ℕ) → JoinsNodes wiring → root < length wiring.loopbacks → IsTree wiring view root (computed_tree wiring view root)
+HasTrees = (wiring : Wiring) (view : View) (root : ℕ) → JoinsNodes wiring → root < length wiring.loopbacks →
+    IsTree wiring view root (computed_tree wiring view root)
 
 abbrev pub HasDists : Type 0
 HasDists = (wiring : Wiring) (view : View) (root to : ℕ) (tree : PathTable) → IsTree wiring view root tree → JoinsNodes wiring
@@ -54,8 +55,10 @@ within : (topology : Network) (node : ℕ) → In (nodes_of (wiring_of topology)
 within topology node i = let h = in_range 0 (length topology.loopbacks) node i in omega (arith, h.1)
 
 -- where every tree of a node over one view is its tree over another, the lines are the same
-module _ (has_trees : HasTrees) (has_dists : HasDists) (has_nexts : HasNexts) (topology : Network) (joins : JoinsNodes (wiring_of topology)) (one other : View) (node : ℕ)
-    (here : node < length topology.loopbacks) (knows : (table : PathTable) → IsTree (wiring_of topology) one node table → IsTree (wiring_of topology) other node table) where
+module _ (has_trees : HasTrees) (has_dists : HasDists) (has_nexts : HasNexts) (topology : Network) (joins : JoinsNodes (wiring_of topology)) (one other : View)
+    (node : ℕ)
+    (here : node < length topology.loopbacks) (knows : (table : PathTable) → IsTree (wiring_of topology) one node table →
+    IsTree (wiring_of topology) other node table) where
   abbrev table : PathTable
   table = computed_tree (wiring_of topology) one node
 
@@ -68,12 +71,15 @@ module _ (has_trees : HasTrees) (has_dists : HasDists) (has_nexts : HasNexts) (t
   same_line : (to : ℕ) → to < length topology.loopbacks → tree_line topology one node to ≡ tree_line topology other node to
   same_line to there =
       let dist : dist_in (dists_to (wiring_of topology) one to) node ≡ dist_in (dists_to (wiring_of topology) other to) node =
-      sym (has_dists (wiring_of topology) one node to table over_one joins here there) ∙ has_dists (wiring_of topology) other node to table over_other joins here there in
+      sym (has_dists (wiring_of topology) one node to table over_one joins here there)
+      ∙ has_dists (wiring_of topology) other node to table over_other joins here there in
       let hop : hop_alone (next (wiring_of topology) one node to) ≡ hop_alone (next (wiring_of topology) other node to) =
-      sym (has_nexts (wiring_of topology) one node to table over_one joins here there) ∙ has_nexts (wiring_of topology) other node to table over_other joins here there in
+      sym (has_nexts (wiring_of topology) one node to table over_one joins here there)
+      ∙ has_nexts (wiring_of topology) other node to table over_other joins here there in
       ap (λ w. text (codes "tree " ∷ node_name topology node ∷ codes " to " ∷ node_name topology to ∷ w ∷ []))
       (ap (λ d. walk_text topology d (next (wiring_of topology) one node to)) dist
-      ∙ same_walk topology (dist_in (dists_to (wiring_of topology) other to) node) (next (wiring_of topology) one node to) (next (wiring_of topology) other node to) hop)
+      ∙ same_walk topology (dist_in (dists_to (wiring_of topology) other to) node) (next (wiring_of topology) one node to)
+      (next (wiring_of topology) other node to) hop)
 
   pub same_tree : tree_text topology one node ≡ tree_text topology other node
   same_tree = same_over (tree_line topology one node) (tree_line topology other node) (filter (λ to. not (to == node)) (nodes_of (wiring_of topology)))
@@ -83,6 +89,7 @@ module _ (has_trees : HasTrees) (has_dists : HasDists) (has_nexts : HasNexts) (t
 pub settled : HasTrees → HasDists → HasNexts → (topology : Network) (world : FloodWorld) → JoinsNodes (wiring_of topology) → EndsDiffer (wiring_of topology) →
     IsFlood (wiring_of topology) world → world.flying ≡ [] → trees_text topology world ≡ settled_text topology world.up
 settled has_trees has_dists has_nexts topology world joins differ flood quiet =
-    same_over (λ node. tree_text topology (flooded (wiring_of topology) world node) node) (λ node. tree_text topology world.up node) (nodes_of (wiring_of topology))
+    same_over (λ node. tree_text topology (flooded (wiring_of topology) world node) node) (λ node. tree_text topology world.up node)
+    (nodes_of (wiring_of topology))
     (λ node i. same_tree has_trees has_dists has_nexts topology joins (flooded (wiring_of topology) world node) world.up node (within topology node i)
     (λ table is. trees (wiring_of topology) joins differ world flood quiet node table (within topology node i) is))

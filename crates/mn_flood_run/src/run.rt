@@ -130,7 +130,7 @@ pub fn flood<S: Shelf, O: Sink>(
     shelf: &mut S,
     out: &mut O,
 ) -> Outcome
-    // The outcome and the text are the answer's; a fault or out of memory may come in its place, and then a first part of the text stands.
+    // The outcome and the text are the answer's; a fault, or running out of memory, may come in its place, and then a first part of the text stands.
     ensures answers { ForSome (S.files shelf.old) (λ files. Answers (flood_answer topology.now script.now files) files (S.files shelf.new) (O.written out.old) (O.written out.new) result) }
     // Where all was done, the report is that of the script's course over the topology. Where no advert flies at the end its trees
     // are those over the links that are up, and no drain received more than its bound.

@@ -128,7 +128,8 @@ from_only t node tick w packets count (e ∷ es) inputs site k lawful i = elim (
       (later.0, later.1, omega (arith, later.2, attaches_grow w.config e.step site), later.3))
 ]
 
-first_only : (t : Network) (node site k : ℕ) → In (attachments_first t node) (attachment_of site k) → (home_of t site ≡ node) × (site < length t.sites) × (k ≡ 1)
+first_only : (t : Network) (node site k : ℕ) → In (attachments_first t node) (attachment_of site k) →
+    (home_of t site ≡ node) × (site < length t.sites) × (k ≡ 1)
 first_only t node site k i =
     let f = in_map (λ s. attachment_of s 1) (sites_at t node) (attachment_of site k) i in
     let g = in_filter (λ s. home_of t s == node) (range_with_len 0 (length t.sites)) f.0 f.1 in
@@ -137,7 +138,8 @@ first_only t node site k i =
     (ap (home_of t) (sym name) ∙ same_numbers (home_of t f.0) node g.1, omega (arith, below.1, name), sym (ap number_of f.2))
 
 only : (t : Network) (entries : List JournalEntry) (inputs : List (List ℕ)) (node site k : ℕ) → IsLawfulJournal t entries inputs →
-    In (attachments_first t node ++ attachments_from t node (first_config t) entries) (attachment_of site k) → IsAttachmentAt t (world_of t entries).config node site k
+    In (attachments_first t node ++ attachments_from t node (first_config t) entries) (attachment_of site k) →
+    IsAttachmentAt t (world_of t entries).config node site k
 only t entries inputs node site k lawful i = elim (in_append (attachments_first t node) _ (attachment_of site k) i) [
   | inl j ↦ (let f = first_only t node site k j in record { home = f.0; there = f.1; first = omega (arith, f.2); last = omega (arith, f.2) })
   | inr j ↦ (let f = from_only t node 0 (start t) no_packets 0 entries inputs site k lawful j in
@@ -166,7 +168,8 @@ step_number t node c (Attach s) site k i = by (home_of t s.0 == node) i
         subst (λ x. k ≤ put c.attaches s.0 (c.attaches s.0 + 1) x + 1) name (omega (arith, number, now))
 step_number t node c _ site k i = absurd i
 
-from_number : (t : Network) (node : ℕ) (w : World) (entries : List JournalEntry) (site k : ℕ) → In (attachments_from t node w.config entries) (attachment_of site k) →
+from_number : (t : Network) (node : ℕ) (w : World) (entries : List JournalEntry) (site k : ℕ) →
+    In (attachments_from t node w.config entries) (attachment_of site k) →
     k ≤ (world_from t w entries).config.attaches site + 1
 from_number t node w [] site k i = absurd i
 from_number t node w (e ∷ es) site k i = elim (in_append (attachments_by t node w.config e.step) _ (attachment_of site k) i) [

@@ -37,7 +37,8 @@ appended thing [] x h = by (same_bind thing x.what) refl h
 appended thing (g ∷ gs) x h = by (same_bind thing g.what) h (appended thing gs x)
   where
     by : (b : Bool) → 16 ≤ cond b g.label (label_given thing (gs ++ x ∷ [])) →
-        (16 ≤ label_given thing (gs ++ x ∷ []) → (16 ≤ label_given thing gs) ⊎ ((same_bind thing x.what ≡ true) × (label_given thing (gs ++ x ∷ []) ≡ x.label))) →
+        (16 ≤ label_given thing (gs ++ x ∷ []) →
+        (16 ≤ label_given thing gs) ⊎ ((same_bind thing x.what ≡ true) × (label_given thing (gs ++ x ∷ []) ≡ x.label))) →
         (16 ≤ cond b g.label (label_given thing gs))
         ⊎ ((same_bind thing x.what ≡ true) × (cond b g.label (label_given thing (gs ++ x ∷ [])) ≡ x.label))
     by true y more = inl y

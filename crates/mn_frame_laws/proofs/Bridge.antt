@@ -1,5 +1,6 @@
 -- The attachments to which a node has given labels, in order, whatever its FECs do; and that each of them has its label.
-use Rattle.std.proofs.Common.{ℕ, ◌≡◌, ◌+◌, ◌≤◌, ◌⊎◌, inl, inr, Bool, true, false, cond, List, [], ◌∷◌, ◌++◌, map, filter, length, refl, arith, sym, ◌∙◌, ap, subst, append-nil, append_assoc}
+use Rattle.std.proofs.Common.{ℕ, ◌≡◌, ◌+◌, ◌≤◌, ◌⊎◌, inl, inr, Bool, true, false, cond, List, [], ◌∷◌, ◌++◌, map, filter, length, refl, arith, sym, ◌∙◌, ap}
+use Rattle.std.proofs.Common.{subst, append-nil, append_assoc}
 use Rattle.std.proofs.Common.{Option, Some, None}
 use Rattle.std.specs.Prelude.{◌==◌, ◌&&◌, if◌then◌else◌, slice_set}
 use Rattle.std.proofs.lemmas.List.{map-append}
@@ -40,7 +41,8 @@ attachments_from topology node config (entry ∷ entries) =
 abbrev pub attachments_given : List Given → List Bind
 attachments_given given = map (λ g. g.what) (filter (λ g. is_attachment g.what) given)
 
-given_more : (given : List Given) (g : Given) → attachments_given (given ++ g ∷ []) ≡ attachments_given given ++ (if is_attachment g.what then g.what ∷ [] else [])
+given_more : (given : List Given) (g : Given) →
+    attachments_given (given ++ g ∷ []) ≡ attachments_given given ++ (if is_attachment g.what then g.what ∷ [] else [])
 given_more given g =
     ap (map (λ (x : Given). x.what)) (filter-append (λ (x : Given). is_attachment x.what) given (g ∷ []))
     ∙ map-append (λ (x : Given). x.what) (filter (λ (x : Given). is_attachment x.what) given) (filter (λ (x : Given). is_attachment x.what) (g ∷ []))
@@ -112,7 +114,8 @@ attached_is_fit t w (Attach site) n labels fit = by (home_of t site.0 == n)
     by false = fit
 attached_is_fit t w _ n labels fit = fit
 
-from_fit : (t : Network) (n : ℕ) (es : List JournalEntry) (w : World) (rested : ℕ → ℕ) (labels : Labels) → AreFit labels → AreFit (labels_from t n w rested labels es)
+from_fit : (t : Network) (n : ℕ) (es : List JournalEntry) (w : World) (rested : ℕ → ℕ) (labels : Labels) → AreFit labels →
+    AreFit (labels_from t n w rested labels es)
 from_fit t n [] w rested labels fit = fit
 from_fit t n (e ∷ es) w rested labels fit =
     from_fit t n es (after t w e.step) (rested_after t w e.tick e.step n rested) (labels_after t w e.tick e.step n rested labels)
@@ -133,12 +136,14 @@ same_site s k (Site other number) h =
 itself : (s k : ℕ) → same_bind (attachment_of s k) (attachment_of s k) ≡ true
 itself s k = and_on (s == s) (k == k) (same_test s) (same_test k)
 
-pub in_has : (gs : List Given) (s k : ℕ) → ((g : Given) → In gs g → 16 ≤ g.label) → In (attachments_given gs) (attachment_of s k) → 16 ≤ label_given (attachment_of s k) gs
+pub in_has : (gs : List Given) (s k : ℕ) → ((g : Given) → In gs g → 16 ≤ g.label) → In (attachments_given gs) (attachment_of s k) →
+    16 ≤ label_given (attachment_of s k) gs
 in_has [] s k low i = absurd i
 in_has (g ∷ gs) s k low i = by (same_bind (attachment_of s k) g.what) refl (in_has gs s k (λ x j. low x (inr j)))
   where
     rest : same_bind (attachment_of s k) g.what ≡ false → (a : Bool) → is_attachment g.what ≡ a →
-        In (map (λ (x : Given). x.what) (cond a (g ∷ filter (λ (x : Given). is_attachment x.what) gs) (filter (λ (x : Given). is_attachment x.what) gs))) (attachment_of s k) →
+        In (map (λ (x : Given). x.what) (cond a (g ∷ filter (λ (x : Given). is_attachment x.what) gs) (filter (λ (x : Given). is_attachment x.what) gs)))
+        (attachment_of s k) →
         In (attachments_given gs) (attachment_of s k)
     rest e false f j = j
     rest e true f j = elim j [ inl q ↦ absurd (clash (sym (ap (same_bind (attachment_of s k)) q ∙ itself s k) ∙ e)) | inr q ↦ q ]
@@ -162,7 +167,8 @@ has_in (g ∷ gs) s k h = by (same_bind (attachment_of s k) g.what) refl h (has_
     front e = rw e (inl refl)
 
     behind : In (attachments_given gs) (attachment_of s k) → (a : Bool) →
-        In (map (λ (x : Given). x.what) (cond a (g ∷ filter (λ (x : Given). is_attachment x.what) gs) (filter (λ (x : Given). is_attachment x.what) gs))) (attachment_of s k)
+        In (map (λ (x : Given). x.what) (cond a (g ∷ filter (λ (x : Given). is_attachment x.what) gs) (filter (λ (x : Given). is_attachment x.what) gs)))
+        (attachment_of s k)
     behind i true = inr i
     behind i false = i
 

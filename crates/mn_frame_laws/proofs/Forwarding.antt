@@ -116,7 +116,8 @@ abbrev GoesTo : Labelling → Token → Labelled → ℕ → Forwarded × Labell
 GoesTo g x frame hop both = (both.0 ≡ Next (record { 0 = hop })) × IsFrameOf g (hopped x) hop both.1
 
 over_hop : (t : Network) (g : Labelling) (x : Token) (frame : Labelled) (label : ℕ) (hop : ℕ) (b : Bool) →
-    (hop ≢ x.edge → HasLabel (g hop) (fec_of x.edge)) → (hop == x.edge) ≡ b → frame.entries ≡ entry label false x.ttl ∷ inner g x x.pushed ∷ [] → frame.packet ≡ x.bytes →
+    (hop ≢ x.edge → HasLabel (g hop) (fec_of x.edge)) → (hop == x.edge) ≡ b → frame.entries ≡ entry label false x.ttl ∷ inner g x x.pushed ∷ [] →
+    frame.packet ≡ x.bytes →
     GoesTo g x frame hop (by_use (Some (label_of.Fec (record { 0 = hop }) (label_for g hop x.edge))) false (x.ttl - 1) frame)
 over_hop t g x frame label hop true had is stack packet =
     let null : label_for g hop x.edge ≡ 3 = rw is refl in
@@ -178,7 +179,8 @@ turns_alive_on_way t g w k x y uses frame lawful within mapped table sound is h 
     let stack : frame.entries ≡ entry (label_for g y x.edge) false x.ttl ∷ inner g x x.pushed ∷ [] =
     is.stack ∙ ap (λ b. if b then inner g x x.ttl ∷ [] else entry (label_for g y x.edge) false x.ttl ∷ inner g x x.pushed ∷ []) e in
     let live : 1 < x.ttl = grind (arith, nat_tests, h) in
-    let used : use_of uses (label_for g y x.edge) ≡ fec_use (next_entry t g w y x.edge) = rw e (table.fecs x.edge sound.node (λ q. apart (sym q)) (is.outer apart)) in
+    let used : use_of uses (label_for g y x.edge) ≡ fec_use (next_entry t g w y x.edge) =
+    rw e (table.fecs x.edge sound.node (λ q. apart (sym q)) (is.outer apart)) in
     subst (λ p. Turns t g k x y p (forwarded uses frame)) (sym (arrives_on_way t w k x y h e))
     (subst (λ p. Turns t g k x y (hop_over t k (stamped k (hopped x)) y rule.NoEntry (usable t w.config w.views w.sessions y x.edge)) p)
     (sym (alive uses frame (entry (label_for g y x.edge) false x.ttl) _ (rw stack refl) live used))

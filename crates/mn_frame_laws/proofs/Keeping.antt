@@ -64,6 +64,7 @@ unfolding given
 frames_keep_labels t es ps e l dir token lawful journal forward flies sound outer = record {
   inner = attachments_stay t es e token.edge token.site token.attachment sound.labelled;
   outer = λ apart. let same = kept (given t es (receiver (wiring_of t) l dir)) (given t (es ++ e ∷ []) (receiver (wiring_of t) l dir)) token.edge (outer apart)
-      (λ label is. frames_keep t es ps e lawful journal l dir token label (on_a_link t es ps l dir token lawful journal flies) forward flies sound.node (λ q. apart (sym q)) is) in
+      (λ label is. frames_keep t es ps e lawful journal l dir token label (on_a_link t es ps l dir token lawful journal flies) forward flies sound.node
+      (λ q. apart (sym q)) is) in
       record { had = subst (λ n. 16 ≤ n) (sym same) (outer apart); label = same };
 }

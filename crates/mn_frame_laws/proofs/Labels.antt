@@ -8,7 +8,8 @@ use Rattle.std.proofs.lemmas.Option.{same_Some}
 use Rattle.mn_labels.specs.declared.meaning.Bind.{Bind}
 use Rattle.mn_labels.specs.declared.meaning.Bind.TheVariants.{Fec, Site}
 use Rattle.mn_labels.specs.declared.meaning.Given.{Given}
-use Rattle.mn_labels.specs.Labels.{Labels, label_now, is_label, is_attachment, fec_of, attachment_of, fec_with, attachment_with, or_attachment, meaning_of, Means}
+use Rattle.mn_labels.specs.Labels.{Labels, label_now, is_label, is_attachment, fec_of, attachment_of, fec_with, attachment_with, or_attachment, meaning_of}
+use Rattle.mn_labels.specs.Labels.{Means}
 use Rattle.mn_labels.specs.Labels.{greatest, attached, offered_one, offered_all, given_up, offered, next_label}
 use Rattle.mn_topo.specs.Network.{Network}
 use Rattle.mn_topo.specs.declared.steps.Step.{Step}
@@ -253,7 +254,8 @@ from_push : (t : Network) (n : ℕ) (es : List JournalEntry) (w : World) (rested
 from_push t n [] w rested labels e =
     and_then labels (attached_in t w e.step n labels) (labels_after t w e.tick e.step n rested labels) (attached_grows t w e.step n labels)
     (offered_grows (is_free t w n rested e.tick) (attached_in t w e.step n labels) (new_offers t w e.step n))
-from_push t n (x ∷ es) w rested labels e = from_push t n es (after t w x.step) (rested_after t w x.tick x.step n rested) (labels_after t w x.tick x.step n rested labels) e
+from_push t n (x ∷ es) w rested labels e =
+    from_push t n es (after t w x.step) (rested_after t w x.tick x.step n rested) (labels_after t w x.tick x.step n rested labels) e
 
 pub given_grows : (t : Network) (es : List JournalEntry) (e : JournalEntry) (n : ℕ) → Grows (given t es n) (given t (es ++ e ∷ []) n)
 unfolding given labels_of

@@ -29,8 +29,10 @@ outer_stack g route bytes packet hop false = refl
 
 departs : (t : Network) (g : Labelling) (w : World) (k : Packets) (packet : ℕ) (route : HeldRoute) (bytes : List ℕ) (node : ℕ) (frame : Labelled)
     (found : Option (ℕ × ℕ)) →
-    IsLawful t → node < length t.loopbacks → node ≢ route.edge → AreMapped t g w → IsPushed t g route bytes frame → usable t w.config w.views w.sessions node route.edge ≡ found →
-    Departs t g k (bound packet route bytes) node (hop_over t k (stamped k (bound packet route bytes)) node rule.NoLsp found) (outer_over g route.edge found) frame
+    IsLawful t → node < length t.loopbacks → node ≢ route.edge → AreMapped t g w → IsPushed t g route bytes frame →
+    usable t w.config w.views w.sessions node route.edge ≡ found →
+    Departs t g k (bound packet route bytes) node (hop_over t k (stamped k (bound packet route bytes)) node rule.NoLsp found)
+    (outer_over g route.edge found) frame
 departs t g w k packet route bytes node frame None lawful there apart mapped pushed is = refl
 departs t g w k packet route bytes node frame (Some hop) lawful there apart mapped pushed is = (
   links,

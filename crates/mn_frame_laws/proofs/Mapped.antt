@@ -30,7 +30,8 @@ pub all_are_mapped : AllAreMapped
 unfolding given
 all_are_mapped t es ps lawful journal node edge hop there inside apart is away = elim (two_ways (is_at_rest t (world_of t es) hop.0 edge)) [
   | inl rest ↦ absurd (blocks t es ps lawful journal hop.0 node edge hop there inside apart rest is refl)
-  | inr awake ↦ (let labels = has_labels t es ps hop.0 (leads_inside t node hop.0 hop.1 (away_from t hop.1 node) lawful (hop_leads t (world_of t es) node edge hop lawful there apart is)) lawful journal in
+  | inr awake ↦ (let labels = has_labels t es ps hop.0
+      (leads_inside t node hop.0 hop.1 (away_from t hop.1 node) lawful (hop_leads t (world_of t es) node edge hop lawful there apart is)) lawful journal in
       let one = labels.had edge inside (λ e. away (sym e)) awake in
       labelled (given t es hop.0) edge one.0 one.1 (labels.fit.reserved _ (labels.fit.given edge one.0 one.1)))
 ]

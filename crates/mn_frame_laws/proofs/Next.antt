@@ -30,7 +30,8 @@ pub gives_the_next : GivesTheNext
 unfolding labels_of
 gives_the_next t es e site is =
     ap (λ (ls : Labels). label_given thing ls.given) (given_after t es e n)
-    ∙ ap (label_given thing) more.1 ∙ label_stays thing (attached_in t w e.step n old).given more.0 (subst (λ x. 16 ≤ x) (sym its) (high (least old.given))) ∙ its
+    ∙ ap (label_given thing) more.1 ∙ label_stays thing (attached_in t w e.step n old).given more.0 (subst (λ x. 16 ≤ x) (sym its) (high (least old.given)))
+    ∙ its
   where
     n : ℕ
     n = home_of t site.0

@@ -2,7 +2,7 @@
 --
 --     site a --- pe1 --- p --- pe2 --- site b
 --
--- Its nodes are 0, 1 and 2. Each edge has given 16 for its site, 17 for p's FEC, of which it hears first, and 18 for the other edge's;
+-- Its nodes are 0, 1 and 2. Each edge has given 16 for its site, 17 for p's FEC, of which it receives first, and 18 for the other edge's;
 -- p has given 16 for pe2's FEC and 17 for pe1's.
 use Rattle.std.proofs.Common.{ℕ, zero, suc, ◌≡◌, ◌≢◌, ◌+◌, ◌<◌, ◌≤◌, inl, inr, Bool, true, false, cond, List, [], ◌∷◌, ◌++◌, length, refl}
 use Rattle.std.proofs.Common.{Less, Equal, Greater, rules, arith, sym, ◌∙◌, ap, subst, Some, None}

@@ -73,7 +73,7 @@ unfolding next knowledge_of news sessions_after peerings_after held packets_afte
     with_ttl aged in_flight bytes_flying given node_labels entry_bytes
 an_old_frame_keeps_its_label = refl
 
--- and once the near edge has heard of the new attachment it pushes label 19
+-- and once the near edge has received from the new attachment it pushes label 19
 pub a_new_frame_has_the_new_label :
     frames_on (settling ++ attached_anew ++ at_start (HearBgp (node_no 2) (node_no 0)) ∷ at_start (HearBgp (node_no 2) (node_no 0)) ∷ at_start
     (Inject (site_no 0) 1) ∷ []) (packet ∷ []) 0 Forth

@@ -101,7 +101,8 @@ step_gives t node config _ h = omega arith
 
 journal_gives : (t : Network) (node tick : ℕ) (w : World) (k : Packets) (count : ℕ) (entries : List JournalEntry) (inputs : List (List ℕ)) →
     IsLawfulFrom t tick w k count entries inputs →
-    total (world_from t w entries).config.attaches (sites_at t node) ≡ length (attachments_from t node w.config entries) + total w.config.attaches (sites_at t node)
+    total (world_from t w entries).config.attaches (sites_at t node) ≡ length (attachments_from t node w.config entries) + total w.config.attaches
+    (sites_at t node)
 journal_gives t node tick w k count [] inputs lawful = omega arith
 journal_gives t node tick w k count (e ∷ es) inputs lawful =
     let rest = journal_gives t node (clock_after e) (after t w e.step) (packets_by t (after t w e.step) k e (next_of inputs)) (count + 1) es

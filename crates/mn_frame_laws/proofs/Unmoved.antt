@@ -22,7 +22,8 @@ none_passes p (x ∷ xs) h = ap (λ b. cond b (x ∷ filter p xs) (filter p xs))
 
 begins_none : (t : Network) (w : World) (s : Step) (node fec : ℕ) → is_transport s ≡ false → begins_offer t w s node fec ≡ false
 begins_none t w s node fec h =
-    ap (λ k. not (fec == node) && (not (offers (wiring_of t) (known_before t w node) node fec) && offers (wiring_of t) k node fec)) (knowledge_kept t w s node h)
+    ap (λ k. not (fec == node) && (not (offers (wiring_of t) (known_before t w node) node fec) && offers (wiring_of t) k node fec))
+    (knowledge_kept t w s node h)
     ∙ by (not (fec == node)) (offers (wiring_of t) (known_before t w node) node fec)
   where
     by : (a b : Bool) → (a && (not b && b)) ≡ false
@@ -33,5 +34,6 @@ begins_none t w s node fec h =
 pub gives_by_attaching : GivesByAttaching
 gives_by_attaching t es e node h =
     given_after t es e node
-    ∙ ap (offered (is_free t (world_of t es) node (rested_from t node (start t) (λ fec. 0) es) e.tick) (attached_in t (world_of t es) e.step node (given t es node)))
+    ∙ ap (offered (is_free t (world_of t es) node (rested_from t node (start t) (λ fec. 0) es) e.tick)
+    (attached_in t (world_of t es) e.step node (given t es node)))
     (none_passes (begins_offer t (world_of t es) e.step node) (nodes_of (wiring_of t)) (λ fec. begins_none t (world_of t es) e.step node fec h))

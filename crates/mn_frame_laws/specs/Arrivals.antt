@@ -35,7 +35,8 @@ Becomes topology given packets token node later (Site site) after =
     (later ≡ deliver packets token.packet site.0 (token.ttl - 1) token.bytes) × (after.entries ≡ [])
     × (after.packet ≡ aged token.bytes (ttl_of token.bytes - (token.ttl - 1)))
 Becomes topology given packets token node later (Next hop) after =
-    ((l : ℕ) (dir : Dir) → Leads topology node hop.0 l dir → later ≡ sent packets (stamped packets (hopped token)) l dir) × IsFrameOf given (hopped token) hop.0 after
+    ((l : ℕ) (dir : Dir) → Leads topology node hop.0 l dir →
+    later ≡ sent packets (stamped packets (hopped token)) l dir) × IsFrameOf given (hopped token) hop.0 after
     × (are_joined topology.links node hop.0 ≡ true)
 
 -- The frame of a packet that arrives at a node, forwarded by a table that stands for the world, becomes what the ledger
@@ -43,6 +44,7 @@ Becomes topology given packets token node later (Next hop) after =
 abbrev pub IsForwardedAsTold : Type 0
 IsForwardedAsTold =
     (topology : Network) (given : Labelling) (world : World) (packets : Packets) (token : Token) (node : ℕ) (uses : List (ℕ × Use)) (frame : Labelled)
-    → IsLawful topology → node < length topology.loopbacks → AreMapped topology given world → TableStands topology given world node uses → IsSound topology given token →
+    → IsLawful topology → node < length topology.loopbacks → AreMapped topology given world → TableStands topology given world node uses →
+    IsSound topology given token →
     IsFrameOf given token node frame
     → Becomes topology given packets token node (arrive topology world packets token node) (forwarded uses frame).0 (forwarded uses frame).1

@@ -1,4 +1,4 @@
--- Every attachment has a label at its site's edge, and so has all that names one: what was told, what is held, and what flies.
+-- Every attachment has a label at its site's edge, and so has all that names one: what was sent, what is held, and what flies.
 use Rattle.std.specs.Prelude.{◌≡◌, ◌<◌, ◌≤◌, ℕ, ◌+◌, List, length, slice_index}
 use Rattle.std.specs.List.{Contains}
 use Rattle.mn_wiring.specs.declared.links.Dir.{Dir}
@@ -36,7 +36,7 @@ GivesToNoOther = (topology : Network) (entries : List JournalEntry) (inputs : Li
     IsLawfulJournal topology entries inputs → HasLabel (given topology entries node) (attachment_of site attachment) →
     IsAttachmentAt topology (world_of topology entries).config node site attachment
 
--- each announcement that was told, and each route that a VRF holds, names an attachment that has a label at its edge
+-- each announcement that was sent, and each route that a VRF holds, names an attachment that has a label at its edge
 pub record NamesWhatHasLabels (topology : Network) (entries : List JournalEntry) : Type 0 where
   pub told : (teller peer : ℕ) (export : Export) → Contains ((world_of topology entries).peerings.told teller peer) (Announcement export) →
       HasLabel (given topology entries teller) (attachment_of export.site export.attachment)

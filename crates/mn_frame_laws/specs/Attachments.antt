@@ -28,7 +28,8 @@ pub record Attaches (t : Network) (g later : Labelling) (w next : World) (node s
   pub set : use_of after (greatest (g node).given + 1) ≡ Some (label_of.Site (record { 0 = s }))
   pub others : (label : ℕ) → label ≢ greatest (g node).given + 1 → use_of after label ≡ use_of uses label
 
--- what holds as a site is detached from a node that has no label for two things: its attachment was the present one, its label ends, and nothing else changes there
+-- what holds as a site is detached from a node that has no label for two things: its attachment was the present one, its label ends, and nothing else
+-- changes there
 pub record Detaches (t : Network) (g : Labelling) (w next : World) (node s number : ℕ) (uses after : List (ℕ × Use)) : Type 0 where
   pub labelled : HasLabel (g node) (attachment_of s number)
   pub told : (one other : Bind) → HasLabel (g node) one → HasLabel (g node) other → label_in (g node) one ≡ label_in (g node) other → one ≡ other

@@ -41,4 +41,5 @@ edge_below number i d small below =
 
 pub packets_are_good : (number : ℕ) → number ≤ 99 → All (λ packet. good packet ≡ true) (map packet_to (edges number))
 packets_are_good number small =
-    All-map (λ (packet : List ℕ). good packet ≡ true) packet_to (edges number) (λ i d below. each_good (get_or (edges number) i d) (edge_below number i d small below))
+    All-map (λ (packet : List ℕ). good packet ≡ true) packet_to (edges number)
+    (λ i d below. each_good (get_or (edges number) i d) (edge_below number i d small below))

@@ -33,7 +33,8 @@ vrfs_text edge = vrf_text (codes "red") edge 1 ++ vrf_text (codes "blue") edge 2
 unfoldable pub site_text : List ℕ → List ℕ → ℕ → List ℕ
 site_text letter colour edge =
     text (codes
-    "[[site]]\nname = \"" ∷ letter ∷ decimal edge ∷ codes "\"\nvrf = \"" ∷ colour ∷ decimal edge ∷ codes "\"\nprefixes = [\"10." ∷ decimal edge ∷ codes ".0.0/16\"]\n" ∷ [])
+    "[[site]]\nname = \"" ∷ letter ∷ decimal edge ∷ codes "\"\nvrf = \"" ∷ colour ∷ decimal edge ∷ codes "\"\nprefixes = [\"10." ∷ decimal edge
+    ∷ codes ".0.0/16\"]\n" ∷ [])
 
 abbrev pub sites_text : ℕ → List ℕ
 sites_text edge = site_text (codes "r") (codes "red") edge ++ site_text (codes "b") (codes "blue") edge

@@ -17,7 +17,8 @@ use Rattle.mn_sched.proofs.Delivering.{first_part_refl, first_part_trans}
 use Rattle.mn_join_laws.specs.declared.leg.Which.{Which}
 use Rattle.mn_join_laws.specs.declared.leg.Which.TheVariants.{First, Second}
 use Rattle.mn_join_laws.specs.Pairing.{opposite, Pairing, Both, side, with_plain_step}
-use Rattle.mn_join_laws.specs.Course.{PairCourse, Exit, ends, after_exits, crossed, handed_on, refusal_on, tried, stepped, unless_stopped, arrived, one_by_one, deliver}
+use Rattle.mn_join_laws.specs.Course.{PairCourse, Exit, ends, after_exits, crossed, handed_on, refusal_on, tried, stepped, unless_stopped, arrived, one_by_one}
+use Rattle.mn_join_laws.specs.Course.{deliver}
 use Rattle.mn_join.specs.declared.played.Played.TheVariants.{All}
 use Rattle.mn_join.specs.declared.played.PairBad.{PairBad}
 use Rattle.mn_join.specs.declared.played.PairBad.TheVariants.{TooManySteps, NoMemory}
@@ -33,7 +34,8 @@ net_is : (pair : PairNow) (w : Which) → net_of pair w ≡ (side_of pair w).net
 net_is pair First = refl
 net_is pair Second = refl
 
-journal_is : (pairing : Pairing) (pair : PairNow) (both : Both) → PairStands pairing pair both → (w : Which) → (net_of pair w).journal ≡ (side both w).past.entries
+journal_is : (pairing : Pairing) (pair : PairNow) (both : Both) → PairStands pairing pair both → (w : Which) →
+    (net_of pair w).journal ≡ (side both w).past.entries
 journal_is pairing pair both h First = ap (λ (p : Past). p.entries) (h.sides First).past
 journal_is pairing pair both h Second = ap (λ (p : Past). p.entries) (h.sides Second).past
 
@@ -42,7 +44,8 @@ still_is old new h First = h.first
 still_is old new h Second = h.second
 
 -- the steps done are first steps of whatever comes after them
-pub has_begun : (pairing : Pairing) (old new : PairNow) (now after : Both) → PairStands pairing old now → StoodStill old new → ComeBefore now after → HasBegun new after
+pub has_begun : (pairing : Pairing) (old new : PairNow) (now after : Both) → PairStands pairing old now → StoodStill old new → ComeBefore now after →
+    HasBegun new after
 has_begun pairing old new now after stands still before = record {
   steps = λ w. subst (λ es. IsFirstPart es (side after w).past.entries)
       (sym (still_is old new still w ∙ journal_is pairing old now stands w)) (before w);
@@ -70,7 +73,8 @@ pub record GoesOver (pairing : Pairing) (which : Which) (both : Both) (i : ℕ) 
   pub rest : handed_on pairing which both ≡ crossed (256 - i) pairing at later
   pub exits : now.exits ≡ start.exits
 
-pub goes_first : (pairing : Pairing) (which : Which) (both : Both) (start : PairNow) → PairStands pairing start both → GoesOver pairing which both 0 which start start
+pub goes_first : (pairing : Pairing) (which : Which) (both : Both) (start : PairNow) → PairStands pairing start both →
+    GoesOver pairing which both 0 which start start
 unfolding handed_on
 goes_first pairing which both start h = record { later = both; stands = h; before = same_steps both; rest = refl; exits = refl }
 
@@ -102,7 +106,8 @@ module _ (pairing : Pairing) (which : Which) (both : Both) (i : ℕ) (at : Which
   pub goes_full : Crosses pairing at h.later now new (Err TooManySteps)
       → Takes pairing (handed_on pairing which both) start new (Err TooManySteps)
   goes_full (stands, out, on) =
-      let is : handed_on pairing which both ≡ ends ending.TooManySteps h.later = course_is ∙ on (λ later. crossed (256 - (i + 1)) pairing (opposite at) later) in (
+      let is : handed_on pairing which both ≡ ends ending.TooManySteps h.later = course_is
+      ∙ on (λ later. crossed (256 - (i + 1)) pairing (opposite at) later) in (
         ap (λ (c : PairCourse). c.ending) is,
         subst (λ (c : PairCourse). HasStopped pairing new c.both) (sym is) (has_stopped pairing new h.later stands),
         out ∙ h.exits ∙ sym (append-nil start.exits) ∙ ap (λ (c : PairCourse). start.exits ++ c.exits) (sym is),
@@ -163,10 +168,12 @@ module _ (pairing : Pairing) (which : Which) (both done : Both) (refused : Optio
       exits_are : (xs : List Exit) → mid.exits ++ xs ≡ xs
       exits_are xs = ap (λ ys. ys ++ xs) fresh
 
-      by : (r : Result (Unit {0}) PairBad) → Takes pairing (handed_on pairing which done) mid new r → Plays pairing (tried pairing which both done refused) new (as_played r)
+      by : (r : Result (Unit {0}) PairBad) → Takes pairing (handed_on pairing which done) mid new r →
+          Plays pairing (tried pairing which both done refused) new (as_played r)
       by (Ok x) h = subst (λ c. Plays pairing c new (Ok All)) (sym is) (h.0, h.1, h.2 ∙ exits_are (handed_on pairing which done).exits)
       by (Err TooManySteps) h = subst (λ c. Plays pairing c new (Err TooManySteps)) (sym is) (h.0, h.1, h.2 ∙ exits_are (handed_on pairing which done).exits)
-      by (Err NoMemory) h = subst (λ c. Plays pairing c new (Err NoMemory)) (sym is) (h.0, subst (ComeFirst new.exits) (exits_are (handed_on pairing which done).exits) h.1)
+      by (Err NoMemory) h = subst (λ c. Plays pairing c new (Err NoMemory)) (sym is)
+          (h.0, subst (ComeFirst new.exits) (exits_are (handed_on pairing which done).exits) h.1)
 
 pub tried_not : (pairing : Pairing) (which : Which) (both done : Both) (refused : Option why) (new : PairNow) (cause : why)
     → Tries pairing both done refused new (Err cause) → new.exits ≡ [] → HasBegun new (tried pairing which both done refused).both
@@ -185,7 +192,8 @@ stepped_plainly pairing which both (Inject s number) bytes plain = absurd (let e
 stepped_plainly pairing which both step bytes plain = refl
 
 -- what has taken its course was played
-pub takes_plays : (pairing : Pairing) (course : PairCourse) (old new : PairNow) (r : Result (Unit {0}) PairBad) → old.exits ≡ [] → Takes pairing course old new r
+pub takes_plays : (pairing : Pairing) (course : PairCourse) (old new : PairNow) (r : Result (Unit {0}) PairBad) → old.exits ≡ [] →
+    Takes pairing course old new r
     → Plays pairing course new (as_played r)
 takes_plays pairing course old new (Ok x) fresh h = (h.0, h.1, h.2 ∙ ap (λ xs. xs ++ course.exits) fresh)
 takes_plays pairing course old new (Err TooManySteps) fresh h = (h.0, h.1, h.2 ∙ ap (λ xs. xs ++ course.exits) fresh)
@@ -254,7 +262,8 @@ module _ (pairing : Pairing) (which : Which) (arrivals : Arrivals) (both : Both)
       )
 
   -- something came, and was handed on
-  module _ (item : Coming) (some : next_in pairing which (side h.later which) arrivals ≡ Some item) (room : is_journal_full (side h.later which).past ≡ false) where
+  module _ (item : Coming) (some : next_in pairing which (side h.later which) arrivals ≡ Some item)
+      (room : is_journal_full (side h.later which).past ≡ false) where
     abbrev at : Both
     at = arrived arrivals h.later which item
 
@@ -283,7 +292,8 @@ module _ (pairing : Pairing) (which : Which) (arrivals : Arrivals) (both : Both)
         → Takes pairing (deliver pairing which arrivals n both) start new (Err TooManySteps)
     stops_full start fresh (full, stopped, out) =
         let is : deliver pairing which arrivals n both ≡ after_exits (now.exits ++ course.exits) (ends ending.TooManySteps course.both) =
-        one ∙ ap (λ e. after_exits now.exits (after_exits course.exits (unless_stopped on course.both e))) full ∙ joined (ends ending.TooManySteps course.both) in (
+        one ∙ ap (λ e. after_exits now.exits (after_exits course.exits (unless_stopped on course.both e))) full
+        ∙ joined (ends ending.TooManySteps course.both) in (
           ap (λ (c : PairCourse). c.ending) is,
           subst (λ (c : PairCourse). HasStopped pairing new c.both) (sym is) stopped,
           exits_are out ∙ sym (append-nil (now.exits ++ course.exits)) ∙ ap (λ (c : PairCourse). c.exits) (sym is)
@@ -328,7 +338,8 @@ comes_short pairing which arrivals both n i now new start h fresh still = (
   ),
 )
 
-pub comes_out : (pairing : Pairing) (which : Which) (arrivals : Arrivals) (both : Both) (n i : ℕ) (now start : PairNow) → ComesOn pairing which arrivals both n i now
+pub comes_out : (pairing : Pairing) (which : Which) (arrivals : Arrivals) (both : Both) (n i : ℕ) (now start : PairNow) →
+    ComesOn pairing which arrivals both n i now
     → i ≡ n → start.exits ≡ [] → Takes pairing (deliver pairing which arrivals n both) start now (Ok tt)
 comes_out pairing which arrivals both n i now start h all fresh =
     let none : n - i ≡ 0 = omega (arith, all) in

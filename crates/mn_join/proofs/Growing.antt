@@ -19,9 +19,11 @@ use Rattle.mn_sched.specs.Playing.{IsFirstPart}
 use Rattle.mn_sched.proofs.Delivering.{first_part_refl, first_part_trans}
 use Rattle.mn_join_laws.specs.declared.leg.Which.{Which}
 use Rattle.mn_join_laws.specs.declared.leg.Which.TheVariants.{First, Second}
-use Rattle.mn_join_laws.specs.Pairing.{opposite, Pairing, network, partner, Both, side, with_side, packets_in, travel, with_travel, with_marked, with_plain_step, with_damage, with_injection}
+use Rattle.mn_join_laws.specs.Pairing.{opposite, Pairing, network, partner, Both, side, with_side, packets_in, travel, with_travel, with_marked}
+use Rattle.mn_join_laws.specs.Pairing.{with_plain_step, with_damage, with_injection}
 use Rattle.mn_join_laws.specs.Pairing.{with_refusal, Landing, landed}
-use Rattle.mn_join_laws.specs.Course.{PairCourse, refusal_on, taken_in, enters, lands, crossed, handed_on, tried, stepped, unless_stopped, arrived, one_by_one, deliver}
+use Rattle.mn_join_laws.specs.Course.{PairCourse, refusal_on, taken_in, enters, lands, crossed, handed_on, tried, stepped, unless_stopped, arrived, one_by_one}
+use Rattle.mn_join_laws.specs.Course.{deliver}
 
 abbrev pub ComeBefore : Both → Both → Type 0
 ComeBefore a b = (which : Which) → IsFirstPart (side a which).past.entries (side b which).past.entries
@@ -60,7 +62,8 @@ refused_before : (a : Both) (packet : ℕ) (why : Refused) → ComeBefore a (wit
 refused_before a packet why First = first_part_refl a.first.past.entries
 refused_before a packet why Second = first_part_refl a.second.past.entries
 
-due_before : (a : Both) (w : Which) (arrivals : Arrivals) (due : ℕ) → ComeBefore a (with_side a w (record (side a w) { past = as_due arrivals due (side a w).past }))
+due_before : (a : Both) (w : Which) (arrivals : Arrivals) (due : ℕ) →
+    ComeBefore a (with_side a w (record (side a w) { past = as_due arrivals due (side a w).past }))
 due_before a First News due First = first_part_refl a.first.past.entries
 due_before a First (DueBy end) due First = first_part_refl a.first.past.entries
 due_before a First AllFrames due First = first_part_refl a.first.past.entries
@@ -81,12 +84,14 @@ module _ (pairing : Pairing) where
   abbrev GoesOn : (Both → PairCourse) → Type 0
   GoesOn on = (later : Both) → ComeBefore later (on later).both
 
-  taken_before : (on : Both → PairCourse) → GoesOn on → (a b : Both) (packet : ℕ) (why : Option Refused) → ComeBefore a b → ComeBefore a (taken_in a packet why on b).both
+  taken_before : (on : Both → PairCourse) → GoesOn on → (a b : Both) (packet : ℕ) (why : Option Refused) → ComeBefore a b →
+      ComeBefore a (taken_in a packet why on b).both
   taken_before on goes a b packet None h = then_steps a b (on b).both h (goes b)
   taken_before on goes a b packet (Some cause.TooManySteps) h = same_steps a
   taken_before on goes a b packet (Some why) h = refused_before a packet why
 
-  enters_before : (on : Both → PairCourse) → GoesOn on → (a : Both) (w : Which) (landing : Landing) (o : Option ℕ) → ComeBefore a (enters pairing a w landing on o).both
+  enters_before : (on : Both → PairCourse) → GoesOn on → (a : Both) (w : Which) (landing : Landing) (o : Option ℕ) →
+      ComeBefore a (enters pairing a w landing on o).both
   enters_before on goes a w landing None = same_steps a
   enters_before on goes a w landing (Some s) =
       let packet : ℕ = slice_index_or (side a w).owners landing.packet 0 in
@@ -100,7 +105,8 @@ module _ (pairing : Pairing) where
 
   pub crossed_before : (n : ℕ) (w : Which) (a : Both) → ComeBefore a (crossed n pairing w a).both
   crossed_before zero w a = same_steps a
-  crossed_before (suc n) w a = lands_before (λ later. crossed n pairing (opposite w) later) (crossed_before n (opposite w)) a w (landed (packets_in pairing a w))
+  crossed_before (suc n) w a = lands_before (λ later. crossed n pairing (opposite w) later) (crossed_before n (opposite w)) a w
+      (landed (packets_in pairing a w))
 
   pub handed_before : (w : Which) (a : Both) → ComeBefore a (handed_on pairing w a).both
   unfolding handed_on

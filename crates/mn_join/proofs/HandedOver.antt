@@ -1,5 +1,6 @@
 -- What a network has just delivered goes over to the other, or comes out.
-use Rattle.std.proofs.Common.{ℕ, ◌≡◌, ◌≢◌, ◌<◌, ◌≤◌, Bool, true, false, List, [], ◌∷◌, ◌++◌, length, slice_index_or, Option, Some, None, Result, Ok, Err, inl, inr, refl, arith}
+use Rattle.std.proofs.Common.{ℕ, ◌≡◌, ◌≢◌, ◌<◌, ◌≤◌, Bool, true, false, List, [], ◌∷◌, ◌++◌, length, slice_index_or, Option, Some, None, Result, Ok, Err, inl}
+use Rattle.std.proofs.Common.{inr, refl, arith}
 use Rattle.std.proofs.Common.{sym, ◌∙◌, ap, subst}
 use Rattle.std.specs.Prelude.{slice_set}
 use Rattle.std.proofs.lemmas.Bool.Decides.{eqb_tells}
@@ -28,14 +29,16 @@ pub to_standing : (pairing : Pairing) (which : Which) (pair : PairNow) (both : B
     → Standing pairing which (side_of pair which) (side_of pair (opposite which)) pair.travels both
 to_standing pairing which pair both h = record { is_here = h.sides which; is_there = h.sides (opposite which); same = h.travels; belong = h.belong }
 
-pub from_first : (pairing : Pairing) (pair : PairNow) (both : Both) → Standing pairing First pair.first pair.second pair.travels both → PairStands pairing pair both
+pub from_first : (pairing : Pairing) (pair : PairNow) (both : Both) → Standing pairing First pair.first pair.second pair.travels both →
+    PairStands pairing pair both
 from_first pairing pair both h = record { sides = sides; travels = h.same; belong = h.belong }
   where
     sides : (which : Which) → IsSide pairing which (side_of pair which) (side both which)
     sides First = h.is_here
     sides Second = h.is_there
 
-pub from_second : (pairing : Pairing) (pair : PairNow) (both : Both) → Standing pairing Second pair.second pair.first pair.travels both → PairStands pairing pair both
+pub from_second : (pairing : Pairing) (pair : PairNow) (both : Both) → Standing pairing Second pair.second pair.first pair.travels both →
+    PairStands pairing pair both
 from_second pairing pair both h = record { sides = sides; travels = h.same; belong = h.belong }
   where
     sides : (which : Which) → IsSide pairing which (side_of pair which) (side both which)
@@ -96,7 +99,8 @@ pushed_belong owners owner count more old new le j below = elim (eqb_tells j (le
 ]
 
 belong_by : (a : Both) (w v : Which) (s number : ℕ) (bytes : List ℕ) (packet more : ℕ) → Belong a → packet < more → length a.travels ≤ more → (j : ℕ)
-    → j < length (side (with_injection a w s number bytes packet) v).owners → slice_index_or (side (with_injection a w s number bytes packet) v).owners j 0 < more
+    → j < length (side (with_injection a w s number bytes packet) v).owners →
+    slice_index_or (side (with_injection a w s number bytes packet) v).owners j 0 < more
 belong_by a First First s number bytes packet more h inside le j below = pushed_belong a.first.owners packet (length a.travels) more (h First) inside le j below
 belong_by a First Second s number bytes packet more h inside le j below = grown (h Second j below) le
   where
@@ -106,7 +110,8 @@ belong_by a Second First s number bytes packet more h inside le j below = grown 
   where
     grown : {x y z : ℕ} → x < y → y ≤ z → x < z
     grown f g = omega (arith, f, g)
-belong_by a Second Second s number bytes packet more h inside le j below = pushed_belong a.second.owners packet (length a.travels) more (h Second) inside le j below
+belong_by a Second Second s number bytes packet more h inside le j below =
+    pushed_belong a.second.owners packet (length a.travels) more (h Second) inside le j below
 
 pub belong_then : (a : Both) (w : Which) (s number : ℕ) (bytes : List ℕ) (packet : ℕ) → Belong a → packet < length a.travels
     → Belong (with_injection a w s number bytes packet)
@@ -265,7 +270,8 @@ second_crosses pairing both old new same r over = by r over
     here_too : (b : Both) → Standing pairing Second old.second new.first new.travels b → PairStands pairing new b
     here_too b s = from_second pairing new b (subst (λ n. Standing pairing Second n new.first new.travels b) (sym same) s)
 
-    by : (r : Result Bool PairBad) → HandsOver pairing Second both old.second new.first new.travels old.exits new.exits r → Crosses pairing Second both old new r
+    by : (r : Result Bool PairBad) → HandsOver pairing Second both old.second new.first new.travels old.exits new.exits r →
+        Crosses pairing Second both old new r
     by (Ok true) (later, stands, exits, on) = (later, here_too later stands, exits, on)
     by (Ok false) (course, all, stands, exits, on) = (course, all, here_too course.both stands, exits, on)
     by (Err TooManySteps) (stands, exits, on) = (here_too both stands, exits, on)

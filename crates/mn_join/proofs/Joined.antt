@@ -1,5 +1,6 @@
 -- The sites that are joined, one joint after another.
-use Rattle.std.proofs.Common.{ℕ, zero, suc, ◌≡◌, ◌+◌, ◌<◌, ◌==◌, cond, Bool, true, false, List, [], ◌∷◌, ◌++◌, map, length, replicate, Option, Some, None, inl, inr, refl, arith}
+use Rattle.std.proofs.Common.{ℕ, zero, suc, ◌≡◌, ◌+◌, ◌<◌, ◌==◌, cond, Bool, true, false, List, [], ◌∷◌, ◌++◌, map, length, replicate, Option, Some, None, inl}
+use Rattle.std.proofs.Common.{inr, refl, arith}
 use Rattle.std.proofs.Common.{sym, ◌∙◌, ap, subst}
 use Rattle.std.specs.Prelude.{slice_get, slice_set, slice_index_or, take, IfSome}
 use Rattle.std.specs.List.{All}
@@ -69,7 +70,8 @@ none_yet which (suc sites) zero = refl
 none_yet which (suc sites) (suc s) = none_yet which sites s
 
 -- a site that has a partner keeps it
-pub joined_already : (which : Which) (joints : Joins) (joint : SiteNo × SiteNo) (partners : List (Option SiteNo)) (site : SiteNo) → AreJoined which joints partners
+pub joined_already : (which : Which) (joints : Joins) (joint : SiteNo × SiteNo) (partners : List (Option SiteNo)) (site : SiteNo) →
+    AreJoined which joints partners
     → slice_get partners (here_of which joint).0 ≡ Some (Some site) → AreJoined which (joints ++ joint ∷ []) partners
 joined_already which joints joint partners site h has s = elim (eqb_tells (here_of which joint).0 s) [
   | inl q ↦
@@ -77,7 +79,8 @@ joined_already which joints joint partners site h has s = elim (eqb_tells (here_
       sym (h s) ∙ ap (λ n. joined_to (slice_get partners n)) (sym q.1) ∙ ap joined_to has in
       h s ∙ is ∙ sym (more_joined which s joints joint ∙ ap (λ o. or_else o (one_more which s joint)) is)
   | inr q ↦ h s ∙ sym (more_joined which s joints joint
-      ∙ ap (λ b. or_else (partner_in which s (map joint_of joints)) (cond b (Some (there_of which joint).0) None)) q.0 ∙ alone (partner_in which s (map joint_of joints)))
+      ∙ ap (λ b. or_else (partner_in which s (map joint_of joints)) (cond b (Some (there_of which joint).0) None)) q.0
+      ∙ alone (partner_in which s (map joint_of joints)))
 ]
   where
     alone : (o : Option ℕ) → or_else o None ≡ o
@@ -98,7 +101,8 @@ joined_now which joints joint partners h below none s = elim (eqb_tells (here_of
   | inr q ↦
       ap joined_to (get_set_other partners (here_of which joint).0 s (Some (there_of which joint)) q.1) ∙ h s
       ∙ sym (more_joined which s joints joint
-      ∙ ap (λ b. or_else (partner_in which s (map joint_of joints)) (cond b (Some (there_of which joint).0) None)) q.0 ∙ alone (partner_in which s (map joint_of joints)))
+      ∙ ap (λ b. or_else (partner_in which s (map joint_of joints)) (cond b (Some (there_of which joint).0) None)) q.0
+      ∙ alone (partner_in which s (map joint_of joints)))
 ]
   where
     alone : (o : Option ℕ) → or_else o None ≡ o

@@ -1,5 +1,6 @@
 -- One network: what it does is what has happened in it.
-use Rattle.std.proofs.Common.{ℕ, zero, suc, ◌≡◌, ◌+◌, ◌<◌, ◌≤◌, true, false, List, [], ◌∷◌, ◌++◌, length, Option, Some, None, Result, Ok, Err, OnOk, OnErr, arith}
+use Rattle.std.proofs.Common.{ℕ, zero, suc, ◌≡◌, ◌+◌, ◌<◌, ◌≤◌, true, false, List, [], ◌∷◌, ◌++◌, length, Option, Some, None, Result, Ok, Err, OnOk, OnErr}
+use Rattle.std.proofs.Common.{arith}
 use Rattle.std.proofs.Common.{sym, ◌∙◌, ap, subst, slice_index_or}
 use Rattle.std.specs.Prelude.{slice_get, slice_index}
 use Rattle.std.proofs.lemmas.List.{length_push}
@@ -43,7 +44,8 @@ use Rattle.mn_join_laws.specs.Pairing.{Pairing, network, partner, Side, marked_s
 use Rattle.mn_join.specs.declared.side.Found.{Found}
 use Rattle.mn_join.specs.declared.played.PairBad.TheVariants.{TooManySteps}
 use Rattle.mn_join.specs.Pairs.{SideNow, IsSide, IsPacedFromStart, joined_to}
-use Rattle.mn_join.specs.Moves.{stepped_side, marked_side, damaged_side, entered_side, refusal_in, damage_refusal_in, next_in, SideTries, Steps, Damages, Enters, Arrives, Finds, GoesOn, Undone, stepped_by, leads_to}
+use Rattle.mn_join.specs.Moves.{stepped_side, marked_side, damaged_side, entered_side, refusal_in, damage_refusal_in, next_in, SideTries, Steps, Damages}
+use Rattle.mn_join.specs.Moves.{Enters, Arrives, Finds, GoesOn, Undone, stepped_by, leads_to}
 use Rattle.mn_join.proofs.Landed.{IsIt, is_it, is_none}
 
 abbrev pub refused_by : Refused → Result Done Refused
@@ -88,7 +90,8 @@ module _ (pairing : Pairing) (which : Which) (now : SideNow) (side : Side) (h : 
 
   same_next : (arrivals : Arrivals) → next_arrival now.net.topology now.net.journal side.inputs arrivals ≡ next_in pairing which side arrivals
   same_next arrivals =
-      ap (λ t. next_arrival t now.net.journal side.inputs arrivals) h.topology ∙ ap (λ es. next_arrival (network pairing which) es side.inputs arrivals) same_entries
+      ap (λ t. next_arrival t now.net.journal side.inputs arrivals) h.topology
+      ∙ ap (λ es. next_arrival (network pairing which) es side.inputs arrivals) same_entries
 
   -- a network that is as it was
   pub still_side : (new : SideNow) → new.net ≡ now.net → new.partners ≡ now.partners → new.owners ≡ now.owners → IsSide pairing which new side
@@ -135,9 +138,11 @@ module _ (pairing : Pairing) (which : Which) (now : SideNow) (side : Side) (h : 
       tries_not new (stepped_side side step) (refusal now.net.topology now.net.journal side.inputs step []) (refusal_in pairing which side step []) why
       (same_refusal step []) answer left partners owners
 
-  same_damage : (d : Damage) (bytes : List ℕ) → damage_refusal now.net.topology now.net.journal side.inputs d bytes ≡ damage_refusal_in pairing which side d bytes
+  same_damage : (d : Damage) (bytes : List ℕ) →
+      damage_refusal now.net.topology now.net.journal side.inputs d bytes ≡ damage_refusal_in pairing which side d bytes
   same_damage d bytes =
-      ap (λ t. damage_refusal t now.net.journal side.inputs d bytes) h.topology ∙ ap (λ es. damage_refusal (network pairing which) es side.inputs d bytes) same_entries
+      ap (λ t. damage_refusal t now.net.journal side.inputs d bytes) h.topology
+      ∙ ap (λ es. damage_refusal (network pairing which) es side.inputs d bytes) same_entries
 
   pub damages_by : (r : Result Done Refused) (new : SideNow) (d : Damage) (bytes : List ℕ)
       → Answers (damage_refusal now.net.topology now.net.journal side.inputs d bytes) r → OnOk r (IsDamaged now.net new.net d)
@@ -148,7 +153,8 @@ module _ (pairing : Pairing) (which : Which) (now : SideNow) (side : Side) (h : 
     marked_as new (end_of d) (mark_of d) (damage_more now.net new.net d long) (stands side.inputs h.stands) partners owners,
   )
   damages_by (Err why) new d bytes answer long stands left partners owners =
-      tries_not new (damaged_side side d) (damage_refusal now.net.topology now.net.journal side.inputs d bytes) (damage_refusal_in pairing which side d bytes) why
+      tries_not new (damaged_side side d) (damage_refusal now.net.topology now.net.journal side.inputs d bytes) (damage_refusal_in pairing which side d bytes)
+      why
       (same_damage d bytes) answer left partners owners
 
   -- an injection
@@ -246,9 +252,16 @@ pub record IsStepOn (old new : NetNow) : Type 0 where
   pub more : IsMore old new entry clock
   pub few : clock ≤ old.tick + 1000000
 
-pub step_on : (r : Result Done Refused) (old new : NetNow) (step : Step) → fits old.topology step ≡ true → OnOk r (IsLonger old new step) → OnOk r (IsStepOn old new)
+pub step_on : (r : Result Done Refused) (old new : NetNow) (step : Step) → fits old.topology step ≡ true → OnOk r (IsLonger old new step) →
+    OnOk r (IsStepOn old new)
 step_on r old new step fit long = ok_then r (IsLonger old new step) (IsStepOn old new) long (λ l.
-    record { entry = plain old.tick step; clock = old.tick + ticks_in step; more = by_step old new step l; few = omega (arith, few_ticks old.topology step fit) })
+    record {
+      entry = plain old.tick step;
+      clock = old.tick + ticks_in step;
+      more = by_step old new step l;
+      few =
+          omega (arith, few_ticks old.topology step fit);
+    })
 
 pub damage_on : (r : Result Done Refused) (old new : NetNow) (d : Damage) → OnOk r (IsDamaged old new d) → OnOk r (IsStepOn old new)
 damage_on r old new d long = ok_then r (IsDamaged old new d) (IsStepOn old new) long (λ l.
@@ -279,7 +292,8 @@ paced_on (Ok made) old new on left paced = omega (arith, paced, on.few, on.more.
 paced_on (Err why) old new on left paced = omega (arith, paced, tick_left why old new left, ap length (journal_left why old new left))
 
 -- a network with its joints
-pub goes_on : (r : Result Done Refused) (old new : SideNow) → OnOk r (IsStepOn old.net new.net) → Leaves old.net new.net r → new.partners ≡ old.partners → GoesOn old new
+pub goes_on : (r : Result Done Refused) (old new : SideNow) → OnOk r (IsStepOn old.net new.net) → Leaves old.net new.net r → new.partners ≡ old.partners →
+    GoesOn old new
 goes_on r old new on left partners = record {
   topology = topology_kept r old.net new.net on left;
   partners = partners;
@@ -292,7 +306,8 @@ same_side old new net partners owners =
     ∙ ap (λ p. record { net = old.net; partners = p; owners = new.owners }) partners
     ∙ ap (λ o. record { net = old.net; partners = old.partners; owners = o }) owners
 
-pub undone : (r : Result Done Refused) (old new : SideNow) → Leaves old.net new.net r → new.partners ≡ old.partners → new.owners ≡ old.owners → Undone old new (stepped_by r)
+pub undone : (r : Result Done Refused) (old new : SideNow) → Leaves old.net new.net r → new.partners ≡ old.partners → new.owners ≡ old.owners →
+    Undone old new (stepped_by r)
 undone (Ok done) old new left partners owners = tt
 undone (Err cause.NoMemory) old new left partners owners = tt
 undone (Err why) old new left partners owners = same_side old new left partners owners

@@ -20,7 +20,8 @@ use Rattle.mn_course_laws.specs.Course.{with_step, as_due, is_journal_full}
 use Rattle.mn_sched.specs.Done.{Done}
 use Rattle.mn_sched.specs.Playing.{IsFirstPart}
 use Rattle.mn_join_laws.specs.declared.leg.Which.{Which}
-use Rattle.mn_join_laws.specs.Pairing.{opposite, Pairing, network, partner, Side, Both, side, packets_in, Travel, marked_step, with_travel, with_injection, Landing, landed}
+use Rattle.mn_join_laws.specs.Pairing.{opposite, Pairing, network, partner, Side, Both, side, packets_in, Travel, marked_step, with_travel, with_injection}
+use Rattle.mn_join_laws.specs.Pairing.{Landing, landed}
 use Rattle.mn_join_laws.specs.Course.{PairCourse, Exit, ends, lands, arrived}
 use Rattle.mn_join.specs.declared.side.Found.{Found}
 use Rattle.mn_join.specs.declared.played.Played.{Played}
@@ -214,7 +215,7 @@ abbrev pub stepped_by : Result Done why.Refused → Result (Unit {0}) why.Refuse
 stepped_by (Ok done) = Ok tt
 stepped_by (Err why) = Err why
 
--- a step that is refused changes nothing, but for want of memory
+-- a step that is refused changes nothing, unless memory runs out
 abbrev pub Undone : {T X : Type 0} → X → X → Result T why.Refused → Type 0
 Undone old new (Ok x) = ⊤
 Undone old new (Err cause.NoMemory) = ⊤

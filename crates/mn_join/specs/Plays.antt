@@ -35,7 +35,7 @@ Plays pairing course pair (Ok (Refused why)) = (course.ending ≡ ending.Refused
 Plays pairing course pair (Err TooManySteps) = (course.ending ≡ ending.TooManySteps) × HasStopped pairing pair course.both × (pair.exits ≡ course.exits)
 Plays pairing course pair (Err NoMemory) = HasBegun pair course.both × ComeFirst pair.exits course.exits
 
--- a refusal is neither for a full journal nor for want of memory
+-- a refusal is neither for a full journal nor because memory ran out
 abbrev pub IsOwnCause : Played → Type 0
 IsOwnCause (Refused cause.TooManySteps) = ⊥
 IsOwnCause (Refused cause.NoMemory) = ⊥

@@ -47,6 +47,7 @@ fn all_items() -> u32
     4_000_001
 }
 
+/// How many items arrive at most: none named is more than there may be.
 fn most_of(most: Option<u32>) -> u32
     ensures { result ≡ most_of most }
 {

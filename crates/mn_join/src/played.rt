@@ -7,7 +7,7 @@ use mn_ledger::Refused;
 pub enum Played {
     /// All that it asks for was done.
     All,
-    /// Its step was refused: never for a full journal or want of memory.
+    /// Its step was refused: never for a full journal, nor because memory ran out.
     Refused(Refused),
 }
 

@@ -54,8 +54,17 @@ module _ (pairing : Pairing) (both : Both) (each : (v : Which) → length (side 
   all_cross leg (next ∷ legs) site ttl copy sent on v =
       let leads = on.1 in
       let h = fate_of leg leads.site leads.ttl leads.copy sent leads.delivered in
-      let rest = all_cross next legs site ttl copy on.0 on.2 v in
-      (rest.0, (refl, leads.ttl, next.sending.bytes, crosses_as leg leads.site leads.ttl leads.copy sent h next.sending.bytes (same_bytes leg next sent leads h), rest.1))
+      let rest = all_cross next legs site ttl copy on.0 on.2 v in (
+        rest.0,
+        (
+          refl,
+          leads.ttl,
+          next.sending.bytes,
+          crosses_as leg leads.site leads.ttl leads.copy sent h next.sending.bytes
+              (same_bytes leg next sent leads h),
+          rest.1,
+        ),
+      )
 
 pub all_have_legs : (pairing : Pairing) (lines : List Line) → AllHaveLegs pairing (after_lines pairing lines at_first)
 all_have_legs pairing lines = (script_holds pairing lines).legs

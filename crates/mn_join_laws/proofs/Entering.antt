@@ -20,7 +20,8 @@ use Rattle.mn_join_laws.specs.Pairing.{no_travel, with_travel, with_injection, w
 use Rattle.mn_join_laws.specs.Legs.{SentLeg, leg_of, WasSent, LeadsTo, GoOn, HasLegs, last_of}
 use Rattle.mn_join_laws.proofs.Growing.{as_it_was, Moves, moves, get_end}
 use Rattle.mn_join_laws.proofs.Landing.{unmoved}
-use Rattle.mn_join_laws.proofs.Holding.{SideGrows, BothGrow, has_on, go_on_on, HasLeg, IsLast, has_front, has_end, has_ways, last_end, Sends, sends, Holds, IsFresh}
+use Rattle.mn_join_laws.proofs.Holding.{SideGrows, BothGrow, has_on, go_on_on, HasLeg, IsLast, has_front, has_end, has_ways, last_end, Sends, sends, Holds}
+use Rattle.mn_join_laws.proofs.Holding.{IsFresh}
 use Rattle.mn_join_laws.proofs.Holding.{IsStep, copies_below, listed_now}
 
 -- 1. What is asked before an injection
@@ -62,7 +63,8 @@ from_a_line pairing a number h = record {
       subst (HasLegs pairing (with_travel a number)) (sym (push_other a.travels i new no_travel old))
       (has_on pairing a (with_travel a number) (travel_grows pairing a number) (travel a i) (h.legs i old));
   sent = λ i below v j has. elim (eqb_tells i (length a.travels)) [
-    | inl q ↦ absurd (none v j (ap (λ (x : Travel). x.legs) (ap (λ n. slice_index_or (a.travels ++ new ∷ []) n no_travel) q.1 ∙ push_here a.travels new no_travel)) has)
+    | inl q ↦ absurd (none v j (ap (λ (x : Travel). x.legs) (ap (λ n. slice_index_or (a.travels ++ new ∷ []) n no_travel) q.1
+        ∙ push_here a.travels new no_travel)) has)
     | inr q ↦
         let old : i < length a.travels = before i below q.1 in
         let s = sends pairing a (travel a i) v j (h.legs i old) (subst (λ (x : Travel). HasLeg v j x.legs) (push_other a.travels i new no_travel old) has) in
@@ -89,7 +91,16 @@ from_a_line pairing a number h = record {
 -- 2. The new leg
 
 abbrev pub new_leg : Both → Which → ℕ → List ℕ → SentLeg
-new_leg a w s bytes = record { which = w; sending = record { packet = length (side a w).inputs; place = length (side a w).past.entries; site = s; bytes = bytes } }
+new_leg a w s bytes = record {
+  which = w;
+  sending = record {
+    packet = length (side a w).inputs;
+    place = length (side a w).past.entries;
+    site = s;
+    bytes =
+        bytes;
+  };
+}
 
 abbrev pub with_new_leg : Both → Which → ℕ → Travel
 with_new_leg a w packet = record (travel a packet) { legs = (travel a packet).legs ++ record { which = w; packet = length (side a w).inputs } ∷ [] }
@@ -102,7 +113,8 @@ is_sent es ps tick s number bytes each = record {
   number = number;
   there = get_end es [] (record { tick = tick; step = Inject (record { 0 = s }) number; damaged = Undamaged });
   injects = refl;
-  earlier = ap injections (take-append-le (length es) es (record { tick = tick; step = Inject (record { 0 = s }) number; damaged = Undamaged } ∷ []) (omega arith)
+  earlier = ap injections (take-append-le (length es) es (record { tick = tick; step = Inject (record { 0 = s }) number; damaged = Undamaged } ∷ [])
+      (omega arith)
       ∙ take_all (length es) es (omega arith)) ∙ sym each;
   content = get_end ps [] bytes;
 }
@@ -139,9 +151,11 @@ module _ (pairing : Pairing) (a : Both) (s number : ℕ) (bytes : List ℕ) (pac
       here : (w : Which) → length (side a w).inputs ≡ injections (side a w).past.entries → (x : Sending)
           → IsSent (side a w).past.entries (side a w).inputs x
           → verdict_on (packets_in pairing (after w) w) x.packet ≡ verdict_on (packets_in pairing a w) x.packet
-      here First each x sent = unmoved (network pairing First) (side a First).past.entries (side a First).inputs (side a First).past.clock (record { 0 = s }) number
+      here First each x sent = unmoved (network pairing First) (side a First).past.entries (side a First).inputs (side a First).past.clock
+          (record { 0 = s }) number
           bytes each x sent
-      here Second each x sent = unmoved (network pairing Second) (side a Second).past.entries (side a Second).inputs (side a Second).past.clock (record { 0 = s })
+      here Second each x sent = unmoved (network pairing Second) (side a Second).past.entries (side a Second).inputs (side a Second).past.clock
+          (record { 0 = s })
           number bytes each x sent
 
   travels_by : (w : Which) → (after w).travels ≡ slice_set a.travels packet (with_new_leg a w packet)
@@ -152,10 +166,12 @@ module _ (pairing : Pairing) (a : Both) (s number : ℕ) (bytes : List ℕ) (pac
   as_many w = ap length (travels_by w) ∙ length-set a.travels packet (with_new_leg a w packet)
 
   other_travel : (w : Which) (i : ℕ) → i ≢ packet → travel (after w) i ≡ travel a i
-  other_travel w i other = ap (λ ts. slice_index_or ts i no_travel) (travels_by w) ∙ get_or-set_other a.travels packet i (with_new_leg a w packet) no_travel other
+  other_travel w i other = ap (λ ts. slice_index_or ts i no_travel) (travels_by w)
+      ∙ get_or-set_other a.travels packet i (with_new_leg a w packet) no_travel other
 
   this_travel : (w : Which) → packet < length a.travels → travel (after w) packet ≡ with_new_leg a w packet
-  this_travel w there = ap (λ ts. slice_index_or ts packet no_travel) (travels_by w) ∙ get_or-set_same a.travels packet (with_new_leg a w packet) no_travel there
+  this_travel w there = ap (λ ts. slice_index_or ts packet no_travel) (travels_by w)
+      ∙ get_or-set_same a.travels packet (with_new_leg a w packet) no_travel there
 
   each_by : (w : Which) → CanEnter pairing a packet → (v : Which) → length (side (after w) v).inputs ≡ injections (side (after w) v).past.entries
   each_by First h First = (moved_by First (h.each First)).each
@@ -233,7 +249,11 @@ module _ (pairing : Pairing) (a : Both) (s number : ℕ) (bytes : List ℕ) (pac
       let verdict : verdict_on (packets_in pairing a old.leg.which) old.leg.sending.packet ≡ Delivered ttl site (packets_in pairing (after w) w).copies =
       sym (verdict_by w (h.each w) old.leg old.sent old.this.0) ∙ ap (verdict_on (packets_in pairing (after w) w)) old.this.1 ∙ v in
       past (packets_in pairing (after w) w).copies (packets_in pairing a w).copies
-      (omega (arith, copies_below pairing a old.leg site ttl (packets_in pairing (after w) w).copies old.sent verdict, ap (λ x. (packets_in pairing a x).copies) old.this.0))
+      (omega (
+        arith,
+        copies_below pairing a old.leg site ttl (packets_in pairing (after w) w).copies old.sent verdict,
+        ap (λ x. (packets_in pairing a x).copies) old.this.0,
+      ))
       copy.copy
     where
       past : (c n : ℕ) → c ≤ n → c ≡ n + 1 → ⊥
@@ -285,7 +305,8 @@ module _ (pairing : Pairing) (a : Both) (s number : ℕ) (bytes : List ℕ) (pac
         legs = ap (λ ls. ls ++ record { which = w; packet = length (side a w).inputs } ∷ []) has.legs
             ∙ ap (λ ls. leg_of has.first ∷ ls) (sym (map_push leg_of has.later (new_leg a w s bytes)));
         sent = (grow has.first.which).sent has.first.sending has.sent;
-        go_on = on_to_new (after w) has.first has.later (new_leg a w s bytes) (go_on_on pairing a (after w) grow has.first has.later has.sent has.go_on) (sent_by w (h.each w)) leads;
+        go_on = on_to_new (after w) has.first has.later (new_leg a w s bytes) (go_on_on pairing a (after w) grow has.first has.later has.sent has.go_on)
+            (sent_by w (h.each w)) leads;
       }
 
 -- 5. A refusal at a joint
@@ -328,7 +349,8 @@ module _ (pairing : Pairing) (a : Both) (packet : ℕ) (why : Refused) where
         record { first = old.first; later = old.later; legs = same_legs i ∙ old.legs; sent = old.sent; go_on = old.go_on };
     owner = λ v j below.
         let old = h.owner v j (subst (λ (x : Side). j < length x.inputs) (side_as v) below) in
-        subst (λ (x : Side). (slice_index_or x.owners j 0 < length then.travels) × HasLeg v j (travel then (slice_index_or x.owners j 0)).legs) (sym (side_as v)) (
+        subst (λ (x : Side). (slice_index_or x.owners j 0 < length then.travels) × HasLeg v j (travel then (slice_index_or x.owners j 0)).legs)
+        (sym (side_as v)) (
           subst (λ n. slice_index_or (side a v).owners j 0 < n) (sym many) old.0,
           subst (HasLeg v j) (sym (same_legs (slice_index_or (side a v).owners j 0))) old.1,
         );

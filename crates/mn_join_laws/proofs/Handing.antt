@@ -1,5 +1,6 @@
 -- Each step and each line of a script leaves every packet with its legs.
-use Rattle.std.proofs.Common.{ℕ, zero, suc, ◌≡◌, ◌+◌, ◌-◌, ◌<◌, max, Bool, true, false, if◌then◌else◌, List, [], ◌∷◌, length, slice_get, slice_index_or, Option, Some, None, refl, arith}
+use Rattle.std.proofs.Common.{ℕ, zero, suc, ◌≡◌, ◌+◌, ◌-◌, ◌<◌, max, Bool, true, false, if◌then◌else◌, List, [], ◌∷◌, length, slice_get, slice_index_or, Option}
+use Rattle.std.proofs.Common.{Some, None, refl, arith}
 use Rattle.std.proofs.Common.{sym, ◌∙◌, ap, subst}
 use Rattle.std.specs.Prelude.{⊤}
 use Rattle.mn_base.proofs.Bools.{none_below}
@@ -29,13 +30,15 @@ use Rattle.mn_course_laws.specs.declared.coming.Arrivals.{Arrivals}
 use Rattle.mn_course_laws.specs.declared.coming.Arrivals.TheVariants.{DueBy, News, AllFrames}
 use Rattle.mn_course_laws.specs.declared.coming.Ending.{Ending}
 use Rattle.mn_course_laws.specs.declared.coming.Ending.TheVariants as ending
-use Rattle.mn_course_laws.specs.Coming.{next_arrival, delivery, coming, coming_by, lost, is_lost, place_of, earlier, or_else, is_due_before, ever, least, due_by}
+use Rattle.mn_course_laws.specs.Coming.{next_arrival, delivery, coming, coming_by, lost, is_lost, place_of, earlier, or_else, is_due_before, ever, least}
+use Rattle.mn_course_laws.specs.Coming.{due_by}
 use Rattle.mn_course_laws.specs.Course.{as_due, is_journal_full, all, most_of}
 use Rattle.mn_join_laws.specs.declared.leg.Which.{Which}
 use Rattle.mn_join_laws.specs.declared.leg.Which.TheVariants.{First, Second}
 use Rattle.mn_join_laws.specs.Pairing.{opposite, Pairing, network, partner, Side, Both, side, with_side, at_first, packets_in, Travel, travel}
 use Rattle.mn_join_laws.specs.Pairing.{no_travel, with_travel, with_plain_step, with_damage, with_injection, Landing, landed}
-use Rattle.mn_join_laws.specs.Course.{PairCourse, refusal_on, taken_in, enters, lands, crossed, handed_on, tried, stepped, unless_stopped, arrived, one_by_one, deliver, until, played}
+use Rattle.mn_join_laws.specs.Course.{PairCourse, refusal_on, taken_in, enters, lands, crossed, handed_on, tried, stepped, unless_stopped, arrived, one_by_one}
+use Rattle.mn_join_laws.specs.Course.{deliver, until, played}
 use Rattle.mn_join_laws.specs.Legs.{SentLeg, LeadsTo, HasLegs, last_of, Line, after_lines}
 use Rattle.mn_join_laws.proofs.Landing.{HasLanded, has_landed, as_many_verdicts}
 use Rattle.mn_join_laws.proofs.Holding.{HasLeg, IsThis, IsLast, last_is, Holds, IsFresh, plain_holds, plain_fresh, clock_holds}
@@ -158,7 +161,8 @@ module _ (pairing : Pairing) where
       (entered_holds pairing (with_travel a number) s.0 number bytes (length a.travels) w way
       (first_leg pairing (with_travel a number) s.0 number bytes (length a.travels) w way none))
       (entered_fresh pairing (with_travel a number) s.0 number bytes (length a.travels) w way)
-  stepped_holds w a s bytes h = tried_holds w a (with_plain_step a w s) (refusal_on pairing a w s []) h (plain_holds pairing w a s Undamaged refl h) (plain_fresh pairing w a s Undamaged refl h)
+  stepped_holds w a s bytes h = tried_holds w a (with_plain_step a w s) (refusal_on pairing a w s []) h (plain_holds pairing w a s Undamaged refl h)
+      (plain_fresh pairing w a s Undamaged refl h)
 
 -- 3. What arrives
 
@@ -266,7 +270,8 @@ played_holds pairing w a (Damage d) bytes h =
     damage_holds pairing w a d (damage_refusal (network pairing w) (side a w).past.entries (side a w).inputs d bytes) h
 played_holds pairing w a (Run ticks) bytes h =
     let end : ℕ = (side a w).past.clock + ticks in
-    until_holds pairing end w (deliver pairing w (DueBy end) all a).both (deliver pairing w (DueBy end) all a).ending (deliver_holds pairing w (DueBy end) all a h)
+    until_holds pairing end w (deliver pairing w (DueBy end) all a).both (deliver pairing w (DueBy end) all a).ending
+    (deliver_holds pairing w (DueBy end) all a h)
 played_holds pairing w a (Drain most) bytes h = deliver_holds pairing w News (most_of most) a h
 played_holds pairing w a Flush bytes h = deliver_holds pairing w AllFrames all a h
 played_holds pairing w a (Show table) bytes h = h

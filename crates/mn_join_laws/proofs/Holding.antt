@@ -33,7 +33,8 @@ SideGrows pairing v old now = Grows (network pairing v) old.past.entries old.inp
 abbrev pub BothGrow : Pairing → Both → Both → Type 0
 BothGrow pairing a b = (v : Which) → SideGrows pairing v (side a v) (side b v)
 
-leads_on : (pairing : Pairing) (a b : Both) → BothGrow pairing a b → (leg next : SentLeg) → WasSent a leg → LeadsTo pairing a leg next → LeadsTo pairing b leg next
+leads_on : (pairing : Pairing) (a b : Both) → BothGrow pairing a b → (leg next : SentLeg) → WasSent a leg → LeadsTo pairing a leg next →
+    LeadsTo pairing b leg next
 leads_on pairing a b grow leg next sent h = record {
   site = h.site;
   ttl = h.ttl;
@@ -46,7 +47,8 @@ leads_on pairing a b grow leg next sent h = record {
   joined = h.joined;
 }
 
-pub go_on_on : (pairing : Pairing) (a b : Both) → BothGrow pairing a b → (leg : SentLeg) (legs : List SentLeg) → WasSent a leg → GoOn pairing a leg legs → GoOn pairing b leg legs
+pub go_on_on : (pairing : Pairing) (a b : Both) → BothGrow pairing a b → (leg : SentLeg) (legs : List SentLeg) → WasSent a leg → GoOn pairing a leg legs →
+    GoOn pairing b leg legs
 go_on_on pairing a b grow leg [] sent h = tt
 go_on_on pairing a b grow leg (next ∷ legs) sent h =
     ((grow next.which).sent next.sending h.0, leads_on pairing a b grow leg next sent h.1, go_on_on pairing a b grow next legs h.0 h.2)
@@ -130,7 +132,8 @@ pub record IsFresh (pairing : Pairing) (both : Both) (w : Which) : Type 0 where
       → verdict_on (packets_in pairing both w) j ≡ Delivered ttl site (packets_in pairing both w).copies
       → (i : ℕ) → i < length both.travels → HasLeg w j (travel both i).legs → IsLast w j (travel both i).legs
   pub listed : (bytes : List ℕ) → (packets_in pairing both w).delivered ≡ Some bytes
-      → (d : Delivery) × (slice_get (deliveries_of (network pairing w) (side both w).past.entries (side both w).inputs) ((packets_in pairing both w).copies - 1) ≡ Some d)
+      → (d : Delivery) × (slice_get (deliveries_of (network pairing w) (side both w).past.entries (side both w).inputs) ((packets_in pairing both w).copies - 1)
+      ≡ Some d)
       × (d.bytes ≡ bytes)
 
 -- what was delivered before the step isn't its newest copy
@@ -182,7 +185,8 @@ listed_now pairing w a b step bytes d = let lands = step.moved.lands bytes d in 
 
 -- 4. A step that injects nothing
 
-plain_moves : (pairing : Pairing) (a : Both) (w : Which) (s : Step) (mark : Damaged) → injects s ≡ false → length (side a w).inputs ≡ injections (side a w).past.entries
+plain_moves : (pairing : Pairing) (a : Both) (w : Which) (s : Step) (mark : Damaged) → injects s ≡ false →
+    length (side a w).inputs ≡ injections (side a w).past.entries
     → Moves (network pairing w) (side a w).past.entries (side a w).inputs
     ((side a w).past.entries ++ record { tick = (side a w).past.clock; step = s; damaged = mark } ∷ []) (side a w).inputs
 plain_moves pairing a w s mark plain each =
@@ -218,11 +222,13 @@ plain_grows pairing Second a s mark g First = as_it_was (network pairing First) 
 plain_grows pairing Second a s mark g Second = g
 
 plain_moved : (pairing : Pairing) (w : Which) (a : Both) (s : Step) (mark : Damaged) → injects s ≡ false → Holds pairing a
-    → Moves (network pairing w) (side a w).past.entries (side a w).inputs (side (with_marked a w s mark) w).past.entries (side (with_marked a w s mark) w).inputs
+    → Moves (network pairing w) (side a w).past.entries (side a w).inputs (side (with_marked a w s mark) w).past.entries
+    (side (with_marked a w s mark) w).inputs
 plain_moved pairing First a s mark plain h = plain_moves pairing a First s mark plain (h.each First)
 plain_moved pairing Second a s mark plain h = plain_moves pairing a Second s mark plain (h.each Second)
 
-plain_step : (pairing : Pairing) (w : Which) (a : Both) (s : Step) (mark : Damaged) → injects s ≡ false → Holds pairing a → IsStep pairing w a (with_marked a w s mark)
+plain_step : (pairing : Pairing) (w : Which) (a : Both) (s : Step) (mark : Damaged) → injects s ≡ false → Holds pairing a →
+    IsStep pairing w a (with_marked a w s mark)
 plain_step pairing w a s mark plain h =
     let m = plain_moved pairing w a s mark plain h in record { grow = plain_grows pairing w a s mark m.grows; moved = m }
 
@@ -243,19 +249,22 @@ plain_alike w a s mark = record { travels = travels w; owners = owners w; inputs
     inputs _ First = refl
     inputs _ _ = refl
 
-plain_each : (pairing : Pairing) (w : Which) (a : Both) (s : Step) (mark : Damaged) → IsStep pairing w a (with_marked a w s mark) → Holds pairing a → (v : Which)
+plain_each : (pairing : Pairing) (w : Which) (a : Both) (s : Step) (mark : Damaged) → IsStep pairing w a (with_marked a w s mark) → Holds pairing a →
+    (v : Which)
     → length (side (with_marked a w s mark) v).inputs ≡ injections (side (with_marked a w s mark) v).past.entries
 plain_each pairing First a s mark step h First = step.moved.each
 plain_each pairing First a s mark step h Second = h.each Second
 plain_each pairing Second a s mark step h First = h.each First
 plain_each pairing Second a s mark step h Second = step.moved.each
 
-pub plain_holds : (pairing : Pairing) (w : Which) (a : Both) (s : Step) (mark : Damaged) → injects s ≡ false → Holds pairing a → Holds pairing (with_marked a w s mark)
+pub plain_holds : (pairing : Pairing) (w : Which) (a : Both) (s : Step) (mark : Damaged) → injects s ≡ false → Holds pairing a →
+    Holds pairing (with_marked a w s mark)
 plain_holds pairing w a s mark plain h =
     let step = plain_step pairing w a s mark plain h in
     alike_holds pairing a (with_marked a w s mark) step.grow (plain_alike w a s mark) (plain_each pairing w a s mark step h) h
 
-pub plain_fresh : (pairing : Pairing) (w : Which) (a : Both) (s : Step) (mark : Damaged) → injects s ≡ false → Holds pairing a → IsFresh pairing (with_marked a w s mark) w
+pub plain_fresh : (pairing : Pairing) (w : Which) (a : Both) (s : Step) (mark : Damaged) → injects s ≡ false → Holds pairing a →
+    IsFresh pairing (with_marked a w s mark) w
 plain_fresh pairing w a s mark plain h =
     let b : Both = with_marked a w s mark in
     let step = plain_step pairing w a s mark plain h in

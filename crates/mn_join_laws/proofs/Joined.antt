@@ -14,4 +14,14 @@ use Rattle.mn_join_laws.specs.TwoProviders.{TheyAreJoined}
 pub they_are_joined : TheyAreJoined
 unfolding next knowledge_of news sessions_after peerings_after held packets_after is_not_ipv4 is_malformed is_truncated has_bad_checksum good checksum_for
     with_ttl aged in_flight bytes_flying all handed_on
-they_are_joined = record { legs = refl; leaves = refl; arrives = refl; delivered = refl; lines = refl; arrives_by_lines = refl; with_ttl_7 = refl; with_ttl_6 = refl }
+they_are_joined = record {
+  legs = refl;
+  leaves = refl;
+  arrives = refl;
+  delivered = refl;
+  lines = refl;
+  arrives_by_lines = refl;
+  with_ttl_7 = refl;
+  with_ttl_6 =
+      refl;
+}

@@ -117,7 +117,8 @@ has_landed packets landing h = by packets.delivered refl h
 
 -- 2. An injection leaves the verdicts of before
 
-module _ (t : Network) (es : List JournalEntry) (ps : List (List ℕ)) (tick : ℕ) (site : SiteNo) (number : ℕ) (b : List ℕ) (each : length ps ≡ injections es) where
+module _ (t : Network) (es : List JournalEntry) (ps : List (List ℕ)) (tick : ℕ) (site : SiteNo) (number : ℕ) (b : List ℕ)
+    (each : length ps ≡ injections es) where
   abbrev e : JournalEntry
   e = record { tick = tick; step = Inject site number; damaged = Undamaged }
 

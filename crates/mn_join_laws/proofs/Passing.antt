@@ -56,7 +56,8 @@ all_lowered bytes last (passage ∷ passages) ttl h = omega (
   (arrives_as passage h.1 h.2 h.3).ttl_is,
 )
 
-pub all_passed : (bytes last : List ℕ) (passage : Passage) (passages : List Passage) (ttl : ℕ) → CrossesAll bytes (passage ∷ passages) ttl last → IsPassedOn bytes ttl last
+pub all_passed : (bytes last : List ℕ) (passage : Passage) (passages : List Passage) (ttl : ℕ) → CrossesAll bytes (passage ∷ passages) ttl last →
+    IsPassedOn bytes ttl last
 all_passed bytes last passage [] ttl h =
     subst (λ b. IsPassedOn b ttl last) h.0
     (subst (IsPassedOn passage.sending.bytes ttl) (sym h.4.1)
@@ -72,10 +73,12 @@ ttl_left : (bytes last : List ℕ) (passages : List Passage) (ttl : ℕ) → Cro
 ttl_left bytes last [] ttl h = ap ttl_of h.1 ∙ sym h.0
 ttl_left bytes last (passage ∷ passages) ttl h = ttl_left h.2 last passages ttl h.4
 
-pub lives_on : (bytes last : List ℕ) (passages : List Passage) (ttl rest : ℕ) → CrossesAll bytes passages ttl last → 1 + all_nodes passages + rest ≤ ttl_of bytes → 1 + rest ≤ ttl_of last
+pub lives_on : (bytes last : List ℕ) (passages : List Passage) (ttl rest : ℕ) → CrossesAll bytes passages ttl last →
+    1 + all_nodes passages + rest ≤ ttl_of bytes → 1 + rest ≤ ttl_of last
 lives_on bytes last passages ttl rest h enough = omega (arith, enough, all_lowered bytes last passages ttl h, ttl_left bytes last passages ttl h)
 
-pub it_crosses : (passage : Passage) (from to : ℕ) (route : HeldRoute) → IsLawful passage.topology → IsLawfulJournal passage.topology passage.entries passage.inputs →
+pub it_crosses : (passage : Passage) (from to : ℕ) (route : HeldRoute) → IsLawful passage.topology →
+    IsLawfulJournal passage.topology passage.entries passage.inputs →
     length passage.inputs ≡ injections passage.entries → ItCrosses passage from to route
 it_crosses passage from to route lawful journal counted steady way bytes =
     let reached = it_arrives passage.topology passage.entries passage.inputs lawful journal passage.sending from to route steady way in

@@ -16,7 +16,8 @@ use Rattle.mn_course_laws.specs.declared.coming.Ending.TheVariants as ending
 use Rattle.mn_course_laws.specs.Coming.{next_arrival, delivery}
 use Rattle.mn_course_laws.specs.Course.{on_to, as_due, is_journal_full, all, most_of}
 use Rattle.mn_join_laws.specs.declared.leg.Which.{Which}
-use Rattle.mn_join_laws.specs.Pairing.{opposite, Pairing, network, partner, Both, side, with_side, packets_in, travel, with_plain_step, with_damage, with_injection}
+use Rattle.mn_join_laws.specs.Pairing.{opposite, Pairing, network, partner, Both, side, with_side, packets_in, travel, with_plain_step, with_damage}
+use Rattle.mn_join_laws.specs.Pairing.{with_injection}
 use Rattle.mn_join_laws.specs.Pairing.{with_travel, with_refusal, Landing, landed}
 
 -- what a network delivered at a site that isn't joined, at the tick of its step

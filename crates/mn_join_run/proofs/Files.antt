@@ -1,5 +1,6 @@
 -- The one file that grows.
-use Rattle.std.proofs.Common.{◌≡◌, ◌<◌, ◌+◌, ℕ, zero, suc, true, List, [], ◌∷◌, ◌++◌, length, take, drop, Option, Some, None, refl, sym, ◌∙◌, ap, subst, arith, append_assoc, append-nil}
+use Rattle.std.proofs.Common.{◌≡◌, ◌<◌, ◌+◌, ℕ, zero, suc, true, List, [], ◌∷◌, ◌++◌, length, take, drop, Option, Some, None, refl, sym, ◌∙◌, ap, subst, arith}
+use Rattle.std.proofs.Common.{append_assoc, append-nil}
 use Rattle.std.specs.Prelude.{slice_get}
 use Rattle.std.specs.List.{flat_map}
 use Rattle.std.proofs.lemmas.List.{take-append-drop}
@@ -118,8 +119,11 @@ no_exit_more (x ∷ exits) (suc k) is = ap (λ l. x ∷ l) (no_exit_more exits k
 
 -- the records of some exits are a first part of those of all
 pub exits_begin : (exits : List Exit) (k : ℕ) → (rest : List ℕ) × (flat_map exit_record (take k exits) ++ rest ≡ flat_map exit_record exits)
-exits_begin exits k =
-    (flat_map exit_record (drop k exits), sym (flat_map-append exit_record (take k exits) (drop k exits)) ∙ ap (flat_map exit_record) (take-append-drop k exits))
+exits_begin exits k = (
+  flat_map exit_record (drop k exits),
+  sym (flat_map-append exit_record (take k exits) (drop k exits))
+      ∙ ap (flat_map exit_record) (take-append-drop k exits),
+)
 
 pub exits_more : (exits : List Exit) (k : ℕ) (exit : Exit) → slice_get exits k ≡ Some exit →
     flat_map exit_record (take k exits) ++ exit_record exit ≡ flat_map exit_record (take (k + 1) exits)

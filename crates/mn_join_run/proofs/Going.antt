@@ -50,9 +50,11 @@ some_all None command = λ all is. absurd (let e : None ≡ Some all = is in cc)
 some_all (Some given) command = λ all is. ap (λ x. packet_for x command) (let e : Some given ≡ Some all = is in cc)
 
 -- where the packet couldn't be fetched, that is cut off which stands there
-pub line_cut : (pairing : Pairing) (start : Start) (run : JoinRun) (line : JoinLine) (files : Option Files) (capture : CaptureView) (pair : PairNow) (desk : Desk)
+pub line_cut : (pairing : Pairing) (start : Start) (run : JoinRun) (line : JoinLine) (files : Option Files) (capture : CaptureView) (pair : PairNow)
+    (desk : Desk)
     (now : Outside) (fault : Fault) →
-    ((packet : Option (List ℕ)) → IsCut start (refused_texts (with_packet pairing run line packet)) (exits_file (with_packet pairing run line packet).exits) now) →
+    ((packet : Option (List ℕ)) → IsCut start (refused_texts (with_packet pairing run line packet)) (exits_file (with_packet pairing run line packet).exits)
+    now) →
     LineWent pairing start run line files capture pair desk now (Err fault)
 line_cut pairing start run line files capture pair desk now fault cut = record {
   packet = told_or (told_packets files start.names capture) line.command;

@@ -31,7 +31,8 @@ grows_on a b c h g = record {
   exits = g.exits ∙ ap (λ l. l ++ g.more_exits) h.exits ∙ append_assoc a.exits h.more_exits g.more_exits;
 }
 
-pub course_grows : (pairing : Pairing) (run : JoinRun) (line : JoinLine) (course : PairCourse) (how : Ending) → Grows run (after_course pairing run line course how)
+pub course_grows : (pairing : Pairing) (run : JoinRun) (line : JoinLine) (course : PairCourse) (how : Ending) →
+    Grows run (after_course pairing run line course how)
 course_grows pairing run line course ending.All =
     record { more_refused = []; refused = sym (append-nil run.refused); more_exits = course.exits; exits = refl }
 course_grows pairing run line course (ending.Refused cause) =

@@ -15,7 +15,8 @@ record IsAfter (pairing : Pairing) (from both : Both) : Type 0 where
   pub lines : List Line
   pub is : both ≡ after_lines pairing lines from
 
-both_after : (pairing : Pairing) (one two : List Line) (from : Both) → after_lines pairing (one ++ two) from ≡ after_lines pairing two (after_lines pairing one from)
+both_after : (pairing : Pairing) (one two : List Line) (from : Both) →
+    after_lines pairing (one ++ two) from ≡ after_lines pairing two (after_lines pairing one from)
 both_after pairing [] two from = refl
 both_after pairing (line ∷ one) two from = both_after pairing one two (played pairing line.which from line.command line.bytes).both
 
@@ -28,13 +29,15 @@ then_after pairing a b c h g = record {
   is = g.is ∙ ap (after_lines pairing g.lines) h.is ∙ sym (both_after pairing h.lines g.lines a);
 }
 
-by_course : (pairing : Pairing) (run : JoinRun) (line : JoinLine) (course : PairCourse) (how : Ending) → (after_course pairing run line course how).both ≡ course.both
+by_course : (pairing : Pairing) (run : JoinRun) (line : JoinLine) (course : PairCourse) (how : Ending) →
+    (after_course pairing run line course how).both ≡ course.both
 by_course pairing run line course ending.All = refl
 by_course pairing run line course (ending.Refused cause) = refl
 by_course pairing run line course ending.NoRecord = refl
 by_course pairing run line course ending.TooManySteps = refl
 
-by_packet : (pairing : Pairing) (run : JoinRun) (line : JoinLine) (packet : Option (List ℕ)) → IsAfter pairing run.both (with_packet pairing run line packet).both
+by_packet : (pairing : Pairing) (run : JoinRun) (line : JoinLine) (packet : Option (List ℕ)) →
+    IsAfter pairing run.both (with_packet pairing run line packet).both
 by_packet pairing run line None = not_after pairing run.both
 by_packet pairing run line (Some bytes) =
     let course : PairCourse = played pairing line.which run.both line.command bytes in
@@ -48,7 +51,8 @@ by_unless : (pairing : Pairing) (from : Both) (stopped : Bool) (now later : Join
 by_unless pairing from true now later h g = h
 by_unless pairing from false now later h g = g
 
-by_script : (pairing : Pairing) (capture : List (List ℕ)) (now : JoinRun) (lines : List JoinLine) → IsAfter pairing now.both (run_from pairing capture now lines).both
+by_script : (pairing : Pairing) (capture : List (List ℕ)) (now : JoinRun) (lines : List JoinLine) →
+    IsAfter pairing now.both (run_from pairing capture now lines).both
 by_script pairing capture now [] = not_after pairing now.both
 by_script pairing capture now (line ∷ lines) =
     by_unless pairing now.both now.is_stopped now (run_from pairing capture (with_line pairing capture now line) lines) (not_after pairing now.both)

@@ -78,7 +78,8 @@ refused_on start run number cause waits waiting written now held f put stands =
     subst (λ t. Stands start t (exits_file run.exits) (outside waiting now held f)) (sym (one_refused run number cause))
     (text_on start (refused_texts run) (exits_file run.exits) (refused_line number cause) waits waiting written now held f put stands)
 
-pub refused_cut : (start : Start) (run : JoinRun) (number : ℕ) (cause : List ℕ) (waits waiting : List ℕ) (written now : Option (List ℕ)) (held last : List (List ℕ))
+pub refused_cut : (start : Start) (run : JoinRun) (number : ℕ) (cause : List ℕ) (waits waiting : List ℕ) (written now : Option (List ℕ))
+    (held last : List (List ℕ))
     (f : Option Files) → PutsPart (refused_line number cause) waits written now →
     Stands start (refused_texts run) (exits_file run.exits) (outside waits written held f) →
     IsCut start (refused_texts (with_refusal run number cause)) (exits_file (with_refusal run number cause).exits) (outside waiting now last f)

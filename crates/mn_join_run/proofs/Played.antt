@@ -30,7 +30,8 @@ pub noted_cut : {T : Type 0} (start : Start) (later : JoinRun) (desk : Desk) (no
 noted_cut start later desk now (Ok x) P is cut = absurd is
 noted_cut start later desk now (Err fault) P is cut = cut
 
-pub went_cut : (pairing : Pairing) (start : Start) (run : JoinRun) (pair : PairNow) (desk : Desk) (now : Outside) (r : Result Ended Fault) (P : Fault → Type 0) →
+pub went_cut : (pairing : Pairing) (start : Start) (run : JoinRun) (pair : PairNow) (desk : Desk) (now : Outside) (r : Result Ended Fault) (P : Fault →
+    Type 0) →
     IsErrAnd r P → IsCut start (refused_texts run) (exits_file run.exits) now → Went pairing start run pair desk now r
 went_cut pairing start run pair desk now (Ok x) P is cut = absurd is
 went_cut pairing start run pair desk now (Err fault) P is cut = cut
@@ -41,12 +42,14 @@ exits_are pairing course pair played.All plays = plays.2
 exits_are pairing course pair (played.Refused why) plays = plays.2
 
 -- the networks that a line was played on have their topologies
-pub stood_after : (pairing : Pairing) (course : PairCourse) (pair : PairNow) (p : Played) → Plays pairing course pair (Ok p) → PairStands pairing pair course.both
+pub stood_after : (pairing : Pairing) (course : PairCourse) (pair : PairNow) (p : Played) → Plays pairing course pair (Ok p) →
+    PairStands pairing pair course.both
 stood_after pairing course pair played.All plays = plays.1
 stood_after pairing course pair (played.Refused why) plays = plays.1
 
 -- and so the run goes on
-pub line_kept : (pairing : Pairing) (start : Start) (run : JoinRun) (line : JoinLine) (course : PairCourse) (p : Played) (pair : PairNow) (desk : Desk) (now : Outside) →
+pub line_kept : (pairing : Pairing) (start : Start) (run : JoinRun) (line : JoinLine) (course : PairCourse) (p : Played) (pair : PairNow) (desk : Desk)
+    (now : Outside) →
     Plays pairing course pair (Ok p) → pair.stopped ≡ None → run.is_stopped ≡ false →
     IsNoted {T = Unit {0}} start (after_course pairing run line course (ending_of p)) desk now (Ok tt) →
     Went pairing start (after_course pairing run line course course.ending) pair desk now (Ok ended.All)
@@ -59,12 +62,16 @@ line_kept pairing start run line course (played.Refused why) pair desk now plays
 
 -- a fault cut it off as it was noted
 pub line_noted_cut : (pairing : Pairing) (start : Start) (run : JoinRun) (line : JoinLine) (course : PairCourse) (p : Played) (pair : PairNow) (now : Outside) →
-    Plays pairing course pair (Ok p) → IsCut start (refused_texts (after_course pairing run line course (ending_of p))) (exits_file (after_course pairing run line course (ending_of p)).exits) now →
+    Plays pairing course pair (Ok p) →
+    IsCut start (refused_texts (after_course pairing run line course (ending_of p))) (exits_file (after_course pairing run line course (ending_of p)).exits)
+    now →
     IsCut start (refused_texts (after_course pairing run line course course.ending)) (exits_file (after_course pairing run line course course.ending).exits) now
 line_noted_cut pairing start run line course played.All pair now plays cut =
-    subst (λ how. IsCut start (refused_texts (after_course pairing run line course how)) (exits_file (after_course pairing run line course how).exits) now) (sym plays.0) cut
+    subst (λ how. IsCut start (refused_texts (after_course pairing run line course how)) (exits_file (after_course pairing run line course how).exits) now)
+    (sym plays.0) cut
 line_noted_cut pairing start run line course (played.Refused why) pair now plays cut =
-    subst (λ how. IsCut start (refused_texts (after_course pairing run line course how)) (exits_file (after_course pairing run line course how).exits) now) (sym plays.0) cut
+    subst (λ how. IsCut start (refused_texts (after_course pairing run line course how)) (exits_file (after_course pairing run line course how).exits) now)
+    (sym plays.0) cut
 
 -- a full journal stopped it
 pub line_stops : (pairing : Pairing) (start : Start) (run : JoinRun) (line : JoinLine) (course : PairCourse) (pair : PairNow) (desk : Desk) (now : Outside) →

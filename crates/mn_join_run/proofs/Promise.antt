@@ -1,5 +1,6 @@
 -- The promise of two joined networks, from the laws of each.
-use Rattle.std.proofs.Common.{◌≡◌, ◌+◌, ◌-◌, ◌<◌, ℕ, suc, false, List, [], ◌∷◌, map, length, slice_index_or, Option, Some, None, refl, arith, sym, ◌∙◌, ap, subst}
+use Rattle.std.proofs.Common.{◌≡◌, ◌+◌, ◌-◌, ◌<◌, ℕ, suc, false, List, [], ◌∷◌, map, length, slice_index_or, Option, Some, None, refl, arith, sym, ◌∙◌, ap}
+use Rattle.std.proofs.Common.{subst}
 use Rattle.std.specs.Prelude.{slice_get}
 use Rattle.std.proofs.lemmas.Option.{same_Some}
 use Rattle.mn_base.specs.declared.numbers.SiteNo.{SiteNo}
@@ -107,7 +108,8 @@ module _ (pairing : Pairing) (both : Both) (lawful : (which : Which) → IsLawfu
         let over = by.arrives site ttl copy
         (subst (λ (leg : Leg). verdict_on (packets_in pairing both leg.which) leg.packet ≡ Delivered ttl site copy) the_last
         (by_last pairing both packet.legs packet.refused which site ttl copy e)) in
-        let as_sent = all_passed by.has.first.sending.bytes over.0 (passage_of pairing both by.has.first) (map (passage_of pairing both) by.has.later) ttl over.1 in
+        let as_sent = all_passed by.has.first.sending.bytes over.0 (passage_of pairing both by.has.first) (map (passage_of pairing both) by.has.later) ttl
+        over.1 in
         record {
           arrived = over.0;
           over = over.1;

@@ -25,7 +25,8 @@ module _ (pairing : Pairing) (pair : PairNow) (both : Both) (stands : PairStands
   stands_for First = (stands.sides First).stands
   stands_for Second = (stands.sides Second).stands
 
-  pub packets_are : (which : Which) → packets_of (net_of pair which).topology (net_of pair which).journal (side both which).inputs ≡ packets_in pairing both which
+  pub packets_are : (which : Which) →
+      packets_of (net_of pair which).topology (net_of pair which).journal (side both which).inputs ≡ packets_in pairing both which
   packets_are which =
       ap (λ t. packets_of t (net_of pair which).journal (side both which).inputs) (topology_is which)
       ∙ ap (λ e. packets_of (network pairing which) e (side both which).inputs) (entries_are which)

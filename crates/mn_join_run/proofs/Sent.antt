@@ -1,5 +1,6 @@
 -- What a packet was sent as stays so: over every line its number, its first leg and the bytes that were sent into each network.
-use Rattle.std.proofs.Common.{ℕ, zero, suc, ◌≡◌, ◌+◌, ◌<◌, inl, inr, Bool, true, false, List, [], ◌∷◌, ◌++◌, length, slice_set, slice_index_or, Option, Some, None, refl, arith}
+use Rattle.std.proofs.Common.{ℕ, zero, suc, ◌≡◌, ◌+◌, ◌<◌, inl, inr, Bool, true, false, List, [], ◌∷◌, ◌++◌, length, slice_set, slice_index_or, Option, Some}
+use Rattle.std.proofs.Common.{None, refl, arith}
 use Rattle.std.proofs.Common.{sym, ◌∙◌, ap, subst, append-nil}
 use Rattle.std.specs.Prelude.{slice_get, ⊤}
 use Rattle.std.proofs.lemmas.Bool.Decides.{eqb_tells}
@@ -27,9 +28,11 @@ use Rattle.mn_course_laws.specs.Expansion.{SentLine, sending_by}
 use Rattle.mn_join_laws.specs.declared.leg.Leg.{Leg}
 use Rattle.mn_join_laws.specs.declared.leg.Which.{Which}
 use Rattle.mn_join_laws.specs.declared.leg.Which.TheVariants.{First, Second}
-use Rattle.mn_join_laws.specs.Pairing.{opposite, Pairing, network, partner, Side, Both, side, packets_in, Travel, travel, no_travel, with_marked, with_plain_step}
+use Rattle.mn_join_laws.specs.Pairing.{opposite, Pairing, network, partner, Side, Both, side, packets_in, Travel, travel, no_travel, with_marked}
+use Rattle.mn_join_laws.specs.Pairing.{with_plain_step}
 use Rattle.mn_join_laws.specs.Pairing.{with_damage, with_travel, with_injection, with_refusal, Landing, landed}
-use Rattle.mn_join_laws.specs.Course.{PairCourse, refusal_on, taken_in, enters, lands, crossed, handed_on, tried, stepped, arrived, one_by_one, deliver, until, played}
+use Rattle.mn_join_laws.specs.Course.{PairCourse, refusal_on, taken_in, enters, lands, crossed, handed_on, tried, stepped, arrived, one_by_one, deliver, until}
+use Rattle.mn_join_laws.specs.Course.{played}
 use Rattle.mn_join_laws.specs.Course as pair
 use Rattle.mn_join_laws.proofs.Growing.{get_end}
 use Rattle.mn_join_script.specs.declared.line.JoinLine.{JoinLine}
@@ -130,7 +133,8 @@ still_first : (legs : List Leg) (more leg : Leg) → slice_get legs 0 ≡ Some l
 still_first [] more leg e = absurd (let clash : None ≡ Some leg = e in cc)
 still_first (one ∷ legs) more leg e = e
 
-still_there : (inputs : List (List ℕ)) (more : List ℕ) (j : ℕ) (bytes : List ℕ) → slice_get inputs j ≡ Some bytes → slice_get (inputs ++ more ∷ []) j ≡ Some bytes
+still_there : (inputs : List (List ℕ)) (more : List ℕ) (j : ℕ) (bytes : List ℕ) → slice_get inputs j ≡ Some bytes →
+    slice_get (inputs ++ more ∷ []) j ≡ Some bytes
 still_there [] more j bytes e = absurd (let clash : None ≡ Some bytes = e in cc)
 still_there (one ∷ inputs) more zero bytes e = e
 still_there (one ∷ inputs) more (suc j) bytes e = still_there inputs more j bytes e
@@ -175,7 +179,8 @@ module _ (pairing : Pairing) where
   taken_kept on goes a entered packet (Some cause.TooManySteps) h = kept a
   taken_kept on goes a entered packet (Some why) h = refused_kept a packet why
 
-  enters_kept : (on : Both → PairCourse) → KeepsOn on → (a : Both) (w : Which) (landing : Landing) (o : Option ℕ) → IsKept a (enters pairing a w landing on o).both
+  enters_kept : (on : Both → PairCourse) → KeepsOn on → (a : Both) (w : Which) (landing : Landing) (o : Option ℕ) →
+      IsKept a (enters pairing a w landing on o).both
   enters_kept on goes a w landing None = kept a
   enters_kept on goes a w landing (Some s) =
       let packet : ℕ = slice_index_or (side a w).owners landing.packet 0 in
@@ -297,7 +302,8 @@ still_begins a b k i below number bytes h = record {
 with_more : (a : Both) (number : ℕ) (i : ℕ) → i < length a.travels → (n : ℕ) (bytes : List ℕ) → BeginsWith a (travel a i) n bytes
     → BeginsWith (with_travel a number) (travel (with_travel a number) i) n bytes
 with_more a number i below n bytes h =
-    subst (λ (x : Travel). BeginsWith (with_travel a number) x n bytes) (sym (push_other a.travels i (record { number = number; legs = []; refused = None }) no_travel below))
+    subst (λ (x : Travel). BeginsWith (with_travel a number) x n bytes)
+    (sym (push_other a.travels i (record { number = number; legs = []; refused = None }) no_travel below))
     (record { same = h.same; first = h.first; leg = h.leg; sent = ap (λ (x : Side). slice_get x.inputs h.first.packet) (same_side h.first.which) ∙ h.sent })
   where
     same_side : (v : Which) → side (with_travel a number) v ≡ side a v
@@ -334,7 +340,8 @@ module _ (a : Both) (w : Which) (s number : ℕ) (bytes : List ℕ) where
   input_is : slice_get (side sent_into w).inputs (length (side a w).inputs) ≡ Some bytes
   input_is = by w
     where
-      by : (w : Which) → slice_get (side (with_injection (with_travel a number) w s number bytes (length a.travels)) w).inputs (length (side a w).inputs) ≡ Some bytes
+      by : (w : Which) → slice_get (side (with_injection (with_travel a number) w s number bytes (length a.travels)) w).inputs (length (side a w).inputs)
+          ≡ Some bytes
       by First = get_end a.first.inputs [] bytes
       by Second = get_end a.second.inputs [] bytes
 
@@ -361,7 +368,8 @@ pub record AreSent (capture : List (List ℕ)) (run : JoinRun) : Type 0 where
   pub each : (i : ℕ) → i < length run.both.travels → IsSentAs capture run.both (slice_index_or run.sendings i no_line) (travel run.both i)
 
 -- a line that sends none
-none_more : (capture : List (List ℕ)) (now later : JoinRun) → IsKept now.both later.both → later.sendings ≡ now.sendings → AreSent capture now → AreSent capture later
+none_more : (capture : List (List ℕ)) (now later : JoinRun) → IsKept now.both later.both → later.sendings ≡ now.sendings → AreSent capture now →
+    AreSent capture later
 none_more capture now later k same h = record {
   as_many = ap length same ∙ h.as_many ∙ sym k.as_many;
   each = λ i below.
@@ -389,7 +397,8 @@ module _ (capture : List (List ℕ)) (now later : JoinRun) (w : Which) (sending 
       subst (λ (s : SentLine). IsSentAs capture later.both s (travel later.both (length now.both.travels))) (sym here) (
         bytes,
         read,
-        still_begins (sent_into now.both w sending.site.0 sending.number bytes) later.both k (length now.both.travels) (omega (arith, more)) sending.number bytes
+        still_begins (sent_into now.both w sending.site.0 sending.number bytes) later.both k (length now.both.travels)
+            (omega (arith, more)) sending.number bytes
             (new_begins now.both w sending.site.0 sending.number bytes),
       )
 
@@ -448,12 +457,14 @@ module _ (pairing : Pairing) (capture : List (List ℕ)) where
       course why = tried pairing line.which now.both done why
 
       abbrev Goes : PairCourse → Type 0
-      Goes course = (after_course pairing now line course course.ending).is_stopped ≡ false → AreSent capture (after_course pairing now line course course.ending)
+      Goes course = (after_course pairing now line course course.ending).is_stopped ≡ false →
+          AreSent capture (after_course pairing now line course course.ending)
 
       sent : (course : PairCourse) (how : Ending) → IsKept done course.both → Ends pairing how → (after_course pairing now line course how).is_stopped ≡ false
           → AreSent capture (after_course pairing now line course how)
       sent course ending.All k ends goes =
-          sent_more capture now (after_course pairing now line course ending.All) line.which (record { line = line.number; site = s; number = number }) bytes read k
+          sent_more capture now (after_course pairing now line course ending.All) line.which (record { line = line.number; site = s; number = number }) bytes
+          read k
           (ap (λ command. now.sendings ++ sending_by line.number command) is) h
       sent course (ending.Refused why) k ends goes = absurd ends
       sent course ending.NoRecord k ends goes = absurd ends

@@ -56,7 +56,8 @@ text_on start text bytes more waits waiting written now held f put stands =
     record { text = λ before is. put before text (stands.text before is); file = stands.file }
 
 -- the file was cut off, and nothing was put
-pub file_cut : (start : Start) (text bytes more : List ℕ) (waits waiting : List ℕ) (written : Option (List ℕ)) (held later : List (List ℕ)) (f g : Option Files) →
+pub file_cut : (start : Start) (text bytes more : List ℕ) (waits waiting : List ℕ) (written : Option (List ℕ)) (held later : List (List ℕ))
+    (f g : Option Files) →
     ((before : List ℕ) → Holding start.names before held f → Beginning start.names (before ++ more) g) →
     Stands start text bytes (record { waits = waits; written = written; held = held; files = f }) →
     IsCut start text (bytes ++ more) (record { waits = waiting; written = written; held = later; files = g })
@@ -66,7 +67,8 @@ file_cut start text bytes more waits waiting written held later f g grown stands
 }
 
 -- the text was cut off, and the file is as it was
-pub text_cut : (start : Start) (text bytes more : List ℕ) (waits waiting : List ℕ) (written now : Option (List ℕ)) (held later : List (List ℕ)) (f : Option Files) →
+pub text_cut : (start : Start) (text bytes more : List ℕ) (waits waiting : List ℕ) (written now : Option (List ℕ)) (held later : List (List ℕ))
+    (f : Option Files) →
     PutsPart more waits written now →
     Stands start text bytes (record { waits = waits; written = written; held = held; files = f }) →
     IsCut start (text ++ more) bytes (record { waits = waiting; written = now; held = later; files = f })

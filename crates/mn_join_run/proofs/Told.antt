@@ -12,7 +12,8 @@ use Rattle.mn_script.specs.Reading.{lines_of}
 use Rattle.mn_join_script.specs.Joints.{SitePair, joints_of}
 use Rattle.mn_answer.specs.declared.outcome.Limit.TheVariants.{Steps}
 use Rattle.mn_answer.specs.declared.outcome.Outcome.{Outcome}
-use Rattle.mn_answer.specs.declared.outcome.Outcome.TheVariants.{Done, Usage, ReadFault, WriteFault, NoMemory, BadTopology, BadScript, BadCapture, BadSecond, BadJoints, TooLarge}
+use Rattle.mn_answer.specs.declared.outcome.Outcome.TheVariants.{Done, Usage, ReadFault, WriteFault, NoMemory, BadTopology, BadScript, BadCapture, BadSecond}
+use Rattle.mn_answer.specs.declared.outcome.Outcome.TheVariants.{BadJoints, TooLarge}
 use Rattle.mn_answer.specs.Answer.{Answer, refusal_of}
 use Rattle.mn_answer.specs.Endings.{OutcomeIs, FilesAre, TextIs, SinkCausedBy, Answers}
 use Rattle.mn_answer.proofs.Ending.{sink_answers}
@@ -59,7 +60,8 @@ module _ (one two three four capture folder : List ℕ) (m : Files) (before : Li
       FilesAre (Some (join_done folder (pairing_of first second joints) lines packets)) m after o →
       TextIs (Some (join_done folder (pairing_of first second joints) lines packets)) before written o →
       IsJoinTold one two three four capture folder m before after written o
-  played_told first second joints lines packets o reads_first reads_second reads_joints reads_lines reads_capture one_lawful two_lawful sides outcome files text =
+  played_told first second joints lines packets o reads_first reads_second reads_joints reads_lines reads_capture one_lawful two_lawful sides outcome files
+      text =
       told_if_done one two three four capture folder m before after written o
       (λ done. record {
         first = first;

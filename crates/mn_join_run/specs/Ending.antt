@@ -97,7 +97,8 @@ UntoldAtRead text before written other = ⊤
 abbrev pub TellsLate : List (List ℕ × List ℕ) → List ℕ → Files → Option Files → List ℕ → Option (List ℕ) → Type 0
 TellsLate files early m after before written = (after ≡ Some (laid files m)) ⊎ PartPut early before written
 
-pub record RunEnds (pairing : Pairing) (start : Start) (run : JoinRun) (after : Option Files) (written : Option (List ℕ)) (result : Result Ended Fault) : Type 0 where
+pub record RunEnds (pairing : Pairing) (start : Start) (run : JoinRun) (after : Option Files) (written : Option (List ℕ))
+    (result : Result Ended Fault) : Type 0 where
   pub ended : EndsAs run result
   pub files : ForSome start.base (λ m. FilesBy (the_files start run) m after result)
   pub text : ForSome start.before (λ before. TextBy (report pairing run) before written result)

@@ -160,7 +160,7 @@ pub fn join<S: Shelf, O: Sink>(
     out: &mut O,
 ) -> Outcome
     requires apart { is_inside capture.now folder.now ≡ false }
-    // The outcome, the file and the text are the answer's; a fault or out of memory may come in its place, and then first parts stand.
+    // The outcome, the file and the text are the answer's; a fault, or running out of memory, may come in its place, and then first parts stand.
     ensures answers { ForSome (S.files shelf.old) (λ m. Answers (join_answer first.now second.now joints.now script.now capture.now folder.now m) m (S.files shelf.new) (O.written out.old) (O.written out.new) result) }
     // Where all was done, the report and the file are those of the script's course over both networks; each packet's legs are its
     // injections, each at the site to which the leg before was handed on; each leg is accounted for and arrives as in a run of its network

@@ -17,7 +17,8 @@ abbrev IsPlayed : Command → Type 0
 IsPlayed command = is_played command ≡ true
 
 -- what follows an answer, where it holds of each
-then_so : {A : Type 0} (answer : Result A ScriptRule) (next : A → Result Command ScriptRule) → ((x : A) → IfOk (next x) IsPlayed) → IfOk (answer >>= next) IsPlayed
+then_so : {A : Type 0} (answer : Result A ScriptRule) (next : A → Result Command ScriptRule) → ((x : A) → IfOk (next x) IsPlayed) →
+    IfOk (answer >>= next) IsPlayed
 then_so (Ok x) next h = h x
 then_so (Err rule) next h = tt
 
@@ -44,17 +45,20 @@ does : (network : Network) (ws : List (List ℕ)) → IfOk (do_line network ws) 
 unfolding do_line
 does network ws = then_so (step_line network ws) _ (λ step. refl)
 
-commands : (network : Network) (ws : List (List ℕ)) → is_word ws 0 (codes "run") ≡ false → is_word ws 0 (codes "show") ≡ false → IfOk (command_line network ws) IsPlayed
+commands : (network : Network) (ws : List (List ℕ)) → is_word ws 0 (codes "run") ≡ false → is_word ws 0 (codes "show") ≡ false →
+    IfOk (command_line network ws) IsPlayed
 unfolding command_line
-commands network ws = by (is_word ws 0 (codes "run")) (is_word ws 0 (codes "drain")) (is_word ws 0 (codes "flush")) (is_word ws 0 (codes "show")) (is_word ws 0 (codes "damage")) where
-  by : (r d f s m : Bool) → r ≡ false → s ≡ false →
-      IfOk (if r then run_line ws else if d then drain_line ws else if f then flush_line ws else if s then table_line network ws else if m then damaged_line network ws else do_line network ws) IsPlayed
-  by true d f s m run show = absurd (let e : true ≡ false = run in cc)
-  by false true f s m run show = drains ws
-  by false false true s m run show = flushes ws
-  by false false false true m run show = absurd (let e : true ≡ false = show in cc)
-  by false false false false true run show = damages network ws
-  by false false false false false run show = does network ws
+commands network ws = by (is_word ws 0 (codes "run")) (is_word ws 0 (codes "drain")) (is_word ws 0 (codes "flush")) (is_word ws 0 (codes "show"))
+    (is_word ws 0 (codes "damage")) where
+      by : (r d f s m : Bool) → r ≡ false → s ≡ false →
+          IfOk (if r then run_line ws else if d then drain_line ws else if f then flush_line ws else if s then table_line network ws else if m then damaged_line
+          network ws else do_line network ws) IsPlayed
+      by true d f s m run show = absurd (let e : true ≡ false = run in cc)
+      by false true f s m run show = drains ws
+      by false false true s m run show = flushes ws
+      by false false false true m run show = absurd (let e : true ≡ false = show in cc)
+      by false false false false true run show = damages network ws
+      by false false false false false run show = does network ws
 
 found : (answer : Result Command ScriptRule) → IfOk answer IsPlayed → IfOk (answer >>= (λ command. Ok (Some command))) (λ said. IfSome said IsPlayed)
 found (Ok command) h = h

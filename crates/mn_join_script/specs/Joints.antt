@@ -1,5 +1,6 @@
 -- The joints of two networks: RFC 4364, section 10, option a.
-use Rattle.std.specs.Prelude.{◌≡◌, ◌≢◌, ◌<◌, ◌+◌, ℕ, Bool, ◌||◌, ◌==◌, min, List, [], ◌∷◌, ◌++◌, All, length, Option, Some, None, Result, Ok, Err, Vec, if◌then◌else◌, ⊤}
+use Rattle.std.specs.Prelude.{◌≡◌, ◌≢◌, ◌<◌, ◌+◌, ℕ, Bool, ◌||◌, ◌==◌, min, List, [], ◌∷◌, ◌++◌, All, length, Option, Some, None, Result, Ok, Err, Vec}
+use Rattle.std.specs.Prelude.{if◌then◌else◌, ⊤}
 use Rattle.std.specs.List.{list_any, AllPairs}
 use Rattle.std.specs.Str.Lines.{lines}
 use Rattle.std.specs.declared.alloc.Global.{Global}

@@ -1,5 +1,6 @@
 -- Words after spaces, put one after another.
-use Rattle.std.proofs.Common.{◌≡◌, ◌+◌, ◌<◌, ◌≤◌, ℕ, List, [], ◌∷◌, ◌++◌, length, drop, get_or, Bor, refl, ap, sym, ◌∙◌, append_assoc, append-nil, arith, take, replicate, ◌-◌, length-append}
+use Rattle.std.proofs.Common.{◌≡◌, ◌+◌, ◌<◌, ◌≤◌, ℕ, List, [], ◌∷◌, ◌++◌, length, drop, get_or, Bor, refl, ap, sym, ◌∙◌, append_assoc, append-nil, arith, take}
+use Rattle.std.proofs.Common.{replicate, ◌-◌, length-append}
 use Rattle.std.proofs.lemmas.List.{at_drop_more, at_drop_all, take_all, take_at, drop_all, length-drop, length-replicate}
 use borrow.Rule.Slice.PartMut.{put_mid}
 use Rattle.std.specs.Prelude.{OnOk, Result, Ok, Err, codes}

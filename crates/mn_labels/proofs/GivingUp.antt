@@ -23,7 +23,8 @@ pub set_kept : (p q : ℕ → Bool) (n k : ℕ) (xs : List (Option ℕ)) → ((f
     set (kept_from p n xs) k None ≡ kept_from q n xs
 set_kept p q n k [] h = refl
 set_kept p q n zero (x ∷ xs) h =
-    ap (λ b. (if b then None else x) ∷ kept_from p (n + 1) xs) (sym (h n (omega arith) ∙ ap (λ b. p n || b) (ap (λ m. m == n) (plain n) ∙ same_test n) ∙ or_true (p n)))
+    ap (λ b. (if b then None else x) ∷ kept_from p (n + 1) xs) (sym (h n (omega arith) ∙ ap (λ b. p n || b) (ap (λ m. m == n) (plain n) ∙ same_test n)
+    ∙ or_true (p n)))
     ∙ ap (λ ys. (if q n then None else x) ∷ ys)
     (kept_alike p q (n + 1) xs (λ f g. sym (h f (omega (arith, g)) ∙ ap (λ b. p f || b) (other_test (n + 0) f (λ e. past e g)) ∙ or_none (p f))))
   where

@@ -8,7 +8,8 @@ use Rattle.mn_base.proofs.Members.{In, in_filter, filter_in, in_range, in_contai
 use Rattle.mn_labels.specs.declared.meaning.Bind.{Bind}
 use Rattle.mn_labels.specs.declared.meaning.Bind.TheVariants.{Fec, Site}
 use Rattle.mn_labels.specs.declared.meaning.Given.{Given}
-use Rattle.mn_labels.specs.Labels.{Labels, greatest, is_attachment, is_label, is_had, first_or, next_label, fec_of, fec_with, attachment_with, or_attachment, meaning_of, Means, IsTold}
+use Rattle.mn_labels.specs.Labels.{Labels, greatest, is_attachment, is_label, is_had, first_or, next_label, fec_of, fec_with, attachment_with, or_attachment}
+use Rattle.mn_labels.specs.Labels.{meaning_of, Means, IsTold}
 use Rattle.mn_labels.specs.Kept.{AreKept, IsMeaning, is_site, is_no_site, is_vacant}
 use Rattle.mn_labels.proofs.Lists.{filter_on, filter_twice}
 
@@ -16,7 +17,8 @@ use Rattle.mn_labels.proofs.Lists.{filter_on, filter_twice}
 
 pub fec_is_had : (fecs : List (Option ℕ)) (k label : ℕ) → get_or fecs k None ≡ Some label → list_any (is_label label) fecs ≡ true
 fec_is_had [] k label e = cc
-fec_is_had (f ∷ fecs) zero label e = ap (λ x. is_label label x || list_any (is_label label) fecs) e ∙ ap (λ b. b || list_any (is_label label) fecs) (same_test label)
+fec_is_had (f ∷ fecs) zero label e = ap (λ x. is_label label x || list_any (is_label label) fecs) e
+    ∙ ap (λ b. b || list_any (is_label label) fecs) (same_test label)
 fec_is_had (f ∷ fecs) (suc k) label e = or_right (is_label label f) _ (fec_is_had fecs k label e)
 
 label_is : (x : Option ℕ) (label : ℕ) → is_label label x ≡ true → x ≡ Some label
@@ -160,7 +162,8 @@ with_before label k (f ∷ fecs) v e = by (is_label label f) refl (with_before l
     along : (at : ℕ) → k + 1 + at ≡ k + suc at
     along at = omega arith
 
-    by : (b : Bool) → is_label label f ≡ b → (fec_with label (k + 1) fecs ≡ v → (v ≡ None) ⊎ ((at : ℕ) × (get_or fecs at None ≡ Some label) × (v ≡ Some (fec_of (k + 1 + at))))) →
+    by : (b : Bool) → is_label label f ≡ b →
+        (fec_with label (k + 1) fecs ≡ v → (v ≡ None) ⊎ ((at : ℕ) × (get_or fecs at None ≡ Some label) × (v ≡ Some (fec_of (k + 1 + at))))) →
         (if b then Some (fec_of k) else fec_with label (k + 1) fecs) ≡ v →
         (v ≡ None) ⊎ ((at : ℕ) × (get_or (f ∷ fecs) at None ≡ Some label) × (v ≡ Some (fec_of (k + at))))
     by true h more g = inr (0, label_is f label h, sym g ∙ ap (λ n. Some (fec_of n)) plain)
@@ -244,18 +247,21 @@ reserved_means_nothing given fecs meanings reusable me kept label low = by (fec_
 
 -- as a relation
 pub told_is_meant : (given : List Given) (fecs : List (Option ℕ)) (meanings : List (Option Bind)) (reusable : List ℕ) (me : ℕ) →
-    AreKept given fecs meanings reusable me → (label : ℕ) (thing : Bind) → IsMeaning meanings label thing → Means (record { given = given; fecs = fecs }) label thing
+    AreKept given fecs meanings reusable me → (label : ℕ) (thing : Bind) → IsMeaning meanings label thing →
+    Means (record { given = given; fecs = fecs }) label thing
 told_is_meant given fecs meanings reusable me kept label (Fec node) h = kept.had_fec node label h
 told_is_meant given fecs meanings reusable me kept label (Site site number) h = kept.had_site site number label h
 
 pub meant_is_told : (given : List Given) (fecs : List (Option ℕ)) (meanings : List (Option Bind)) (reusable : List ℕ) (me : ℕ) →
-    AreKept given fecs meanings reusable me → (label : ℕ) (thing : Bind) → Means (record { given = given; fecs = fecs }) label thing → IsMeaning meanings label thing
+    AreKept given fecs meanings reusable me → (label : ℕ) (thing : Bind) → Means (record { given = given; fecs = fecs }) label thing →
+    IsMeaning meanings label thing
 meant_is_told given fecs meanings reusable me kept label (Fec node) h = kept.fec node label h
 meant_is_told given fecs meanings reusable me kept label (Site site number) h = kept.site site number label h
 
 pub reserved_means : (given : List Given) (fecs : List (Option ℕ)) (meanings : List (Option Bind)) (reusable : List ℕ) (me : ℕ) →
     AreKept given fecs meanings reusable me → (label : ℕ) → label < 16 → (thing : Bind) →
-    (None ≡ Some thing → Means (record { given = given; fecs = fecs }) label thing) × (Means (record { given = given; fecs = fecs }) label thing → None ≡ Some thing)
+    (None ≡ Some thing → Means (record { given = given; fecs = fecs }) label thing) × (Means (record { given = given; fecs = fecs }) label thing →
+    None ≡ Some thing)
 reserved_means given fecs meanings reusable me kept label low thing =
     (λ e. cc, λ h. absurd (high low (meant_is_told given fecs meanings reusable me kept label thing h).0))
   where
@@ -264,7 +270,8 @@ reserved_means given fecs meanings reusable me kept label low thing =
 
 pub noted_means : (given : List Given) (fecs : List (Option ℕ)) (meanings : List (Option Bind)) (reusable : List ℕ) (me : ℕ) →
     AreKept given fecs meanings reusable me → (label : ℕ) → 16 ≤ label → (noted : Option Bind) → noted ≡ get_or meanings (label - 16) None → (thing : Bind) →
-    (noted ≡ Some thing → Means (record { given = given; fecs = fecs }) label thing) × (Means (record { given = given; fecs = fecs }) label thing → noted ≡ Some thing)
+    (noted ≡ Some thing → Means (record { given = given; fecs = fecs }) label thing) × (Means (record { given = given; fecs = fecs }) label thing →
+    noted ≡ Some thing)
 noted_means given fecs meanings reusable me kept label low noted e thing = (
   λ h. told_is_meant given fecs meanings reusable me kept label thing (low, sym e ∙ h),
   λ h. e ∙ (meant_is_told given fecs meanings reusable me kept label thing h).1,

@@ -1,5 +1,6 @@
 -- What is true of every node's labels stays so as one is given and given up.
-use Rattle.std.proofs.Common.{ℕ, zero, suc, ◌≡◌, ◌≢◌, ◌+◌, ◌≤◌, ◌<◌, ◌⊎◌, inl, inr, Bool, true, false, cond, List, [], ◌∷◌, ◌++◌, filter, length, map, get_or, set}
+use Rattle.std.proofs.Common.{ℕ, zero, suc, ◌≡◌, ◌≢◌, ◌+◌, ◌≤◌, ◌<◌, ◌⊎◌, inl, inr, Bool, true, false, cond, List, [], ◌∷◌, ◌++◌, filter, length, map, get_or}
+use Rattle.std.proofs.Common.{set}
 use Rattle.std.proofs.Common.{refl, arith, sym, ◌∙◌, ap, subst, length-append, length-set}
 use Rattle.std.specs.Prelude.{Option, Some, None, IfSome, is_some, not, ◌==◌, ◌-◌, max}
 use Rattle.std.specs.List.{range_with_len, Contains}
@@ -73,7 +74,8 @@ reused_grown meanings x =
     plain n = omega arith
 
 reused_set : (meanings : List (Option Bind)) (at : ℕ) (x : Option Bind) → at < length meanings → is_site (get_or meanings at None) ≡ false → is_site x ≡ false →
-    filter (is_no_site (set meanings at x)) (range_with_len 16 (length (set meanings at x))) ≡ filter (is_no_site meanings) (range_with_len 16 (length meanings))
+    filter (is_no_site (set meanings at x)) (range_with_len 16 (length (set meanings at x))) ≡ filter (is_no_site meanings)
+    (range_with_len 16 (length meanings))
 reused_set meanings at x inside was is =
     ap (λ n. filter (is_no_site (set meanings at x)) (range_with_len 16 n)) (length-set meanings at x)
     ∙ filter_on (is_no_site (set meanings at x)) (is_no_site meanings) (range_with_len 16 (length meanings)) (λ y i. by y ((y - 16) == at) refl)
@@ -157,11 +159,17 @@ forget_keeps given fecs meanings reusable me kept at label e =
       fec = λ node other f. elim (set_back fecs at None node.0 other f) [
         | inl q ↦ cc
         | inr q ↦
-            let h = kept.fec node other q.1 in
-            (h.0, get_or-set_other meanings (label - 16) (other - 16) None None (λ s. q.0 (which node (sym h.1 ∙ ap (λ k. get_or meanings k None) s ∙ had.1))) ∙ h.1)
+            let h = kept.fec node other q.1 in (
+              h.0,
+              get_or-set_other meanings (label - 16) (other - 16) None None (λ s. q.0 (which node (sym h.1 ∙ ap (λ k. get_or meanings k None) s ∙ had.1)))
+                  ∙ h.1,
+            )
       ];
-      site = λ s n other c. let h = kept.site s n other c in
-          (h.0, get_or-set_other meanings (label - 16) (other - 16) None None (λ q. unlike s n (sym had.1 ∙ ap (λ k. get_or meanings k None) (sym q) ∙ h.1)) ∙ h.1);
+      site = λ s n other c. let h = kept.site s n other c in (
+        h.0,
+        get_or-set_other meanings (label - 16) (other - 16) None None (λ q. unlike s n (sym had.1 ∙ ap (λ k. get_or meanings k None) (sym q) ∙ h.1))
+            ∙ h.1,
+      );
       had_fec = λ node other h. elim (set_back meanings (label - 16) None (other - 16) (Fec node) h.1) [
         | inl q ↦ cc
         | inr q ↦
@@ -394,5 +402,6 @@ pub make_keeps_at : (given : List Given) (fecs : List (Option ℕ)) (meanings : 
     ((label : ℕ) → In reusable label → is_some (get_or meanings (label - 16) None) ≡ true) → (n : ℕ) → n ≡ length meanings →
     AreKept (given ++ giving (16 + n) (Fec node) ∷ []) (set fecs node.0 (Some (16 + n))) (meanings ++ Some (Fec node) ∷ []) (reusable ++ (16 + n) ∷ []) me
 make_keeps_at given fecs meanings reusable me kept node there other none had n e =
-    subst (λ k. AreKept (given ++ giving (16 + k) (Fec node) ∷ []) (set fecs node.0 (Some (16 + k))) (meanings ++ Some (Fec node) ∷ []) (reusable ++ (16 + k) ∷ []) me)
+    subst (λ k. AreKept (given ++ giving (16 + k) (Fec node) ∷ []) (set fecs node.0 (Some (16 + k))) (meanings ++ Some (Fec node) ∷ [])
+    (reusable ++ (16 + k) ∷ []) me)
     (sym e) (make_keeps given fecs meanings reusable me kept node there other none had)

@@ -110,11 +110,13 @@ without_shorter (y ∷ ys) x i = split (y == x) refl (without_shorter ys x) i
     keeps [] = omega arith
     keeps (z ∷ zs) = by (z == x) (keeps zs)
       where
-        by : (b : Bool) → length (filter (λ y. not (y == x)) zs) ≤ length zs → length (cond (not b) (z ∷ filter (λ y. not (y == x)) zs) (filter (λ y. not (y == x)) zs)) ≤ length (z ∷ zs)
+        by : (b : Bool) → length (filter (λ y. not (y == x)) zs) ≤ length zs →
+            length (cond (not b) (z ∷ filter (λ y. not (y == x)) zs) (filter (λ y. not (y == x)) zs)) ≤ length (z ∷ zs)
         by true h = omega (arith, h)
         by false h = omega (arith, h)
 
-    split : (b : Bool) → (y == x) ≡ b → (In ys x → length (filter (λ y. not (y == x)) ys) + 1 ≤ length ys) → In (y ∷ ys) x → length (cond (not b) (y ∷ filter (λ z. not (z == x)) ys) (filter (λ z. not (z == x)) ys)) + 1 ≤ length (y ∷ ys)
+    split : (b : Bool) → (y == x) ≡ b → (In ys x → length (filter (λ y. not (y == x)) ys) + 1 ≤ length ys) → In (y ∷ ys) x →
+        length (cond (not b) (y ∷ filter (λ z. not (z == x)) ys) (filter (λ z. not (z == x)) ys)) + 1 ≤ length (y ∷ ys)
     split true e more j = let k = keeps ys in omega (arith, k)
     split false e more j = elim j [
       | inl q ↦ absurd (other_numbers y x e q)

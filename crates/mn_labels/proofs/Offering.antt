@@ -89,7 +89,8 @@ all_was labels [] p a out h = h
 all_was labels (fec ∷ fecs) p a out h =
     one_was labels fec p a (λ e. out (inl (sym e))) (all_was (offered_one labels fec) fecs p a (λ i. out (inr i)) h)
 
-kept_was : (free : ℕ → Bool) (fec : ℕ) (xs : List (Option ℕ)) (p a : ℕ) → slice_index_or (kept_from free fec xs) p None ≡ Some a → slice_index_or xs p None ≡ Some a
+kept_was : (free : ℕ → Bool) (fec : ℕ) (xs : List (Option ℕ)) (p a : ℕ) → slice_index_or (kept_from free fec xs) p None ≡ Some a →
+    slice_index_or xs p None ≡ Some a
 kept_was free fec [] p a e = e
 kept_was free fec (x ∷ xs) zero a e = by (free fec) e
   where
@@ -99,7 +100,8 @@ kept_was free fec (x ∷ xs) zero a e = by (free fec) e
 kept_was free fec (x ∷ xs) (suc p) a e = kept_was free (fec + 1) xs p a e
 
 -- what isn't free is kept
-pub kept_at : (free : ℕ → Bool) (fec : ℕ) (xs : List (Option ℕ)) (p : ℕ) → free (fec + p) ≡ false → slice_index_or (kept_from free fec xs) p None ≡ slice_index_or xs p None
+pub kept_at : (free : ℕ → Bool) (fec : ℕ) (xs : List (Option ℕ)) (p : ℕ) → free (fec + p) ≡ false →
+    slice_index_or (kept_from free fec xs) p None ≡ slice_index_or xs p None
 kept_at free fec [] p off = refl
 kept_at free fec (x ∷ xs) zero off = ap (λ b. if b then None else x) (ap free same ∙ off)
   where
@@ -123,7 +125,8 @@ offered_keeps free labels [] p a off h = h
 offered_keeps free labels (fec ∷ fecs) p a off h =
     all_keep (given_up free labels) (fec ∷ fecs) p a (kept_at free 0 labels.fecs p (ap free zero_and ∙ off) ∙ h)
 
-pub offered_gives : (free : ℕ → Bool) (labels : Labels) (fecs : List ℕ) (p : ℕ) → p < length labels.fecs → In fecs p → (a : ℕ) × (label_now (offered free labels fecs) p ≡ Some a)
+pub offered_gives : (free : ℕ → Bool) (labels : Labels) (fecs : List ℕ) (p : ℕ) → p < length labels.fecs → In fecs p →
+    (a : ℕ) × (label_now (offered free labels fecs) p ≡ Some a)
 offered_gives free labels [] p below i = absurd i
 offered_gives free labels (fec ∷ fecs) p below i =
     all_give (given_up free labels) (fec ∷ fecs) p (subst (λ x. p < x) (sym (kept_length free 0 labels.fecs)) below) i

@@ -1,5 +1,6 @@
 -- Labels that are passed once in the search for a vacant one needn't be looked at again, as long as none is given up.
-use Rattle.std.proofs.Common.{ℕ, zero, suc, ◌≡◌, ◌+◌, ◌<◌, Bool, true, false, cond, List, [], ◌∷◌, ◌++◌, filter, length, get_or, set, drop, refl, arith, sym, ◌∙◌, ap}
+use Rattle.std.proofs.Common.{ℕ, zero, suc, ◌≡◌, ◌+◌, ◌<◌, Bool, true, false, cond, List, [], ◌∷◌, ◌++◌, filter, length, get_or, set, drop, refl, arith, sym}
+use Rattle.std.proofs.Common.{◌∙◌, ap}
 use Rattle.std.specs.Prelude.{Option, Some, None, is_some, not, ◌-◌, slice_get}
 use Rattle.mn_labels.specs.declared.meaning.Bind.{Bind}
 use Rattle.mn_labels.specs.Kept.{is_vacant}

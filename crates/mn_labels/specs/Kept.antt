@@ -29,9 +29,11 @@ is_vacant meanings label = not (is_some (slice_index_or meanings (label - 16) No
 
 pub record AreKept (given : List Given) (fecs : List (Option ℕ)) (meanings : List (Option Bind)) (reusable : List ℕ) (me : ℕ) : Type 0 where
   pub fec : (node : NodeNo) (label : ℕ) → slice_index_or fecs node.0 None ≡ Some label → IsMeaning meanings label (Fec node)
-  pub site : (site : SiteNo) (number label : ℕ) → Contains given (record { label = label; what = Site site number }) → IsMeaning meanings label (Site site number)
+  pub site : (site : SiteNo) (number label : ℕ) → Contains given (record { label = label; what = Site site number }) →
+      IsMeaning meanings label (Site site number)
   pub had_fec : (node : NodeNo) (label : ℕ) → IsMeaning meanings label (Fec node) → slice_index_or fecs node.0 None ≡ Some label
-  pub had_site : (site : SiteNo) (number label : ℕ) → IsMeaning meanings label (Site site number) → Contains given (record { label = label; what = Site site number })
+  pub had_site : (site : SiteNo) (number label : ℕ) → IsMeaning meanings label (Site site number) →
+      Contains given (record { label = label; what = Site site number })
   pub last : 15 + length meanings ≡ greatest given
   pub reused : reusable ≡ filter (is_no_site meanings) (range_with_len 16 (length meanings))
   pub count : length meanings ≡ attachments_in given + length reusable
@@ -43,4 +45,5 @@ pub record AreKept (given : List Given) (fecs : List (Option ℕ)) (meanings : L
 -- labels that are passed once needn't be looked at again
 pub record Stands (inside : Inside) : Type 0 where
   pub kept : AreKept inside.given.items inside.fecs.items inside.meanings.items inside.reusable.items inside.me.0
-  pub passed : filter (is_vacant inside.meanings.items) (drop inside.passed inside.reusable.items) ≡ filter (is_vacant inside.meanings.items) inside.reusable.items
+  pub passed : filter (is_vacant inside.meanings.items) (drop inside.passed inside.reusable.items) ≡ filter (is_vacant inside.meanings.items)
+      inside.reusable.items

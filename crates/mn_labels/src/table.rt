@@ -133,7 +133,7 @@ impl Labels {
     /// Offers FECs, in this order: those that are `free` give up their labels first, and then each takes up the label that
     /// it has, or else the least that nothing has. Where no FEC is offered none gives up its label.
     ///
-    /// An `Err` is want of memory alone, and changes nothing.
+    /// An `Err` says that memory ran out, and nothing else, and changes nothing.
     #[tactic(auto, using(crate::proofs::GivingUp::some_are_offered, crate::proofs::GivingUp::none_are_offered))]
     pub fn offer(&mut self, fecs: &[NodeNo], free: &[NodeNo]) -> Result<(), AllocError>
         requires others { All (λ fec. (fec.0 < length self.old.labels.fecs) × (fec.0 ≢ self.old.me)) fecs.now }

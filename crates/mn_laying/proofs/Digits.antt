@@ -1,5 +1,6 @@
 -- How many digits a number has.
-use Rattle.std.proofs.Common.{◌≡◌, ℕ, ◌+◌, ◌<◌, ◌≤◌, ◌/◌, ◌^◌, List, ◌++◌, length, take, drop, arith, ap, sym, ◌∙◌, append_assoc, length-append, length-take-le, take-append-drop, take_at}
+use Rattle.std.proofs.Common.{◌≡◌, ℕ, ◌+◌, ◌<◌, ◌≤◌, ◌/◌, ◌^◌, List, ◌++◌, length, take, drop, arith, ap, sym, ◌∙◌, append_assoc, length-append, length-take-le}
+use Rattle.std.proofs.Common.{take-append-drop, take_at}
 use Rattle.std.specs.Fmt.{decimal}
 use Rattle.std.proofs.lemmas.Fmt.{length-decimal-le}
 use Rattle.itoa.proofs.Decimal.{length_one, length_two, length_pair, length_four, length_step_wide}

@@ -4,6 +4,6 @@
 //! changed; what stands behind is left open.
 #![tactic(auto)]
 
-mod laying;
+mod laying; // words and numbers, laid over bytes
 
 pub use laying::{lay, lay_name, lay_number};

@@ -24,13 +24,13 @@ kind_of (says.Release prefix label) = Release
 
 -- 1. The table
 
--- the Initialization is said
+-- the Initialization is sent
 abbrev pub says_initialization : Reply → Bool
 says_initialization reply.Initialization = true
 says_initialization reply.Both = true
 says_initialization _ = false
 
--- a KeepAlive is said
+-- a KeepAlive is sent
 abbrev pub says_keepalive : Reply → Bool
 says_keepalive reply.Both = true
 says_keepalive reply.KeepAlive = true
@@ -41,7 +41,7 @@ abbrev pub begins : Reply → Bool
 begins reply.Begins = true
 begins _ = false
 
--- the state and what is heard in it; what is said, and the state then
+-- the state and what is received in it; what is sent, and the state then
 abbrev pub row : LdpState → LdpKind → Option (Reply × LdpState)
 row Initialized Initialization = Some (reply.Both, OpenRec)
 row OpenSent Initialization = Some (reply.KeepAlive, OpenRec)

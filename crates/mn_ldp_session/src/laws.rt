@@ -5,7 +5,7 @@ ghost use Rattle.mn_node.specs.Ldp.{Message, Mapping};
 ghost use Rattle.mn_ldp_session.specs.Spelling.{AreSpelled, SpeaksOfNode, HasItsLabel, IsHeardAsSaid, pdu_in_network};
 ghost use Rattle.mn_ldp_session.specs.Routers.{routers_in_a_row, implicit_null, own_mapping};
 
-/// What one end of a link says, in its written spelling, is read by the other end as what was said, and accepted where the
+/// What one end of a link says, in its written spelling, is read by the other end as what was sent, and accepted where the
 /// table has a row, whatever labels the FECs have at both ends.
 pub fn what_is_said_is_heard()
     ensures { (wiring : Wiring) (own theirs : ℕ → ℕ) → AreSpelled wiring → (me far id : ℕ) (message : Message) → me < length wiring.loopbacks →

@@ -1,7 +1,7 @@
 //! One end of an LDP session, as a state machine.
 //!
 //! ```text
-//!  state        heard           said                          then
+//!  state        received        sent                          then
 //!  INITIALIZED  Initialization  Initialization, KeepAlive     OPENREC
 //!  OPENSENT     Initialization  KeepAlive                     OPENREC
 //!  OPENREC      KeepAlive       Address, and what it offers   OPERATIONAL
@@ -13,7 +13,7 @@
 //! - `kind`: the kinds of messages
 //! - `refusal`: why a message is refused
 //! - `session`: the state machine
-//! - `laws`: what one end says is heard as it was said
+//! - `laws`: what one end says is received as it was sent
 //!
 //! `specs/Table` has the table as it stands above, and `specs/Spelling` what each message of a node looks like as a PDU.
 //!

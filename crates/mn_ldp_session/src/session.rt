@@ -20,19 +20,19 @@ pub enum Reply {
     Both,
     /// A KeepAlive.
     KeepAlive,
-    /// The session is OPERATIONAL: an Address is to be said, and a Mapping of each FEC that is offered.
+    /// The session is OPERATIONAL: an Address is to be sent, and a Mapping of each FEC that is offered.
     Begins,
 }
 
 impl Reply {
-    /// Whether its Initialization is said.
+    /// Whether its Initialization is sent.
     pub fn says_initialization(self) -> bool
         ensures { result ≡ says_initialization self }
     {
         matches!(self, Reply::Initialization | Reply::Both)
     }
 
-    /// Whether a KeepAlive is said.
+    /// Whether a KeepAlive is sent.
     pub fn says_keepalive(self) -> bool
         ensures { result ≡ says_keepalive self }
     {
@@ -80,7 +80,7 @@ fn is_acceptable(me: u32, body: &LdpBody) -> bool
     }
 }
 
-/// The table: what is said, and the state then; none where it has no row (RFC 5036, section 2.5.4).
+/// The table: what is sent, and the state then; none where it has no row (RFC 5036, section 2.5.4).
 fn row(state: LdpState, kind: LdpKind) -> Option<(Reply, LdpState)>
     ensures { result ≡ row state kind }
 {
@@ -130,7 +130,7 @@ impl Session {
         self.state
     }
 
-    /// Hears a message of this sender.
+    /// Receives a message of this sender.
     ///
     /// `Unexpected` comes exactly where the table has no row for the state and the message's kind, and `BadParameters`
     /// exactly where it has one, and the sender isn't the peer with label space 0, or an Initialization isn't for version
@@ -139,7 +139,7 @@ impl Session {
         ensures accepted { OnOk result (refusal self.old from message.now.body ≡ None) }
         ensures refused { IfErr result (λ bad. refusal self.old from message.now.body ≡ Some bad) }
 
-        // What is said and the state then are those of the table's row; the addresses stay.
+        // What is sent and the state then are those of the table's row; the addresses stay.
         ensures table { IfOk result (λ reply. row self.old.state (kind_of message.now.body) ≡ Some (reply, self.new.state)) }
         ensures ends { OnOk result (self.new ≡ record self.old { state = self.new.state }) }
         ensures unchanged { OnErr result (self.new ≡ self.old) }

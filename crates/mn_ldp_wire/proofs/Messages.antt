@@ -124,7 +124,7 @@ low_bits : (u type : ℕ) → (u ≡ 0) ⊎ (u ≡ u_bit) → type < u_bit → (
 low_bits u type (inl e) small = omega (arith, e)
 low_bits u type (inr e) small = omega (arith, e)
 
--- the one way in which bytes are said
+-- the one way in which bytes are sent
 pub record IsSpelled (said : Option LdpMessage) (bytes : List ℕ) : Type 0 where
   pub kind : ℕ
   pub contents : List ℕ

@@ -57,9 +57,14 @@ module _ (t : Network) (clock l : ℕ) (d : Dir) where
       (λ g. here ks xs (gone w (length xs)) g) (λ g. here ks (xs ++ k ∷ []) w g)
     where
       split : (b : Bool)
-          → (flying_on (gone w (length xs)) l d ≡ xs ++ ks → flying_on (expire_from t clock l d (length xs) ks (gone w (length xs))) l d ≡ xs ++ young t clock l ks)
-          → (flying_on w l d ≡ (xs ++ k ∷ []) ++ ks → flying_on (expire_from t clock l d (length (xs ++ k ∷ [])) ks w) l d ≡ (xs ++ k ∷ []) ++ young t clock l ks)
-          → flying_on (elim b as (λ _. Packets) [ true ↦ expire_from t clock l d (length xs) ks (gone w (length xs)) | false ↦ expire_from t clock l d (length xs + 1) ks w ]) l d
+          → (flying_on (gone w (length xs)) l d ≡ xs ++ ks →
+          flying_on (expire_from t clock l d (length xs) ks (gone w (length xs))) l d ≡ xs ++ young t clock l ks)
+          → (flying_on w l d ≡ (xs ++ k ∷ []) ++ ks →
+          flying_on (expire_from t clock l d (length (xs ++ k ∷ [])) ks w) l d ≡ (xs ++ k ∷ []) ++ young t clock l ks)
+          → flying_on (elim b as (λ _. Packets) [
+            | true ↦ expire_from t clock l d (length xs) ks (gone w (length xs))
+            | false ↦ expire_from t clock l d (length xs + 1) ks w
+          ]) l d
           ≡ xs ++ cond (not b) (k ∷ young t clock l ks) (young t clock l ks)
       split true one other = one
           (gone-at w (length xs) (channel l d) ∙ put_here w.flying (channel l d) (without_place (length xs) (flying_on w l d))
@@ -73,7 +78,8 @@ module _ (t : Network) (clock l : ℕ) (d : Dir) where
   off [] n b w h = refl
   off (k ∷ ks) n b w h = split (is_overdue t clock l k) (off ks n b (gone w n) h) (off ks (n + 1) b w h)
     where
-      split : (c : Bool) → (expire_from t clock l d n ks (gone w n)).flying b ≡ (gone w n).flying b → (expire_from t clock l d (n + 1) ks w).flying b ≡ w.flying b
+      split : (c : Bool) → (expire_from t clock l d n ks (gone w n)).flying b ≡ (gone w n).flying b →
+          (expire_from t clock l d (n + 1) ks w).flying b ≡ w.flying b
           → (elim c as (λ _. Packets) [ true ↦ expire_from t clock l d n ks (gone w n) | false ↦ expire_from t clock l d (n + 1) ks w ]).flying b ≡ w.flying b
       split true one other = one ∙ gone-at w n b ∙ put_off w.flying (channel l d) (without_place n (flying_on w l d)) b h
       split false one other = other
@@ -108,7 +114,8 @@ both-here t clock l Back w =
 
 both-off : (t : Network) (clock k l : ℕ) (d : Dir) (w : Packets) → k ≢ l → flying_on (both t clock k w) l d ≡ flying_on w l d
 both-off t clock k l d w h =
-    off t clock k Back (flying_on (expire_on t clock k Forth w) k Back) 0 (channel l d) (expire_on t clock k Forth w) (λ e. h (sym (one_channel l k d Back e).0))
+    off t clock k Back (flying_on (expire_on t clock k Forth w) k Back) 0 (channel l d) (expire_on t clock k Forth w)
+    (λ e. h (sym (one_channel l k d Back e).0))
     ∙ off t clock k Forth (flying_on w k Forth) 0 (channel l d) w (λ e. h (sym (one_channel l k d Forth e).0))
 
 -- twice is once
@@ -155,7 +162,8 @@ over-clock : (t : Network) (clock : ℕ) (ls : List ℕ) (w : Packets) → (expi
 over-clock t clock [] w = refl
 over-clock t clock (l ∷ ls) w =
     over-clock t clock ls (both t clock l w)
-    ∙ clocked t clock l Back (flying_on (expire_on t clock l Forth w) l Back) 0 (expire_on t clock l Forth w) ∙ clocked t clock l Forth (flying_on w l Forth) 0 w
+    ∙ clocked t clock l Back (flying_on (expire_on t clock l Forth w) l Back) 0 (expire_on t clock l Forth w)
+    ∙ clocked t clock l Forth (flying_on w l Forth) 0 w
 
 pub timed_clock : (t : Network) (clock : ℕ) (s : Step) (w : Packets) → (timed_by t clock s w).clock ≡ clock
 timed_clock t clock (Tick n) w = over-clock t clock (links_of (wiring_of t)) (record w { clock = clock })
@@ -201,10 +209,12 @@ not_frame on c load t clock i h = ap (λ x. is_late t clock x load) (same_chan o
 abbrev in_time_test : Network → ℕ → Item → Bool
 in_time_test t clock item = not (is_late t clock item.on item.load)
 
-order-kept : (t : Network) (clock : ℕ) (on : Channel) (items : List Item) → is_in_order on ≡ true → items_on on (filter (in_time_test t clock) items) ≡ items_on on items
+order-kept : (t : Network) (clock : ℕ) (on : Channel) (items : List Item) → is_in_order on ≡ true →
+    items_on on (filter (in_time_test t clock) items) ≡ items_on on items
 order-kept t clock on [] i = refl
 order-kept t clock on (x ∷ xs) i = elim (two_ways (same_channel on x.on)) [
-  | inl e ↦ ap (λ b. items_on on (cond (not b) (x ∷ filter (in_time_test t clock) xs) (filter (in_time_test t clock) xs))) (not_frame on x.on x.load t clock i e)
+  | inl e ↦ ap (λ b. items_on on (cond (not b) (x ∷ filter (in_time_test t clock) xs) (filter (in_time_test t clock) xs)))
+      (not_frame on x.on x.load t clock i e)
       ∙ ap (λ b. cond b (x ∷ items_on on (filter (in_time_test t clock) xs)) (items_on on (filter (in_time_test t clock) xs))) e
       ∙ ap (λ ys. x ∷ ys) (order-kept t clock on xs i) ∙ sym (ap (λ b. cond b (x ∷ items_on on xs) (items_on on xs)) e)
   | inr e ↦ either (in_time_test t clock x) e ∙ order-kept t clock on xs i ∙ sym (ap (λ b. cond b (x ∷ items_on on xs) (items_on on xs)) e)
@@ -231,14 +241,17 @@ frames-kept t clock l d [] [] h = refl
 frames-kept t clock l d [] (k ∷ ks) h = cc
 frames-kept t clock l d (x ∷ xs) ks h = elim (two_ways (same_channel (Frames l d) x.on)) [
   | inr e ↦ either (in_time_test t clock x) e
-      ∙ frames-kept t clock l d xs ks (sym (ap (λ b. map (λ (item : Item). item.load) (cond b (x ∷ items_on (Frames l d) xs) (items_on (Frames l d) xs))) e) ∙ h)
+      ∙ frames-kept t clock l d xs ks (sym (ap (λ b. map (λ (item : Item). item.load) (cond b (x ∷ items_on (Frames l d) xs) (items_on (Frames l d) xs))) e)
+      ∙ h)
   | inl e ↦ on-it e ks (sym (ap (λ b. map (λ (item : Item). item.load) (cond b (x ∷ items_on (Frames l d) xs) (items_on (Frames l d) xs))) e) ∙ h)
       (λ rest. frames-kept t clock l d xs rest)
 ]
   where
     either : (b : Bool) → same_channel (Frames l d) x.on ≡ false
-        → loads_on (Frames l d) (cond b (x ∷ filter (in_time_test t clock) xs) (filter (in_time_test t clock) xs)) ≡ loads_on (Frames l d) (filter (in_time_test t clock) xs)
-    either true e = ap (λ b. map (λ (item : Item). item.load) (cond b (x ∷ items_on (Frames l d) (filter (in_time_test t clock) xs)) (items_on (Frames l d) (filter (in_time_test t clock) xs)))) e
+        → loads_on (Frames l d) (cond b (x ∷ filter (in_time_test t clock) xs) (filter (in_time_test t clock) xs)) ≡ loads_on (Frames l d)
+        (filter (in_time_test t clock) xs)
+    either true e = ap (λ b. map (λ (item : Item). item.load)
+        (cond b (x ∷ items_on (Frames l d) (filter (in_time_test t clock) xs)) (items_on (Frames l d) (filter (in_time_test t clock) xs)))) e
     either false e = refl
 
     on-it : same_channel (Frames l d) x.on ≡ true → (ks : List Token) → x.load ∷ loads_on (Frames l d) xs ≡ map (λ token. Carries token) ks
@@ -250,7 +263,8 @@ frames-kept t clock l d (x ∷ xs) ks h = elim (two_ways (same_channel (Frames l
     on-it e (k ∷ ks) h ih =
         let first : x.load ≡ Carries k = cc in
         let rest : loads_on (Frames l d) xs ≡ map (λ token. Carries token) ks = cc in
-        ap (λ b. loads_on (Frames l d) (cond (not b) (x ∷ filter (in_time_test t clock) xs) (filter (in_time_test t clock) xs))) (late_is t clock l d x.on x.load k e first)
+        ap (λ b. loads_on (Frames l d) (cond (not b) (x ∷ filter (in_time_test t clock) xs) (filter (in_time_test t clock) xs)))
+        (late_is t clock l d x.on x.load k e first)
         ∙ by (nat_lt l (length t.links) && is_overdue t clock l k) e first (ih ks rest)
       where
         by : (b : Bool) → same_channel (Frames l d) x.on ≡ true → x.load ≡ Carries k
@@ -259,7 +273,8 @@ frames-kept t clock l d (x ∷ xs) ks h = elim (two_ways (same_channel (Frames l
             ≡ map (λ token. Carries token) (cond (not b) (k ∷ young_there t clock l ks) (young_there t clock l ks))
         by true e f g = g
         by false e f g =
-            ap (λ b. map (λ (item : Item). item.load) (cond b (x ∷ items_on (Frames l d) (filter (in_time_test t clock) xs)) (items_on (Frames l d) (filter (in_time_test t clock) xs)))) e
+            ap (λ b. map (λ (item : Item). item.load)
+            (cond b (x ∷ items_on (Frames l d) (filter (in_time_test t clock) xs)) (items_on (Frames l d) (filter (in_time_test t clock) xs)))) e
             ∙ ap (λ y. y ∷ loads_on (Frames l d) (filter (in_time_test t clock) xs)) f ∙ ap (λ ys. Carries k ∷ ys) g
 
 -- what flies once time has gone on
@@ -271,7 +286,8 @@ in_time_flies t world clock (Tick n) w made flight f = record {
   among = λ item c. f.among item (contained_in flight.items item (in_filter (in_time_test t clock) flight.items item
       (in_contained (filter (in_time_test t clock) flight.items) item c)).0);
   order = λ on i. let was = f.order on i in (was.0, was.1 ∙ ap (λ ys. was.0 ++ ys) (sym (order-kept t clock on flight.items i)));
-  notices = λ l node below. ap (λ ys. world.views.learned node l + length (map (λ (item : Item). item.load) ys)) (order-kept t clock (Notices l node) flight.items refl)
+  notices = λ l node below. ap (λ ys. world.views.learned node l + length (map (λ (item : Item). item.load) ys))
+      (order-kept t clock (Notices l node) flight.items refl)
       ∙ f.notices l node below;
   messages = λ l node below end. ap (map (λ (item : Item). item.load)) (order-kept t clock (Messages l node) flight.items refl) ∙ f.messages l node below end;
   routes = λ edge peer d. ap (map (λ (item : Item). item.load)) (order-kept t clock (Routes edge peer) flight.items refl) ∙ f.routes edge peer d;

@@ -26,7 +26,7 @@ item number due on load = record { number = number; due = due; on = on; load = l
 abbrev beginning : List JournalEntry
 beginning = at 4 (LinkUp (link_no 0)) ∷ at 7 (BgpUp (node_no 0) (node_no 2)) ∷ []
 
--- each node is told of the change; the end of greater address says Initialization; the lesser edge tells OPEN first
+-- each node is told of the change; the end of greater address sends Initialization; the lesser edge tells OPEN first
 pub notices_come_first : (flight_of two_links beginning []).items
     ≡ item 0 5 (Notices 0 0) Notice ∷ item 1 5 (Notices 0 1) Notice ∷ item 2 5 (Notices 0 2) Notice
     ∷ item 3 6 (Messages 0 1) (Says Initialization)
@@ -34,7 +34,7 @@ pub notices_come_first : (flight_of two_links beginning []).items
 unfolding a_run
 notices_come_first = refl
 
--- what is heard or learned leaves, and answers follow; what isn't stays with its number
+-- what is received or learned leaves, and answers follow; what isn't stays with its number
 pub what_is_heard_leaves : (flight_of two_links (beginning ++ at 7 (Learn (node_no 1) (link_no 0)) ∷ at 8 (HearLdp (link_no 0) Back) ∷ []) []).items
     ≡ item 0 5 (Notices 0 0) Notice ∷ item 2 5 (Notices 0 2) Notice
     ∷ item 4 10 (Routes 0 2) (Tells Open) ∷ item 5 10 (Routes 2 0) (Tells Open)
@@ -42,7 +42,7 @@ pub what_is_heard_leaves : (flight_of two_links (beginning ++ at 7 (Learn (node_
 unfolding a_run
 what_is_heard_leaves = refl
 
--- the far edge hears the near one's OPEN, which leaves, and answers; its own OPEN is still on its way
+-- the far edge receives the near one's OPEN, which leaves, and answers; its own OPEN is still on its way
 pub what_a_peer_hears_leaves : (flight_of two_links (beginning ++ at 11 (HearBgp (node_no 0) (node_no 2)) ∷ []) []).items
     ≡ item 0 5 (Notices 0 0) Notice ∷ item 1 5 (Notices 0 1) Notice ∷ item 2 5 (Notices 0 2) Notice
     ∷ item 3 6 (Messages 0 1) (Says Initialization)

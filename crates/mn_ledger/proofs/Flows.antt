@@ -180,7 +180,8 @@ part_for (Frames l d) t w v p q s = frames_in p q s
 made_for : (on : Channel) (t : Network) (w v : World) (p q : Packets) (s : Step) → loads_in on (made_in t w v p q s) ≡ loads_in on (part_for on t w v p q s)
 made_for on t w v p q s = parts on (notices_in t s) (messages_in t w v s) (routes_in t w v s) (frames_in p q s) ∙ alone on
   where
-    alone : (on : Channel) → loads_in on (notices_in t s) ++ (loads_in on (messages_in t w v s) ++ (loads_in on (routes_in t w v s) ++ loads_in on (frames_in p q s)))
+    alone : (on : Channel) → loads_in on
+        (notices_in t s) ++ (loads_in on (messages_in t w v s) ++ (loads_in on (routes_in t w v s) ++ loads_in on (frames_in p q s)))
         ≡ loads_in on (part_for on t w v p q s)
     alone (Notices l node) = let on : Channel = Notices l node in
         first_alone (loads_in on (notices_in t s)) (no_messages on (λ x. refl) t w v s) (no_routes on (λ x. refl) t w v s) (frames_none on refl p q s)
@@ -189,7 +190,8 @@ made_for on t w v p q s = parts on (notices_in t s) (messages_in t w v s) (route
     alone (Routes edge peer) = let on : Channel = Routes edge peer in
         third_alone (loads_in on (routes_in t w v s)) (no_notices_on on (λ k n. refl) t s) (no_messages on (λ x. refl) t w v s) (frames_none on refl p q s)
     alone (Frames l d) = let on : Channel = Frames l d in
-        fourth_alone (loads_in on (frames_in p q s)) (no_notices_on on (λ k n. refl) t s) (no_messages on (λ x. refl) t w v s) (no_routes on (λ x. refl) t w v s)
+        fourth_alone (loads_in on (frames_in p q s)) (no_notices_on on (λ k n. refl) t s) (no_messages on (λ x. refl) t w v s)
+        (no_routes on (λ x. refl) t w v s)
 
 abbrev later_items : Network → World → Packets → Packets → Step → ℕ → ℕ → List Item → List Item
 later_items t w p q s tick n items = left_in_flight t s items ++ numbered t tick n (made_in t w (after t w s) p q s)
@@ -204,7 +206,7 @@ loads_kept : (t : Network) (s : Step) (on : Channel) → is_in_order on ≡ true
     (items : List Item) → loads_on on (left_in_flight t s items) ≡ loads_on on items
 loads_kept t s on i h items = ap (map (λ (item : Item). item.load)) (untouched t s on i h items)
 
--- what is said or told comes after what isn't heard yet
+-- what is sent comes after what isn't received yet
 comes_after : {A : Type 0} (load : A → Load) (t : Network) (w : World) (p q : Packets) (s : Step) (tick n : ℕ) (items : List Item) (on : Channel)
     (h : ℕ) (old new : List A) → loads_on on (left_in_flight t s items) ≡ map load (drop h old) → h ≤ length old →
     loads_in on (part_for on t w (after t w s) p q s) ≡ map load new → loads_on on (later_items t w p q s tick n items) ≡ map load (drop h (old ++ new))
@@ -361,7 +363,7 @@ emptied on f i h items = ap (map (λ (item : Item). item.load)) (gone on f (λ c
 same_is : (a b : ℕ) → a ≡ b → (b == a) ≡ true
 same_is a b e = ap (λ x. b == x) e ∙ same_test b
 
--- an end hears the other's next message
+-- an end receives the other's next message
 hears : (s : Sessions) (wiring : Wiring) (at who far : ℕ) (l node : ℕ) (left items : List Item) →
     (link wiring l).a.0 ≢ (link wiring l).b.0 → is_end wiring l node ≡ true → across wiring at who ≡ far → across wiring at far ≡ who
     → s.heard at who < length (s.said at far) → left ≡ without (Messages at far) 0 items
@@ -449,7 +451,8 @@ messages_go t w p q (LdpAdmin at on) tick n items l node differ inside below at_
     (λ d. loads_kept t (LdpAdmin at on) (Messages l node) refl (other_test at.0 l (λ e. d (sym e))) items) few h in
     comes_after (λ message. Says message) t w p q (LdpAdmin at on) tick n items (Messages l node) _ _ _ new.0 new.1 (in_messages l node _)
 messages_go t w p q (Learn who at) tick n items l node differ inside below at_end full few h =
-    comes_after (λ message. Says message) t w p q (Learn who at) tick n items (Messages l node) _ _ _ (loads_kept t (Learn who at) (Messages l node) refl refl items ∙ h) few (in_messages l node _)
+    comes_after (λ message. Says message) t w p q (Learn who at) tick n items (Messages l node) _ _ _
+    (loads_kept t (Learn who at) (Messages l node) refl refl items ∙ h) few (in_messages l node _)
 messages_go t w p q (HearLdp at dir) tick n items l node differ inside below at_end full few h =
     let ends = dir_ends (wiring_of t) at.0 dir (differ at.0 inside) in
     let back = ap (across (wiring_of t) at.0) (sym ends.1) ∙ (across-end (wiring_of t) at.0 (receiver (wiring_of t) at.0 dir) (differ at.0 inside) ends.0).1 in
@@ -526,7 +529,7 @@ begun k a b edge peer left items differ here off u = elim (which a b edge peer) 
     tests : (x y : ℕ) → (edge ≢ x) ⊎ (peer ≢ y) → ((x == edge) ≡ false) ⊎ ((y == peer) ≡ false)
     tests x y d = elim d [ inl p ↦ inl (other_test x edge (λ e. p (sym e))) | inr p ↦ inr (other_test y peer (λ e. p (sym e))) ]
 
--- an edge hears a peer's next message
+-- an edge receives a peer's next message
 heeds : (k : Peerings) (a b edge peer : ℕ) (left items : List Item) → k.heard b a < length (k.told a b) → left ≡ without (Routes a b) 0 items
     → (same_channel (Routes a b) (Routes edge peer) ≡ false → loads_on (Routes edge peer) left ≡ loads_on (Routes edge peer) items) → Unheard k edge peer items
     → Unheard (record k { heard = put_pair k.heard b a (k.heard b a + 1) }) edge peer left
@@ -566,29 +569,37 @@ routes_go t w p q (BgpDown a b) tick n items edge peer order full u =
     let new =
     begun w.peerings a.0 b.0 edge peer (left_in_flight t (BgpDown a b) items) items (other_than a.0 b.0 order)
     (λ e. emptied (Routes edge peer) (is_between a.0 b.0) refl e items) (λ e. loads_kept t (BgpDown a b) (Routes edge peer) refl e items) u in
-    comes_after (λ telling. Tells telling) t w p q (BgpDown a b) tick n items (Routes edge peer) _ _ _ new.0 new.1 (in_routes edge peer (told_by t w (BgpDown a b)))
+    comes_after (λ telling. Tells telling) t w p q (BgpDown a b) tick n items (Routes edge peer) _ _ _ new.0 new.1
+    (in_routes edge peer (told_by t w (BgpDown a b)))
 routes_go t w p q (HearBgp a b) tick n items edge peer order full u =
     let new =
     heeds w.peerings a.0 b.0 edge peer (left_in_flight t (HearBgp a b) items) items (above _ _ (or_both _ _ full).1) refl
     (λ e. loads_kept t (HearBgp a b) (Routes edge peer) refl e items) u in
-    comes_after (λ telling. Tells telling) t w p q (HearBgp a b) tick n items (Routes edge peer) _ _ _ new.0 new.1 (in_routes edge peer (told_by t w (HearBgp a b)))
+    comes_after (λ telling. Tells telling) t w p q (HearBgp a b) tick n items (Routes edge peer) _ _ _ new.0 new.1
+    (in_routes edge peer (told_by t w (HearBgp a b)))
 routes_go t w p q (AddRoute a b) tick n items edge peer order full u =
-    comes_after (λ telling. Tells telling) t w p q (AddRoute a b) tick n items (Routes edge peer) _ _ _ (loads_kept t (AddRoute a b) (Routes edge peer) refl refl items
+    comes_after (λ telling. Tells telling) t w p q (AddRoute a b) tick n items (Routes edge peer) _ _ _
+    (loads_kept t (AddRoute a b) (Routes edge peer) refl refl items
     ∙ u.0) u.1 (in_routes edge peer (told_by t w (AddRoute a b)))
 routes_go t w p q (DelRoute a b) tick n items edge peer order full u =
-    comes_after (λ telling. Tells telling) t w p q (DelRoute a b) tick n items (Routes edge peer) _ _ _ (loads_kept t (DelRoute a b) (Routes edge peer) refl refl items
+    comes_after (λ telling. Tells telling) t w p q (DelRoute a b) tick n items (Routes edge peer) _ _ _
+    (loads_kept t (DelRoute a b) (Routes edge peer) refl refl items
     ∙ u.0) u.1 (in_routes edge peer (told_by t w (DelRoute a b)))
 routes_go t w p q (Import v on x) tick n items edge peer order full u =
-    comes_after (λ telling. Tells telling) t w p q (Import v on x) tick n items (Routes edge peer) _ _ _ (loads_kept t (Import v on x) (Routes edge peer) refl refl items
+    comes_after (λ telling. Tells telling) t w p q (Import v on x) tick n items (Routes edge peer) _ _ _
+    (loads_kept t (Import v on x) (Routes edge peer) refl refl items
     ∙ u.0) u.1 (in_routes edge peer (told_by t w (Import v on x)))
 routes_go t w p q (Export v on x) tick n items edge peer order full u =
-    comes_after (λ telling. Tells telling) t w p q (Export v on x) tick n items (Routes edge peer) _ _ _ (loads_kept t (Export v on x) (Routes edge peer) refl refl items
+    comes_after (λ telling. Tells telling) t w p q (Export v on x) tick n items (Routes edge peer) _ _ _
+    (loads_kept t (Export v on x) (Routes edge peer) refl refl items
     ∙ u.0) u.1 (in_routes edge peer (told_by t w (Export v on x)))
 routes_go t w p q (Attach a) tick n items edge peer order full u =
-    comes_after (λ telling. Tells telling) t w p q (Attach a) tick n items (Routes edge peer) _ _ _ (loads_kept t (Attach a) (Routes edge peer) refl refl items ∙ u.0) u.1
+    comes_after (λ telling. Tells telling) t w p q (Attach a) tick n items (Routes edge peer) _ _ _ (loads_kept t (Attach a) (Routes edge peer) refl refl items
+    ∙ u.0) u.1
     (in_routes edge peer (told_by t w (Attach a)))
 routes_go t w p q (Detach a) tick n items edge peer order full u =
-    comes_after (λ telling. Tells telling) t w p q (Detach a) tick n items (Routes edge peer) _ _ _ (loads_kept t (Detach a) (Routes edge peer) refl refl items ∙ u.0) u.1
+    comes_after (λ telling. Tells telling) t w p q (Detach a) tick n items (Routes edge peer) _ _ _ (loads_kept t (Detach a) (Routes edge peer) refl refl items
+    ∙ u.0) u.1
     (in_routes edge peer (told_by t w (Detach a)))
 routes_go t w p q s tick n items edge peer order full u =
     quiet t w p q s tick n items (Routes edge peer) refl refl (made_for (Routes edge peer) t w (after t w s) p q s) ∙ u.0

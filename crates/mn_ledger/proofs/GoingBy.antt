@@ -94,7 +94,7 @@ begins t new v k ns l node apart joins differ below at_end each said heard =
           (opening_talk t l node apart joins differ below at_end));
     }
 
--- it hears the other end's next message, and answers
+-- it receives the other end's next message, and answers
 hears : (t : Network) (c : Config) (v : Views) (s k : Sessions) (ns : List Said) (l node other : ℕ) → l < length t.links → across (wiring_of t) l node ≡ other
     → EachNews (λ n. knowledge_of (wiring_of t) c v k n) ns → k.said l node ≡ s.said l node → k.said l other ≡ s.said l other →
     k.heard l node ≡ s.heard l node + 1
@@ -208,7 +208,7 @@ pair_off f k m x l n d = elim d [
   ]
 ]
 
--- one end of a link hears
+-- one end of a link receives
 hear_step : (t : Network) (c : Config) (v : Views) (s : Sessions) (step : Step) (at m other : ℕ) → EndsDiffer (wiring_of t) →
     is_end (wiring_of t) at m ≡ true → across (wiring_of t) at m ≡ other → is_end (wiring_of t) at other ≡ true
     → lives c at ≡ true → s.heard at m < length (s.said at other) → at < length t.links

@@ -98,7 +98,7 @@ messages-none k l node (x ∷ xs) h off =
       | inr p ↦ (pick l node x xs).1 p ∙ messages-none k l node xs h.1 off
     ]
 
--- on a link of the network, OPERATIONAL is by the session's life and by how many messages were heard
+-- on a link of the network, OPERATIONAL is by the session's life and by how many messages were received
 pub operational-is : (w : Wiring) (c : Config) (v : Views) (s : Sessions) (node l : ℕ) → l < length w.ends →
     is_operational (knowledge_of w c v s node) l ≡ ((lives c l && is_end w l node) && nat_le 2 (s.heard l node))
 unfolding knowledge_of
@@ -113,7 +113,7 @@ few_off true k h = elim (leb_tells 2 k) [ inl r ↦ absurd (not_both h r.1) | in
     not_both a b = omega (arith, a, b)
 few_off false k h = refl
 
--- one that has heard too little isn't
+-- one that has received too little isn't
 pub few-off : (w : Wiring) (c : Config) (v : Views) (s : Sessions) (node l : ℕ) → l < length w.ends → s.heard l node < 2 →
     is_operational (knowledge_of w c v s node) l ≡ false
 few-off w c v s node l h few = operational-is w c v s node l h ∙ few_off (lives c l && is_end w l node) (s.heard l node) few

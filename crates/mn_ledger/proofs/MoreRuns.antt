@@ -77,7 +77,7 @@ wider = record two_links {
 
 -- 1. LDP, and where a node can send
 
--- the middle can send no more where LDP is switched off behind it, and the near edge no more once it has heard the Withdraw
+-- the middle can send no more where LDP is switched off behind it, and the near edge no more once it has received the Withdraw
 pub a_withdrawn_label_ends_the_path : ends (LdpAdmin (link_no 1) false ∷ Inject (site_no 0) 1 ∷ HearLdp (link_no 0) Back ∷ Inject (site_no 0) 1
     ∷ Carry (link_no 0) Forth 0 ∷ []) (packet ∷ packet ∷ []) ≡ Dropped rule.NoEntry (node_no 1) ∷ Dropped rule.NoLsp (node_no 0) ∷ []
 unfolding a_run
@@ -108,7 +108,7 @@ pub a_session_opens_anew : ends (LdpAdmin (link_no 0) false ∷ LdpAdmin (link_n
 unfolding a_run
 a_session_opens_anew = refl
 
--- before the Mapping of the far edge is heard anew there is no path
+-- before the Mapping of the far edge is received anew there is no path
 pub each_mapping_is_awaited : ends (LdpAdmin (link_no 0) false ∷ LdpAdmin (link_no 0) true ∷ HearLdp (link_no 0) Back ∷ HearLdp (link_no 0) Forth
     ∷ HearLdp (link_no 0) Forth ∷ HearLdp (link_no 0) Back ∷ HearLdp (link_no 0) Back ∷ HearLdp (link_no 0) Back ∷ Inject (site_no 0) 1 ∷ [])
     (packet ∷ []) ≡ Dropped rule.NoLsp (node_no 0) ∷ []
@@ -132,13 +132,13 @@ neighbours_go_by_number = refl
 
 -- 2. BGP and the routes of VRFs
 
--- the import set as it was when the route was heard decides nothing
+-- the import set as it was when the route was received decides nothing
 pub an_earlier_import_set_decides_nothing : (packets_of two_links (at_start (Import (vrf_no 0) false target)
     ∷ settled_then (Import (vrf_no 0) true target ∷ Inject (site_no 0) 1 ∷ [])) (packet ∷ [])).verdicts ≡ Flying (link_no 0) Forth ∷ []
 unfolding a_run
 an_earlier_import_set_decides_nothing = refl
 
--- the far site is detached: its route is held until the withdrawal is heard
+-- the far site is detached: its route is held until the withdrawal is received
 pub a_route_goes_once_its_withdrawal_is_heard : ends (Detach (site_no 1) ∷ Inject (site_no 0) 1 ∷ HearBgp (node_no 2) (node_no 0) ∷ Inject (site_no 0) 1
     ∷ []) (packet ∷ packet ∷ []) ≡ Flying (link_no 0) Forth ∷ Dropped rule.NoRoute (node_no 0) ∷ []
 unfolding a_run
@@ -174,7 +174,7 @@ pub exports_go_by_address : map (λ export. export.prefix)
 unfolding a_run
 exports_go_by_address = refl
 
--- the lesser edge says OPEN first
+-- the lesser edge sends OPEN first
 pub the_lesser_edge_opens_first : map (λ told. told.teller)
     (told_in two_links (first_config two_links) (start two_links).peerings (world_of two_links (at_start (BgpUp (node_no 0) (node_no 2)) ∷ [])).config
     (start two_links).peerings (BgpUp (node_no 0) (node_no 2))) ≡ 0 ∷ 2 ∷ []
@@ -241,7 +241,7 @@ over attachment = record { vrf = 1; prefix = far_block; site = 1; attachment = a
 pub another_attachment_is_announced : announced (over 1 ∷ []) (over 2 ∷ []) ++ announced (over 1 ∷ []) (over 1 ∷ []) ≡ Announcement (over 2) ∷ []
 another_attachment_is_announced = refl
 
--- with a session ends what was told and heard in it, at both ends
+-- with a session ends what was sent and received in it, at both ends
 pub an_ended_session_forgets : (let peerings = (world_of two_links (settled_then (BgpDown (node_no 0) (node_no 2) ∷ []))).peerings in
     peerings.heard 0 2 ∷ peerings.heard 2 0 ∷ length (peerings.told 0 2) ∷ length (peerings.told 2 0) ∷ []) ≡ 0 ∷ 0 ∷ 0 ∷ 0 ∷ []
 unfolding a_run
@@ -387,13 +387,13 @@ pub steps_are_all : refusal_at two_links (start two_links) no_packets 3999999 (L
 unfolding a_run
 steps_are_all = refl
 
--- all is heard, and then a Release and a Withdraw from the near end wait
+-- all is received, and then a Release and a Withdraw from the near end wait
 pub what_was_heard_is_not_in_flight : in_flight two_links (world_of two_links settling)
     ∷ in_flight two_links (world_of two_links (settled_then (LdpAdmin (link_no 1) false ∷ HearLdp (link_no 0) Back ∷ []))) ∷ [] ≡ 0 ∷ 2 ∷ []
 unfolding a_run
 what_was_heard_is_not_in_flight = refl
 
--- nothing more is there to be learned, heard, carried or lost
+-- nothing more is there to be learned, received, carried or lost
 pub nothing_more_is_there : map (λ step. refusal two_links settling [] step []) (Learn (node_no 1) (link_no 1) ∷ HearLdp (link_no 0) Forth
     ∷ HearLdp (link_no 1) Back ∷ HearBgp (node_no 0) (node_no 2) ∷ HearBgp (node_no 2) (node_no 0) ∷ Carry (link_no 0) Forth 0 ∷ Lose (link_no 1) Back 0
     ∷ []) ≡ Some Empty ∷ Some Empty ∷ Some Empty ∷ Some Empty ∷ Some Empty ∷ Some Empty ∷ Some Empty ∷ []
@@ -425,7 +425,7 @@ triangle = record two_links {
   links = a_link 0 1 10 ∷ a_link 1 2 50 ∷ a_link 0 2 10 ∷ [];
 }
 
--- all links come up, the edges open their session, and every notice and message is heard
+-- all links come up, the edges open their session, and every notice and message is received
 abbrev settling_triangle : List Step
 settling_triangle =
     (LinkUp (link_no 0) ∷ LinkUp (link_no 1) ∷ LinkUp (link_no 2) ∷ []) ++ (all_learn 0 ++ all_learn 1 ++ all_learn 2)
@@ -436,7 +436,7 @@ settling_triangle =
 abbrev runs_round : List Step → List ℕ → Packets
 runs_round steps bytes = packets_of triangle (map at_start (settling_triangle ++ LinkDown (link_no 2) ∷ Learn (node_no 0) (link_no 2) ∷ steps)) (bytes ∷ [])
 
--- the near edge knows that its link is down, and uses what it heard of the middle before; the middle, which does not know, sends back
+-- the near edge knows that its link is down, and uses what it received from the middle before; the middle, which does not know, sends back
 pub a_loop_ends_by_ttl : (runs_round (Inject (site_no 0) 1 ∷ Carry (link_no 0) Forth 0 ∷ Carry (link_no 0) Back 0 ∷ Carry (link_no 0) Forth 0
     ∷ Carry (link_no 0) Back 0 ∷ []) packet_of_ttl_5).verdicts ≡ Dropped rule.TtlExpired (node_no 0) ∷ []
 unfolding a_run

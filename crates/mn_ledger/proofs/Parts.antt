@@ -47,13 +47,14 @@ none_told t c new p _ h = cc
 peerings_kept : (t : Network) (w : World) (s : Step) → is_routing s ≡ false → (after t w s).peerings ≡ w.peerings
 peerings_kept t w s h = none_told t w.config (after t w s).config w.peerings s h
 
--- a step of routes or BGP makes edges tell, and what is so once all is told, and of what was told before, is so after any step
+-- a step of routes or BGP makes edges tell, and what is so once all is told, and of what was sent before, is so after any step
 all_told : (t : Network) (c new : Config) (p : Peerings) (s : Step) → is_routing s ≡ true → peerings_after t c new p s ≡ told_all t c new p s
 unfolding peerings_after
 all_told t c new p (Tick n) h = cc
 all_told t c new p _ h = cc
 
-pub peerings_go : (P : Peerings → Type 0) (t : Network) (c new : Config) (p : Peerings) (s : Step) → P (told_all t c new p s) → P p → P (peerings_after t c new p s)
+pub peerings_go : (P : Peerings → Type 0) (t : Network) (c new : Config) (p : Peerings) (s : Step) → P (told_all t c new p s) → P p →
+    P (peerings_after t c new p s)
 peerings_go P t c new p s told still = elim (two_ways (is_routing s)) [
   | inl is ↦ subst P (sym (all_told t c new p s is)) told
   | inr none ↦ subst P (sym (none_told t c new p s none)) still

@@ -335,13 +335,13 @@ session_step t c p a b on xs ns order each opens ends others h edge peer d =
     split : Which a b edge peer → ((edge ≡ a) × (peer ≡ b)) ⊎ (((edge ≡ b) × (peer ≡ a)) ⊎ (((edge ≢ a) ⊎ (peer ≢ b)) × ((edge ≢ b) ⊎ (peer ≢ a))))
     split w = w
 
--- no session begins or ends, and nobody hears
+-- no session begins or ends, and nobody receives
 config_step : (t : Network) (c new : Config) (p : Peerings) → ((edge peer : ℕ) → peers_live new edge peer ≡ peers_live c edge peer) → PeersAreInTurn c p →
     PeersAreInTurn new (with_told p ([] ++ all_news t c p new p (edges t)))
 config_step t c new p same h edge peer d =
     keeps c new p p [] (all_news t c p new p (edges t)) edge peer (each-edge t c p new p (edges t)) refl refl refl (same edge peer) refl (h edge peer d)
 
--- an edge hears a peer
+-- an edge receives from a peer
 hear_step : (t : Network) (c : Config) (p k : Peerings) (a b : ℕ) → a ≢ b → k ≡ record p { heard = put_pair p.heard b a (p.heard b a + 1) } →
     peers_live c b a ≡ true → p.heard b a < length (p.told a b) → peers_live c a b ≡ true → PeersAreInTurn c p
     → PeersAreInTurn c

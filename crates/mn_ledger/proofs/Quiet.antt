@@ -21,7 +21,7 @@ use Rattle.mn_ledger.specs.Quiet.{known_after, said_by}
 use Rattle.mn_ledger.proofs.Turning.{opener, is_end-a, is_end-b}
 use Rattle.mn_ledger.proofs.GoingBy.{put_here, pair_here}
 
--- 1. News is said by its node
+-- 1. News is sent by its node
 
 no_news_by : (w : Wiring) (before after : ℕ → Knowledge) (node : ℕ) (ns : List ℕ) → before node ≡ after node →
     filter (λ said. said.end == node) (flat_map (λ n. news w (before n) (after n) n) ns) ≡ []
@@ -38,7 +38,7 @@ no_news_by w before after node (n ∷ ns) e =
       | inr p ↦ part_none n node (news w (before n) (after n) n) p.1 (by-news w (before n) (after n) n)
     ]
 
--- 2. Replies are said by who learns something
+-- 2. Replies are sent by who learns something
 
 pub hearing-is : (w : Wiring) (c : Config) (v : Views) (s : Sessions) (node l : ℕ) → l < length w.ends →
     hearing (knowledge_of w c v s node) l ≡ hearing_at w c s node l
@@ -72,7 +72,7 @@ no_opening t c new v nv s k l node h dead e = by_life (lives new l) refl
               ∙ ap (λ x. x.alive) (hearing-is (wiring_of t) c v s node l h) ∙ and_off_left (lives c l) (is_end (wiring_of t) l node) dead))
         ])
 
--- who hears a message has heard one more
+-- who receives a message has received one more
 no_answer : (t : Network) (c new : Config) (v nv : Views) (s k : Sessions) (l m other node : ℕ) → l < length t.links → k.heard l m ≡ s.heard l m + 1
     → knowledge_of (wiring_of t) c v s node ≡ knowledge_of (wiring_of t) new nv k node → filter (λ said. said.end == node) (answered t s l m other) ≡ []
 no_answer t c new v nv s k l m other node h more e = elim (eqb_tells m node) [

@@ -86,7 +86,7 @@ once-neighbours w n l a (suc k) =
 length-said : (l n : ℕ) (xs ys : List Said) → length (messages_of l n (xs ++ ys)) ≡ length (messages_of l n xs) + length (messages_of l n ys)
 length-said l n xs ys = ap length (messages-append l n xs ys) ∙ length-append (messages_of l n xs) (messages_of l n ys)
 
--- no more on one link than is said in all
+-- no more on one link than is sent in all
 some-said : (l n : ℕ) (xs : List Said) → length (messages_of l n xs) ≤ length xs
 some-said l n [] = omega arith
 some-said l n (x ∷ xs) = either (is_by l n x) (some-said l n xs)
@@ -288,7 +288,7 @@ cleared s at l n = elim (eqb_tells l at) [
   | inr p ↦ subst (λ (f : ℕ → List Message). length (f n) ≤ length (s.said l n)) (sym (put_off s.said at (λ m. []) l p.1)) (omega arith)
 ]
 
--- a life that begins or ends has said nothing
+-- a life that begins or ends has sent nothing
 not-more : (t : Network) (s : Sessions) (done : Step) (l n : ℕ) → length ((ldp_counted t s done).said l n) ≤ length (s.said l n)
 not-more t s (step.LinkUp k) l n = cleared s k.0 l n
 not-more t s (step.LinkDown k) l n = cleared s k.0 l n

@@ -1,4 +1,4 @@
--- What the two ends of a living LDP session have said goes by the table, so no message comes out of turn.
+-- What the two ends of a living LDP session have sent goes by the table, so no message comes out of turn.
 use Rattle.std.proofs.Common.{ℕ, zero, suc, ◌≡◌, ◌<◌, Bool, true, false, List, [], ◌∷◌, ◌++◌, length, get_or, refl, arith, sym, ◌∙◌, ap, subst, append-nil}
 use Rattle.mn_base.proofs.Bools.{none_below}
 use Rattle.mn_base.proofs.Places.{all_at, all_append}
@@ -30,7 +30,7 @@ two-nth zero h = refl
 two-nth (suc zero) h = refl
 two-nth (suc (suc k)) h = absurd (none_below k (omega (arith, h)))
 
--- whatever an end has said, each message stands in its turn
+-- whatever an end has sent, each message stands in its turn
 pub talk-nth : (a : Bool) (j : ℕ) (xs : List Message) (k : ℕ) → IsTalk a j xs → k < length xs → IsNth k (get_or xs k Address)
 talk-nth true zero xs k t h = subst (λ ys. IsNth k (get_or ys k Address)) (sym t) (one-nth k (subst (λ ys. k < length ys) t h))
 talk-nth false zero xs k t h = absurd (none_below k (subst (λ ys. k < length ys) t h))
@@ -59,7 +59,7 @@ answer-mentions n (Mapping p) e = tt
 answer-mentions n (Withdraw p) e = (tt, tt)
 answer-mentions n (Release p) e = tt
 
--- the end hears the next message, answers, and says these mentions
+-- the end receives the next message, answers, and says these mentions
 pub talk-heard : (a : Bool) (k : ℕ) (xs : List Message) (x : Message) (ms : List Message) → IsTalk a k xs → IsNth k x →
     (k ≡ 0 → ms ≡ []) → AreLabelMessages ms → IsTalk a (suc k) (xs ++ (answer (state_by a k) x ++ ms))
 talk-heard true zero xs x ms t e q m = rw (t, e, q refl) refl
@@ -72,7 +72,7 @@ talk-heard a (suc (suc n)) xs x ms t e q m = (
       (all_append IsLabelMessage (answer Operational x) ms (answer-mentions n x e) m),
 )
 
--- an end that hears nothing says only mentions, and those only where it is OPERATIONAL
+-- an end that receives nothing says only mentions, and those only where it is OPERATIONAL
 pub talk-said : (a : Bool) (k : ℕ) (xs ms : List Message) → IsTalk a k xs → (k < 2 → ms ≡ []) → AreLabelMessages ms → IsTalk a k (xs ++ ms)
 talk-said true zero xs ms t q m = rw (q (omega arith)) (append-nil xs ∙ t)
 talk-said false zero xs ms t q m = rw (q (omega arith)) (append-nil xs ∙ t)

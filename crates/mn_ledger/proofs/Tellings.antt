@@ -127,7 +127,8 @@ module _ (G : ℕ → Telling → Type 0) (opens : (edge : ℕ) → G edge Open)
             (λ e k. h e (in_filter (λ export. not (list_any (same_export export) before)) now e k).0) m j
       ]
 
-  news_are : (c : Config) (p : Peerings) (new : Config) (k : Peerings) (edge : ℕ) → Withdraws c edge → Announces new edge → AreTold (route_news t c p new k edge)
+  news_are : (c : Config) (p : Peerings) (new : Config) (k : Peerings) (edge : ℕ) → Withdraws c edge → Announces new edge →
+      AreTold (route_news t c p new k edge)
   news_are c p new k edge g h x i =
       let f = in_flat_map (λ telling. map (λ peer. record { teller = edge; peer = peer; telling = telling }) (steady_peers t c p new k edge))
       (changed (exports_of t c edge) (exports_of t new edge)) x i in
@@ -170,7 +171,7 @@ in_cleared f a b edge peer m i = elim (eqb_tells edge a) [
   ]
 ]
 
--- what is so of all that was told is so of what a session that begins anew leaves of it
+-- what is so of all that was sent is so of what a session that begins anew leaves of it
 pub still_told : (P : ℕ → ℕ → Telling → Type 0) (p : Peerings) (s : Step) → ((edge peer : ℕ) (m : Telling) → In (p.told edge peer) m → P edge peer m)
     → (edge peer : ℕ) (m : Telling) → In ((bgp_counted p s).told edge peer) m → P edge peer m
 still_told P p (step.BgpUp a b) h edge peer m i =

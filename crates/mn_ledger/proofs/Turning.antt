@@ -69,7 +69,7 @@ loopbacks_apart t lawful m n h g d same =
     less : (a b : ℕ) → a ≤ b → a ≢ b → a < b
     less a b p q = grind (arith, p, q)
 
--- 3. What is said on a link by one end
+-- 3. What is sent on a link by one end
 
 pub said-own : (l node : ℕ) (ms : List Message) → messages_of l node (said_on l node ms) ≡ ms
 said-own l node [] = refl
@@ -94,7 +94,7 @@ said-other l node k other (m ∷ ms) d =
     off : (k ≢ l) ⊎ (other ≢ node) → ((k == l) && (other == node)) ≡ false
     off d = elim d [ inl p ↦ ap (λ b. b && (other == node)) (other_test k l p) | inr p ↦ ap (λ b. (k == l) && b) (other_test other node p) ∙ and_off (k == l) ]
 
--- as a life begins, the active end has said Initialization and the other nothing
+-- as a life begins, the active end has sent Initialization and the other nothing
 pub lt_tells : (a b : ℕ) → ((nat_lt a b ≡ true) × (a < b)) ⊎ ((nat_lt a b ≡ false) × (b ≤ a))
 lt_tells a b = elim (leb_tells (suc a) b) [ inl p ↦ inl (p.0, p.1) | inr p ↦ inr (p.0, at_most p.1) ]
   where

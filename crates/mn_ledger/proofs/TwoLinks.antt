@@ -87,12 +87,12 @@ at_start step = record { tick = 0; step = step; damaged = Undamaged }
 abbrev pub all_learn : ℕ → List Step
 all_learn l = Learn (node_no 0) (link_no l) ∷ Learn (node_no 1) (link_no l) ∷ Learn (node_no 2) (link_no l) ∷ []
 
--- so many messages are heard on the link, one after another
+-- so many messages are received on the link, one after another
 abbrev pub heard_on : ℕ → Dir → ℕ → List Step
 heard_on l dir zero = []
 heard_on l dir (suc count) = HearLdp (link_no l) dir ∷ heard_on l dir count
 
--- the far edge hears the near one, and the near edge the far one
+-- the far edge receives from the near one, and the near edge from the far one
 abbrev pub to_far : Step
 to_far = HearBgp (node_no 0) (node_no 2)
 
@@ -103,7 +103,7 @@ to_near = HearBgp (node_no 2) (node_no 0)
 abbrev pub beginning : List Step
 beginning = LinkUp (link_no 0) ∷ LinkUp (link_no 1) ∷ BgpUp (node_no 0) (node_no 2) ∷ []
 
--- every notice is learned, and every message heard
+-- every notice is learned, and every message received
 abbrev pub all_are_told : List Step
 all_are_told =
     (all_learn 0 ++ all_learn 1) ++ (to_far ∷ to_near ∷ to_near ∷ to_far ∷ to_far ∷ to_near ∷ [])
@@ -229,7 +229,7 @@ pub a_frame_is_carried_once : refusal two_links across_both (packet ∷ []) (Car
 unfolding a_run
 a_frame_is_carried_once = refl
 
--- nothing is heard over a link that is down
+-- nothing is received over a link that is down
 pub nothing_is_heard_after_the_cut : refusal two_links links_go_down (packet ∷ packet ∷ packet ∷ []) (HearLdp (link_no 0) Back) [] ≡ Some Empty
 unfolding a_run
 nothing_is_heard_after_the_cut = refl
@@ -239,7 +239,7 @@ pub another_packet_may_enter : refusal two_links across_both (packet ∷ []) (In
 unfolding a_run
 another_packet_may_enter = refl
 
--- once all is heard nothing is in flight, and 36 notices and messages were made: 6 notices, 24 of LDP and 6 of BGP
+-- once all is received nothing is in flight, and 36 notices and messages were made: 6 notices, 24 of LDP and 6 of BGP
 pub all_is_heard : flight_of two_links settling [] ≡ record { made = 36; items = [] }
 unfolding a_run
 all_is_heard = refl
@@ -316,7 +316,7 @@ the_topology_is_lawful = record {
   joins_once = once;
 }
 
--- 2. Once all is heard the world is settled
+-- 2. Once all is received the world is settled
 
 abbrev pub settled_world : World
 settled_world = world_of two_links settling

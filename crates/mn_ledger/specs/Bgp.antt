@@ -1,4 +1,4 @@
--- What edges tell each other: the sessions of BGP, their messages, and the lives of sessions. RFC 4271, sections 4 and 8.2.2,
+-- What edges send each other: the sessions of BGP, their messages, and the lives of sessions. RFC 4271, sections 4 and 8.2.2,
 -- and RFC 4364, section 4.3.
 use Rattle.std.specs.Prelude.{ℕ, zero, suc, ◌+◌, ◌==◌, ◌&&◌, Bool, true, false, not, nat_lt, nat_le, if◌then◌else◌, List, [], ◌∷◌, ◌++◌, map}
 use Rattle.std.specs.Prelude.{filter, slice_index_or}
@@ -19,7 +19,7 @@ use Rattle.mn_ledger.specs.Exports.{same_targets, exports_of}
 abbrev pub peers_live : Config → ℕ → ℕ → Bool
 peers_live config one other = if nat_lt one other then config.bgp_on one other else config.bgp_on other one
 
--- an end goes by how many of the peer's messages it has heard
+-- an end goes by how many of the peer's messages it has received
 abbrev pub state_heard : ℕ → BgpState
 state_heard zero = OpenSent
 state_heard (suc zero) = OpenConfirm
@@ -31,7 +31,7 @@ bgp_state_of config peerings edge peer = if peers_live config edge peer then sta
 abbrev pub is_established : Config → Peerings → ℕ → ℕ → Bool
 is_established config peerings edge peer = peers_live config edge peer && nat_le 2 (peerings.heard edge peer)
 
--- one message that an edge tells a peer
+-- one message that an edge sends a peer
 pub record Told : Type 0 where
   pub teller : ℕ
   pub peer : ℕ
@@ -86,14 +86,14 @@ abbrev pub steady_peers : Network → Config → Peerings → Config → Peering
 steady_peers topology config peerings new_config new_peerings edge =
     filter (λ peer. is_established config peerings edge peer && is_established new_config new_peerings edge peer) (nodes_of (wiring_of topology))
 
--- what an edge tells of the change of its exports: export by export, and each to peer after peer
+-- what an edge advertises of the change of its exports: export by export, and each to peer after peer
 abbrev pub route_news : Network → Config → Peerings → Config → Peerings → ℕ → List Told
 route_news topology config peerings new_config new_peerings edge =
     flat_map (λ telling. map (λ peer. record { teller = edge; peer = peer; telling = telling })
     (steady_peers topology config peerings new_config new_peerings edge))
     (changed (exports_of topology config edge) (exports_of topology new_config edge))
 
--- all that is told in a step, in the order of telling
+-- all that is sent in a step, in the order of sending
 abbrev pub told_in : Network → Config → Peerings → Config → Peerings → Step → List Told
 told_in topology config peerings new_config new_peerings done =
     bgp_replies topology new_config peerings done ++ flat_map (route_news topology config peerings new_config new_peerings) (edges topology)
@@ -102,14 +102,14 @@ told_in topology config peerings new_config new_peerings done =
 abbrev pub bgp_restarted : Peerings → ℕ → ℕ → Peerings
 bgp_restarted peerings a b = record { told = put_pair (put_pair peerings.told a b []) b a []; heard = put_pair (put_pair peerings.heard a b 0) b a 0 }
 
--- lives and counts, before anything is told
+-- lives and counts, before anything is sent
 abbrev pub bgp_counted : Peerings → Step → Peerings
 bgp_counted peerings (step.BgpUp a b) = bgp_restarted peerings a.0 b.0
 bgp_counted peerings (step.BgpDown a b) = bgp_restarted peerings a.0 b.0
 bgp_counted peerings (step.HearBgp a b) = record peerings { heard = put_pair peerings.heard b.0 a.0 (peerings.heard b.0 a.0 + 1) }
 bgp_counted peerings _ = peerings
 
--- the sessions once all these are told
+-- the sessions once all these are sent
 abbrev pub with_told : Peerings → List Told → Peerings
 with_told peerings tolds = record peerings { told = λ teller peer. peerings.told teller peer ++ tellings_of teller peer tolds }
 

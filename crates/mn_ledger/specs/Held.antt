@@ -60,7 +60,7 @@ abbrev pub believed_from : List Export → List Telling → List Export
 believed_from exports [] = exports
 believed_from exports (telling ∷ tellings) = believed_from (believed_after exports telling) tellings
 
--- what an edge has heard of a peer in the session's present life
+-- what an edge has received from a peer in the session's present life
 abbrev pub heard_of : Peerings → ℕ → ℕ → List Telling
 heard_of peerings edge peer = take (peerings.heard edge peer) (peerings.told peer edge)
 

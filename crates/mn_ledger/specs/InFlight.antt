@@ -1,4 +1,4 @@
--- What flies: of what was made for each channel, what wasn't learned, heard or carried yet.
+-- What flies: of what was made for each channel, what wasn't learned, received or carried yet.
 use Rattle.std.specs.Prelude.{◌≡◌, ◌≢◌, ◌<◌, ◌+◌, ℕ, Bool, true, false, List, ◌++◌, map, drop, length, slice_get, Some}
 use Rattle.std.specs.List.{Contains}
 use Rattle.mn_topo.specs.Wiring.{is_end, across}
@@ -23,7 +23,7 @@ AreNumbered items = (place : ℕ) (item : Item) → slice_get items place ≡ So
 
 -- what flies among the items that were made, each with its number and due tick: in each channel but those of frames it is the
 -- last that was made for it; a notice for each change that the node hasn't learned, the messages that the other end hasn't
--- heard, and the packets that fly on the link
+-- received, and the packets that fly on the link
 pub record IsInFlight (topology : Network) (world : World) (packets : Packets) (made : List Item) (flight : Flight) : Type 0 where
   pub counted : flight.made ≡ length made
   pub numbers : AreNumbered made

@@ -140,7 +140,7 @@ abbrev pub is_between : ℕ → ℕ → Channel → Bool
 is_between a b (Routes edge peer) = ((a == edge) && (b == peer)) || ((b == edge) && (a == peer))
 is_between a b _ = false
 
--- what is heard, learned, carried or lost leaves; with a session its messages, and with a link its frames too
+-- what is received, learned, carried or lost leaves; with a session its messages, and with a link its frames too
 abbrev pub left_in_flight : Network → Step → List Item → List Item
 left_in_flight topology (Learn node l) items = without (Notices l.0 node.0) 0 items
 left_in_flight topology (HearLdp l dir) items = without (Messages l.0 (sender (wiring_of topology) l.0 dir)) 0 items

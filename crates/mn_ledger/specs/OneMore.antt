@@ -45,5 +45,6 @@ pub record GoesOnByOneStep (topology : Network) (entries : List JournalEntry) (i
       ≡ with_made topology entry.tick (made_then topology (world_of topology entries) (packets_of topology entries inputs) entry bytes) entry.step
       (in_time topology entry (flight_of topology entries inputs))
   pub lawful : IsLawfulJournal topology (entries ++ entry ∷ []) (with_packet entry.step bytes inputs)
-      ↔ (IsLawfulJournal topology entries inputs × (fits topology entry.step ≡ true) × GoesForward topology (tick_from 0 entries) (packets_of topology entries inputs) entry.tick
+      ↔ (IsLawfulJournal topology entries inputs × (fits topology entry.step ≡ true) × GoesForward topology (tick_from 0 entries)
+      (packets_of topology entries inputs) entry.tick
       × (refusal topology entries inputs entry.step bytes ≡ None))

@@ -10,12 +10,12 @@ use Rattle.mn_ledger.specs.Ledger.{config_after}
 abbrev pub known_before : Network → World → ℕ → Knowledge
 known_before = known
 
--- and what it knows once the step has set its switches, views and counts, and nobody has said anything
+-- and what it knows once the step has set its switches, views and counts, and nobody has sent anything
 abbrev pub known_after : Network → World → Step → ℕ → Knowledge
 known_after topology world step node =
     knowledge_of (wiring_of topology) (config_after world.config step) (views_after world.views step) (ldp_counted topology world.sessions step) node
 
--- what is said in the step, by this node
+-- what is sent in the step, by this node
 abbrev pub said_by : Network → World → Step → ℕ → List Said
 said_by topology world step node =
     filter (λ said. said.end == node)

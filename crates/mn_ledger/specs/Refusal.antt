@@ -41,7 +41,7 @@ is_unchanged config (Attach s) = is_some (config.attached s.0)
 is_unchanged config (Detach s) = is_none (config.attached s.0)
 is_unchanged config _ = false
 
--- nothing is there to be learned, heard, carried or lost
+-- nothing is there to be learned, received, carried or lost
 abbrev pub is_empty : Network → World → Packets → Step → Bool
 is_empty topology world packets (Learn node l) = nat_le (world.views.changes l.0) (world.views.learned node.0 l.0)
 is_empty topology world packets (HearLdp l dir) =
@@ -82,7 +82,7 @@ abbrev pub is_spent : Network → Config → Step → Bool
 is_spent topology config (Attach s) = nat_le most_labels (labels_given topology config (home_of topology s.0))
 is_spent topology config _ = false
 
--- what is in flight: the notices that aren't learned, and the messages that aren't heard
+-- what is in flight: the notices that aren't learned, and the messages that aren't received
 abbrev pub notices_unlearned : Network → Views → ℕ
 notices_unlearned topology views =
     sum (flat_map (λ node. map (λ l. views.changes l - views.learned node l) (links_of (wiring_of topology))) (nodes_of (wiring_of topology)))

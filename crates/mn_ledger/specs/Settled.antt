@@ -13,8 +13,8 @@ use Rattle.mn_ledger.specs.Transport.{lives, view_of}
 use Rattle.mn_ledger.specs.Bgp.{peers_live}
 use Rattle.mn_ledger.specs.Ledger.{world_of}
 
--- every change is learned; LDP is switched on for each link that is up; all that was said and told in a session that lives
--- is heard; and each pair of edges has a session
+-- every change is learned; LDP is switched on for each link that is up; all that was sent by LDP and by BGP in a session that lives
+-- is received; and each pair of edges has a session
 pub record IsSettled (topology : Network) (world : World) : Type 0 where
   pub learned : (node l : ℕ) → node < length topology.loopbacks → l < length topology.links → world.views.learned node l ≡ world.views.changes l
   pub switched : (l : ℕ) → l < length topology.links → world.config.is_up l ≡ true → world.config.ldp_on l ≡ true

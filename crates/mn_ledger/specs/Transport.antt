@@ -42,7 +42,7 @@ is_active topology l node = speaks_first (wiring_of topology) l node
 abbrev pub ldp_state_of : Network → Sessions → ℕ → ℕ → LdpState
 ldp_state_of topology sessions l node = state_by (is_active topology l node) (sessions.heard l node)
 
--- what an end has heard of the other
+-- what an end has received from the other
 abbrev pub heard_by : Wiring → Sessions → ℕ → ℕ → List Message
 heard_by wiring sessions l node = take (sessions.heard l node) (sessions.said l (across wiring l node))
 
@@ -64,9 +64,9 @@ known topology world node = knowledge_of (wiring_of topology) world.config world
 abbrev pub usable : Network → Config → Views → Sessions → ℕ → ℕ → Option (ℕ × ℕ)
 usable topology config views sessions node fec = usable_by (wiring_of topology) (knowledge_of (wiring_of topology) config views sessions node) node fec
 
--- 4. What is said
+-- 4. What is sent
 
--- the active end says Initialization as a life begins
+-- the active end sends Initialization as a life begins
 abbrev pub opening : Network → Config → ℕ → List Said
 opening topology config l =
     let ends = link (wiring_of topology) l in
@@ -75,7 +75,7 @@ opening topology config l =
       | false ↦ []
     ]
 
--- the end hears the other's next message, and answers it
+-- the end receives the other's next message, and answers it
 abbrev pub answered : Network → Sessions → ℕ → ℕ → ℕ → List Said
 answered topology sessions l node other =
     said_on l node (answer (ldp_state_of topology sessions l node) (slice_index_or (sessions.said l other) (sessions.heard l node) Address))
@@ -98,7 +98,7 @@ speakers wiring (LinkDown l) = ends_first wiring l.0
 speakers wiring (LdpAdmin l on) = ends_first wiring l.0
 speakers wiring _ = nodes_of wiring
 
--- all that is said in a step, in the order of saying
+-- all that is sent in a step, in the order of sending
 abbrev pub said_in : Network → Config → Views → Sessions → Config → Views → Sessions → Step → List Said
 said_in topology config views sessions new_config new_views new_sessions step =
     let wiring = wiring_of topology in
@@ -108,11 +108,11 @@ said_in topology config views sessions new_config new_views new_sessions step =
 
 -- 5. The sessions after a step
 
--- a life of the link's session ends, or begins: nothing is said or heard in it
+-- a life of the link's session ends, or begins: nothing is sent or received in it
 abbrev pub ldp_restarted : Sessions → ℕ → Sessions
 ldp_restarted sessions l = record { said = put sessions.said l (λ node. []); heard = put sessions.heard l (λ node. 0) }
 
--- lives and counts, before anything is said
+-- lives and counts, before anything is sent
 abbrev pub ldp_counted : Network → Sessions → Step → Sessions
 ldp_counted topology sessions (LinkUp l) = ldp_restarted sessions l.0
 ldp_counted topology sessions (LinkDown l) = ldp_restarted sessions l.0
@@ -121,7 +121,7 @@ ldp_counted topology sessions (HearLdp l dir) = let node = receiver (wiring_of t
     record sessions { heard = put_pair sessions.heard l.0 node (sessions.heard l.0 node + 1) }
 ldp_counted topology sessions _ = sessions
 
--- the sessions once all these are said
+-- the sessions once all these are sent
 abbrev pub with_said : Sessions → List Said → Sessions
 with_said sessions sayings = record sessions { said = λ l node. sessions.said l node ++ messages_of l node sayings }
 

@@ -1,6 +1,6 @@
--- Messages in turn: what the two ends of a living session have said goes by the state tables, so that no end ever hears a
+-- Messages in turn: what the two ends of a living session have sent goes by the state tables, so that no end ever receives a
 -- message for which its table has no row. RFC 5036, section 2.5.4; RFC 4271, section 8.2.2. In the RFCs such a message ends a
--- session of BGP, and one of LDP before OPERATIONAL; here none ever comes, since what is said goes by the tables and no channel
+-- session of BGP, and one of LDP before OPERATIONAL; here none ever comes, since what is sent goes by the tables and no channel
 -- loses or changes it: so no step ends a session for it.
 use Rattle.std.specs.Prelude.{◌≡◌, ◌≤◌, ◌<◌, ◌≢◌, ℕ, zero, suc, Bool, true, false, List, [], ◌∷◌, length, slice_index_or, ⊤}
 use Rattle.std.specs.List.{AllByRecursion}
@@ -26,7 +26,7 @@ has_bgp_row bgp.Established Open = false
 has_bgp_row bgp.Established telling = true
 has_bgp_row _ _ = false
 
--- 2. What an end has said that has heard so many messages
+-- 2. What an end has sent that has received so many messages
 
 -- a message on labels: a Mapping, a Withdraw or a Release
 abbrev pub IsLabelMessage : Message → Type 0
@@ -62,7 +62,7 @@ IsPeerTalk (suc (suc more)) told = (rest : List Telling) × (told ≡ Open ∷ B
 
 -- 3. What holds after every lawful journal
 
--- an end of a link has heard no more than the other said; without a life nothing was said or heard; and what was said goes by
+-- an end of a link has received no more than the other sent; without a life nothing was sent or received; and what was sent goes by
 -- the table
 pub record IsEndInTurn (topology : Network) (config : Config) (sessions : Sessions) (l node : ℕ) : Type 0 where
   pub heard : sessions.heard l node ≤ length (sessions.said l (across (wiring_of topology) l node))
@@ -88,7 +88,7 @@ pub record IsInTurn (topology : Network) (world : World) : Type 0 where
   pub ldp : EndsAreInTurn topology world.config world.sessions
   pub bgp : PeersAreInTurn world.config world.peerings
 
--- the next message that an end hears has a row in the table of its state
+-- the next message that an end receives has a row in the table of its state
 pub record HasRows (topology : Network) (world : World) : Type 0 where
   pub ldp : (l node : ℕ) → l < length topology.links → is_end (wiring_of topology) l node ≡ true → lives world.config l ≡ true →
       world.sessions.heard l node < length (world.sessions.said l (across (wiring_of topology) l node))

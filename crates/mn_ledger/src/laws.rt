@@ -28,14 +28,14 @@ pub fn last_steps_decide()
     ensures { (topology : Network) (entries : List JournalEntry) → IsByLastSteps topology entries }
 {}
 
-/// After a lawful journal nobody has heard more than was said or told, nor learned more than was changed; a session
-/// without a life has said nothing; and what each end says goes by the state tables of LDP and BGP.
+/// After a lawful journal nobody has received more than was sent, nor learned more than was changed; a session
+/// without a life has sent nothing; and what each end says goes by the state tables of LDP and BGP.
 pub fn sessions_are_in_turn()
     ensures { (topology : Network) (entries : List JournalEntry) (inputs : List (List ℕ)) →
         IsLawful topology → IsLawfulJournal topology entries inputs → IsInTurn topology (world_of topology entries) }
 {}
 
-/// Where sessions are in turn, the table of an end's state has a row for the message that it hears next.
+/// Where sessions are in turn, the table of an end's state has a row for the message that it receives next.
 pub fn every_message_has_a_row()
     ensures { (topology : Network) (world : World) → IsLawful topology → IsInTurn topology world → HasRows topology world }
 {}
@@ -56,7 +56,7 @@ pub fn the_next_hop_is_nearer()
 {}
 
 /// After a lawful journal each channel of notices or messages holds the last that was made for it, with its number and due
-/// tick: what wasn't learned or heard yet. A link holds a frame for each packet that flies on it.
+/// tick: what wasn't learned or received yet. A link holds a frame for each packet that flies on it.
 pub fn what_flies_has_not_arrived()
     ensures { (topology : Network) (entries : List JournalEntry) (inputs : List (List ℕ)) →
         IsLawful topology → IsLawfulJournal topology entries inputs →
@@ -106,7 +106,7 @@ pub fn journals_are_bounded()
         IsLawful topology → IsLawfulJournal topology entries inputs → IsBounded topology entries }
 {}
 
-/// The ledger refuses no step for want of memory.
+/// The ledger refuses no step because memory ran out.
 pub fn memory_refuses_nothing()
     ensures { (topology : Network) (world : World) (packets : Packets) (count : ℕ) (step : Step) (bytes : List ℕ) →
         refusal_at topology world packets count step bytes ≢ Some NoMemory }

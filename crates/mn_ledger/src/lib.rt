@@ -1,14 +1,14 @@
 //! The ledger: what becomes of every packet, by definitions over routes, packets and steps alone.
 //!
 //! The program's answers are compared with it. From a topology, a journal of steps and the packets' bytes alone it says
-//! what every session has said and heard, which routes each VRF holds, and where every packet is. It knows no label, no
-//! byte of a message, no tree and no table of prefixes. What one node says that has heard so much is `mn_node`'s.
+//! what every session has sent and received, which routes each VRF holds, and where every packet is. It knows no label, no
+//! byte of a message, no tree and no table of prefixes. What one node says that has received so much is `mn_node`'s.
 //!
 //! ```text
 //!             Config    what is switched on, the targets, statics and attachments   (a step sets them)
 //!  step --->  Views     how many changes of each link each node has learned
-//!             Sessions  LDP: what each end has said and heard          (RFC 5036)
-//!             Peerings  BGP: what each edge has told and heard         (RFC 4271, RFC 4364)
+//!             Sessions  LDP: what each end has sent and received       (RFC 5036)
+//!             Peerings  BGP: what each edge has sent and received      (RFC 4271, RFC 4364)
 //!             Packets   verdicts, paths and what flies                 (RFC 3031, RFC 4364, section 5)
 //! ```
 //!

@@ -5,7 +5,7 @@ use mn_base::SiteNo;
 pub enum Refused {
     /// The link, LDP switch, BGP session, target or attachment is already so.
     Unchanged,
-    /// Nothing is there to be learned, heard, carried or lost.
+    /// Nothing is there to be learned, received, carried or lost.
     Empty,
     /// The damaged message can be read; the ledger says so of no step.
     StillReads,

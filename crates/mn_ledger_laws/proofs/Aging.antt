@@ -45,7 +45,8 @@ due_at : (t : Network) (k : Packets) (tick l : ℕ) (d : Dir) (token : Token) �
     In (flying_on k l d) token → tick ≤ token.sent + (link (wiring_of t) l).delay
 due_at t k tick l d token all below i =
     let on : list_all (λ token. nat_le tick (token.sent + (link (wiring_of t) l).delay)) (flying_on k l Forth ++ flying_on k l Back) ≡ true =
-    all_at (λ l. list_all (λ token. nat_le tick (token.sent + (link (wiring_of t) l).delay)) (flying_on k l Forth ++ flying_on k l Back)) (links_of (wiring_of t)) l all
+    all_at (λ l. list_all (λ token. nat_le tick (token.sent + (link (wiring_of t) l).delay)) (flying_on k l Forth ++ flying_on k l Back))
+    (links_of (wiring_of t)) l all
     (range_in 0 (length t.links) l (omega arith) (omega (arith, below))) in
     at_most_tells tick (token.sent + (link (wiring_of t) l).delay)
     (all_at (λ token. nat_le tick (token.sent + (link (wiring_of t) l).delay)) (flying_on k l Forth ++ flying_on k l Back) token on (both d i))
@@ -129,7 +130,8 @@ grown_young t v n k u grown young l d token below i = elim (grown.1 (channel l d
 
 pub lasting_of : (t : Network) → IsLawful t → AreLasting t
 lasting_of t lawful l below =
-    not_less_tells (link (wiring_of t) l).life (link (wiring_of t) l).delay (on_not _ (and_right _ _ (and_right _ _ (passes_at has_figures t.links l _ lawful.links.figures below))))
+    not_less_tells (link (wiring_of t) l).life (link (wiring_of t) l).delay
+    (on_not _ (and_right _ _ (and_right _ _ (passes_at has_figures t.links l _ lawful.links.figures below))))
 
 -- an entry leaves the clock at its tick, and after a Tick at the one to which time went on
 pub clock_then : (t : Network) (w : World) (k : Packets) (e : JournalEntry) (bytes : List ℕ) → (packets_by t (after t w e.step) k e bytes).clock ≡ clock_after e

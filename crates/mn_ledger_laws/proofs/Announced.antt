@@ -340,7 +340,8 @@ tellings_go : (t : Network) (w : World) (s : Step) → ExportsNamed t w.config �
     → TellingsNamed t w.config w.peerings → TellingsNamed t (after t w s).config (after t w s).peerings
 tellings_go t w s h g n =
     let new : Config = config_after w.config s in
-    peerings_go (TellingsNamed t new) t w.config new w.peerings s (told_go_on t w.config w.peerings s h g n) (λ edge peer m i. later_named t w.config s edge m (n edge peer m i))
+    peerings_go (TellingsNamed t new) t w.config new w.peerings s (told_go_on t w.config w.peerings s h g n)
+    (λ edge peer m i. later_named t w.config s edge m (n edge peer m i))
 
 -- 5. After every step of a lawful journal
 

@@ -44,7 +44,7 @@ use Rattle.mn_ledger.specs.Ledger.{packets_by}
 use Rattle.mn_ledger.specs.Time.{clock_after, timed}
 use Rattle.mn_topo.specs.declared.steps.Step.TheVariants.{Tick}
 
--- 1. What is said is said on a link, by one of its ends
+-- 1. What is sent is sent on a link, by one of its ends
 
 abbrev AllSaid : Network → List Said → Type 0
 AllSaid t xs = (x : Said) → In xs x → IsOfChannel t (Messages x.link x.end) (Says x.message)

@@ -28,7 +28,8 @@ use Rattle.mn_ledger_laws.proofs.Channels.{channels_are, none_to_itself}
 use Rattle.mn_ledger_laws.proofs.Opening.{some_item, delivered_open, lost_open}
 use Rattle.mn_ledger_laws.proofs.Ordered.{numbers_ascend, flies_in_order}
 use Rattle.mn_ledger_laws.proofs.Sums.{total, sum-append, sum-map, sum-flat, total-same}
-use Rattle.mn_ledger_laws.proofs.Tallies.{weigh, by_notices, by_messages, by_routes, AllOn, others_weighed, frames_weighed, as_many_on, loads_weigh, filter_counts}
+use Rattle.mn_ledger_laws.proofs.Tallies.{weigh, by_notices, by_messages, by_routes, AllOn, others_weighed, frames_weighed, as_many_on, loads_weigh}
+use Rattle.mn_ledger_laws.proofs.Tallies.{filter_counts}
 use Rattle.mn_ledger_laws.proofs.Tallies.{lengths_of_frames}
 use Rattle.mn_ledger_laws.proofs.Due.{due_as_sent}
 

@@ -17,12 +17,14 @@ use Rattle.mn_ledger.specs.Entry.{first_rule}
 use Rattle.mn_ledger.specs.Tables.{put}
 use Rattle.mn_ledger.specs.Places.{home_of, vrf_of}
 use Rattle.mn_ledger.specs.World.{World}
-use Rattle.mn_ledger.specs.Packets.{Token, Packets, channel, flying_on, away_from, judged, hop_over, stamped, bound, entry_rules, enter_by, one_more, taken, visited}
+use Rattle.mn_ledger.specs.Packets.{Token, Packets, channel, flying_on, away_from, judged, hop_over, stamped, bound, entry_rules, enter_by, one_more, taken}
+use Rattle.mn_ledger.specs.Packets.{visited}
 use Rattle.mn_ledger.specs.Packets.{carry, before_step, packets_after, deliver}
 use Rattle.mn_ledger.specs.Ledger.{after, start, no_packets, injects, next_of, left_by, packets_by, packets_of}
 use Rattle.mn_ledger.specs.Time.{clock_after, timed, ticks_in, timed_by}
 use Rattle.mn_ledger.specs.Verdicts.{one_if, verdict_on, AreInOnePlace}
-use Rattle.mn_ledger.specs.Items.{Channel, Load, Carries, Item, Flight, delay_on, last_of, frame_by, frames_in, notices_in, messages_in, routes_in, made_in, numbered}
+use Rattle.mn_ledger.specs.Items.{Channel, Load, Carries, Item, Flight, delay_on, last_of, frame_by, frames_in, notices_in, messages_in, routes_in, made_in}
+use Rattle.mn_ledger.specs.Items.{numbered}
 use Rattle.mn_ledger.specs.Items.{left_in_flight, with_made, in_time, flight_from, flight_of, frame_after, Frames, Notices, Notice, message_of}
 use Rattle.mn_ledger.proofs.GoingBy.{put_here}
 use Rattle.mn_ledger.proofs.Members.{In, in_append, in_map, in_contained, in_filter, contained_in}
@@ -64,8 +66,10 @@ IsSentNow clock j q = AllSent clock (frame_by q (verdict_on q j))
 no_more : (clock j : ℕ) (q : Packets) (v : Verdict) → verdict_on q j ≡ v → AllSent clock (frame_by q v) → IsSentNow clock j q
 no_more clock j q v e h = subst (λ x. AllSent clock (frame_by q x)) (sym e) h
 
-dropped_now : (clock j : ℕ) (u : Packets) (cause : Rule) (node : ℕ) → j < length u.verdicts → IsSentNow clock j (judged u j (Dropped cause (record { 0 = node })))
-dropped_now clock j u cause node h = no_more clock j (judged u j (Dropped cause (record { 0 = node }))) (Dropped cause (record { 0 = node })) (judged_here u j (Dropped cause (record { 0 = node })) h) (λ x i. absurd i)
+dropped_now : (clock j : ℕ) (u : Packets) (cause : Rule) (node : ℕ) → j < length u.verdicts →
+    IsSentNow clock j (judged u j (Dropped cause (record { 0 = node })))
+dropped_now clock j u cause node h = no_more clock j (judged u j (Dropped cause (record { 0 = node }))) (Dropped cause (record { 0 = node }))
+    (judged_here u j (Dropped cause (record { 0 = node })) h) (λ x i. absurd i)
 
 last_pushed : (xs : List Token) (k : Token) → last_of (xs ++ k ∷ []) ≡ k ∷ []
 last_pushed [] k = refl
@@ -97,7 +101,8 @@ entered_now : (t : Network) (w : World) (k : Packets) (site : ℕ) (b : List ℕ
 entered_now t w k site b =
     enters (IsSentNow k.clock (length k.verdicts)) t w u (length k.verdicts) site b (record {
       falls = λ cause f. dropped_now k.clock (length k.verdicts) u cause (home_of t site) inside;
-      delivered = λ x p m e. no_more k.clock (length k.verdicts) (deliver u (length k.verdicts) x.site (ttl_of b - 1) b) (Delivered (ttl_of b - 1) (record { 0 = x.site }) (u.copies + 1))
+      delivered = λ x p m e. no_more k.clock (length k.verdicts) (deliver u (length k.verdicts) x.site (ttl_of b - 1) b)
+          (Delivered (ttl_of b - 1) (record { 0 = x.site }) (u.copies + 1))
           (judged_here u (length k.verdicts) (Delivered (ttl_of b - 1) (record { 0 = x.site }) (u.copies + 1)) inside) (λ y i. absurd i);
       flies = λ x hop p m e q. hopped_now t u (bound (length k.verdicts) x b) (home_of t site) rule.NoLsp hop inside;
     })
@@ -114,7 +119,8 @@ carried_now t w k count l d place node None one at = λ x i. absurd i
 carried_now t w k count l d place node (Some f) one at =
     arrives (IsSentNow k.clock f.packet) t w u f node (record {
       expires = λ a. dropped_now k.clock f.packet u rule.TtlExpired node inside;
-      delivered = λ a b c. no_more k.clock f.packet (deliver u f.packet f.site (f.ttl - 1) f.bytes) (Delivered (f.ttl - 1) (record { 0 = f.site }) (u.copies + 1))
+      delivered = λ a b c. no_more k.clock f.packet (deliver u f.packet f.site (f.ttl - 1) f.bytes)
+          (Delivered (f.ttl - 1) (record { 0 = f.site }) (u.copies + 1))
           (judged_here u f.packet (Delivered (f.ttl - 1) (record { 0 = f.site }) (u.copies + 1)) inside) (λ y i. absurd i);
       gone = λ a b c. dropped_now k.clock f.packet u rule.SiteGone node inside;
       stuck = λ a b c. dropped_now k.clock f.packet u rule.NoEntry node inside;
@@ -131,7 +137,8 @@ carried_now t w k count l d place node (Some f) one at =
 frames_at : (t : Network) (w : World) (k : Packets) (count clock tick : ℕ) (s : Step) (b : List ℕ) → AreInOnePlace k count → clock ≡ tick + ticks_in s
     → AllSent tick (frames_in (timed_by t clock s k) (after_time t clock w k s b) s)
 frames_at t w k count clock tick (Inject site n) b one e =
-    subst (λ c. AllSent c (frame_by (after_time t clock w k (Inject site n) b) (verdict_on (after_time t clock w k (Inject site n) b) (length k.verdicts)))) (now e)
+    subst (λ c. AllSent c (frame_by (after_time t clock w k (Inject site n) b) (verdict_on (after_time t clock w k (Inject site n) b) (length k.verdicts))))
+    (now e)
     (subst (IsSentNow clock (length k.verdicts)) (sym (injected_is t w (later k clock) site n b)) (entered_now t w (later k clock) site.0 b))
   where
     now : clock ≡ tick + 0 → clock ≡ tick

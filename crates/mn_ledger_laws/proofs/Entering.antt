@@ -148,7 +148,8 @@ may_enter t w site b x p h names = record {
   lives = two_left (ttl_of b) p.lives;
   unicast = p.unicast;
   is_held = contained_in (routes_at t w site) x
-      (in_those _ (is_resolved t w (home_of t site)) (routes_at t w site) x (in_contained (eligible_at t w site b) x (best_is (eligible_at t w site b) (destination_of b) x h).held));
+      (in_those _ (is_resolved t w (home_of t site)) (routes_at t w site) x
+      (in_contained (eligible_at t w site b) x (best_is (eligible_at t w site b) (destination_of b) x h).held));
   best_route = best_is (eligible_at t w site b) (destination_of b) x h;
   only = λ other o. same_Some other x (sym (names.one other o) ∙ h);
 }
@@ -194,7 +195,8 @@ no_lsp t w site b x p h far none = record {
   later = [];
   order = refl;
   here = ap (is_out_of_reach t w (home_of t site)) h ∙ ap (λ c. not c && has_no_path t w (home_of t site) x.edge) far ∙ ap is_none none;
-  not_before = before _ _ _ _ _ _ _ _ p.attached p.ipv4 p.formed p.whole p.summed p.lives p.unicast (some_held _ (is_resolved t w (home_of t site)) (routes_at t w site) (destination_of b) x h);
+  not_before = before _ _ _ _ _ _ _ _ p.attached p.ipv4 p.formed p.whole p.summed p.lives p.unicast
+      (some_held _ (is_resolved t w (home_of t site)) (routes_at t w site) (destination_of b) x h);
 }
   where
     before : (a c d e f g h r : Bool) → a ≡ false → c ≡ false → d ≡ false → e ≡ false → f ≡ false → g ≡ false → h ≡ true → r ≡ true

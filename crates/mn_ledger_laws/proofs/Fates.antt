@@ -26,7 +26,8 @@ use Rattle.mn_ledger.specs.Ledger.{injects, packets_of}
 use Rattle.mn_ledger.specs.Verdicts.{one_if, injections, times_in, times_by, verdict_on, AreInOnePlace}
 use Rattle.mn_ledger.proofs.Members.{In}
 use Rattle.mn_ledger.proofs.OnePlace.{in_one_place, not_one, one_same}
-use Rattle.mn_ledger_laws.specs.Accounts.{world_at, packets_at, Sending, IsSent, IsBoundFor, path_of, IsItsPath, is_flying, IsPassedOn, FellAtEntry, FellInFlight}
+use Rattle.mn_ledger_laws.specs.Accounts.{world_at, packets_at, Sending, IsSent, IsBoundFor, path_of, IsItsPath, is_flying, IsPassedOn, FellAtEntry}
+use Rattle.mn_ledger_laws.specs.Accounts.{FellInFlight}
 use Rattle.mn_ledger_laws.proofs.At.{bytes_of, packets_step, injections_step}
 use Rattle.mn_ledger_laws.proofs.Elsewhere.{Same}
 use Rattle.mn_ledger_laws.proofs.Moving.{Leaves, same_step}
@@ -150,10 +151,12 @@ only_one j [] k x h i m e f = absurd i
 only_one j (y ∷ ys) k x h i m e f = elim i [
   | inl q ↦ elim m [
     | inl r ↦ sym q ∙ r
-    | inr r ↦ absurd (twice (one_if (y.packet == j)) (times_in j ys) (ap (λ (z : Token). one_if (z.packet == j)) q ∙ ap (λ n. one_if (n == j)) e ∙ one_same j) (in_counts j ys x r f) h)
+    | inr r ↦ absurd (twice (one_if (y.packet == j)) (times_in j ys) (ap (λ (z : Token). one_if (z.packet == j)) q ∙ ap (λ n. one_if (n == j)) e
+        ∙ one_same j) (in_counts j ys x r f) h)
   ]
   | inr q ↦ elim m [
-    | inl r ↦ absurd (twice (one_if (y.packet == j)) (times_in j ys) (ap (λ (z : Token). one_if (z.packet == j)) r ∙ ap (λ n. one_if (n == j)) f ∙ one_same j) (in_counts j ys k q e) h)
+    | inl r ↦ absurd (twice (one_if (y.packet == j)) (times_in j ys) (ap (λ (z : Token). one_if (z.packet == j)) r ∙ ap (λ n. one_if (n == j)) f
+        ∙ one_same j) (in_counts j ys k q e) h)
     | inr r ↦ only_one j ys k x (rest (one_if (y.packet == j)) (times_in j ys) (in_counts j ys k q e) h) q r e f
   ]
 ]
@@ -253,11 +256,13 @@ same_at : (t : Network) (es : List JournalEntry) (ps : List (List ℕ)) (s : Sen
     → Same s.packet (packets_at t es ps n) (packets_at t es ps (suc n))
 same_at t es ps s n e sent below there leaves =
     subst (Same s.packet (packets_at t es ps n)) (sym (packets_step t es ps n e there))
-    (same_step t (clock_after e) (world_at t es n) (packets_at t es ps n) e.step (bytes_of ps (injections (take n es))) s.packet (in_verdicts t es ps s n sent below)
+    (same_step t (clock_after e) (world_at t es n) (packets_at t es ps n) e.step (bytes_of ps (injections (take n es))) s.packet
+    (in_verdicts t es ps s n sent below)
     (in_paths t es ps s n sent below) leaves)
 
 -- an end that stands, one step later
-abbrev later_ends : (t : Network) (es : List JournalEntry) (ps : List (List ℕ)) (s : Sending) (n : ℕ) (v : Verdict) → Ends t es ps s n v → Ends t es ps s (suc n) v
+abbrev later_ends : (t : Network) (es : List JournalEntry) (ps : List (List ℕ)) (s : Sending) (n : ℕ) (v : Verdict) → Ends t es ps s n v →
+    Ends t es ps s (suc n) v
 later_ends t es ps s n v ends = record {
   when = ends.when;
   entry = ends.entry;

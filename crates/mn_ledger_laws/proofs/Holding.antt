@@ -1,4 +1,4 @@
--- After every step of a lawful journal what a VRF holds, and what an end of a link has said, names what exists.
+-- After every step of a lawful journal what a VRF holds, and what an end of a link has sent, names what exists.
 use Rattle.std.proofs.Common.{ℕ, zero, suc, ◌≡◌, ◌≢◌, ◌+◌, ◌<◌, ◌≤◌, inl, inr, Bool, true, false, cond, List, [], ◌∷◌, ◌++◌, map, filter, length, refl}
 use Rattle.std.proofs.Common.{arith, sym, ◌∙◌, ap, subst, Some}
 use Rattle.std.specs.Prelude.{◌==◌, ◌&&◌, not, if◌then◌else◌, slice_index_or}
@@ -166,7 +166,7 @@ news_nodes t was now node =
     from_nodes t was now node (by_neighbour (wiring_of t) node) 0 (offered (wiring_of t) was node) (offered (wiring_of t) now node)
     (omega (arith, length_range (offers (wiring_of t) now node) 0 (length t.loopbacks)))
 
--- an answer names the FEC that was heard
+-- an answer names the FEC that was received
 none_answered : (t : Network) → AllNodes t []
 none_answered t m i = absurd i
 

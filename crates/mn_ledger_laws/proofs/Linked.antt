@@ -113,7 +113,8 @@ cut_linked t (f ∷ ks) w c n h =
     (judged_linked t u f.packet (Dropped rule.LinkCut (record { 0 = n })) h tt (drop_at u f.packet rule.LinkCut n) refl)
 
 -- a packet whose frame ends is on no link
-fall_linked : (t : Network) (w : Packets) (l : ℕ) (d : Dir) (n node : ℕ) (o : Option Token) → AreLinked t w → AreLinked t (fall rule.Overdue (taken w l d n) node o)
+fall_linked : (t : Network) (w : Packets) (l : ℕ) (d : Dir) (n node : ℕ) (o : Option Token) → AreLinked t w →
+    AreLinked t (fall rule.Overdue (taken w l d n) node o)
 fall_linked t w l d n node None h = same_linked t w (taken w l d n) refl h
 fall_linked t w l d n node (Some f) h =
     judged_linked t (taken w l d n) f.packet (Dropped rule.Overdue (record { 0 = node })) (same_linked t w (taken w l d n) refl h) tt

@@ -20,7 +20,8 @@ use Rattle.mn_ledger.specs.Packets.{Token, Packets, channel, flying_on, drop_at,
 use Rattle.mn_ledger.specs.Packets.{is_attachment, arrive, carry, lose, cut, before_step, packets_after, stamped}
 use Rattle.mn_ledger.specs.Ledger.{after}
 use Rattle.mn_ledger.proofs.Members.{In}
-use Rattle.mn_ledger_laws.proofs.Elsewhere.{Same, same_on, judged_off, deliver_off, visited_off, taken_same, hop_off, one_more_off, arms_by, arrived_off, cut_off}
+use Rattle.mn_ledger_laws.proofs.Elsewhere.{Same, same_on, judged_off, deliver_off, visited_off, taken_same, hop_off, one_more_off, arms_by, arrived_off}
+use Rattle.mn_ledger_laws.proofs.Elsewhere.{cut_off}
 use Rattle.mn_ledger_laws.proofs.Expired.{IsYoung, later, timed_off}
 use Rattle.mn_ledger_laws.proofs.Entering.{enters}
 use Rattle.mn_ledger.proofs.Ended.{other_than}

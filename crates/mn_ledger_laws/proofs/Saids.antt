@@ -1,4 +1,4 @@
--- The ids of LDP messages are their places among what was said in a life.
+-- The ids of LDP messages are their places among what was sent in a life.
 use Rattle.std.proofs.Common.{ℕ, zero, suc, ◌≡◌, ◌+◌, ◌<◌, ◌⊎◌, inl, inr, Bool, true, false, List, [], ◌∷◌, ◌++◌, map, length, refl, sym, ◌∙◌, ap}
 use Rattle.std.proofs.Common.{append-nil, append_assoc}
 use Rattle.std.specs.Prelude.{slice_get, Option, Some, None}
@@ -67,7 +67,7 @@ made_messages t w p q s l node =
 
 -- 2. The lives of a session
 
--- what was said is forgotten, or kept, and then comes what is said now
+-- what was sent is forgotten, or kept, and then comes what is sent now
 GoesOn : Network → World → Step → ℕ → ℕ → List Message → Type 0
 GoesOn t w s l node new = (earlier : List Message) × (w.sessions.said l node ++ new ≡ earlier ++ (after t w s).sessions.said l node)
 

@@ -46,7 +46,7 @@ in_links w node l h =
 
 -- 3. One FEC on one link
 
--- what is said of a FEC by what was and is offered
+-- what is sent of a FEC by what was and is offered
 IsMention : Bool → Bool → ℕ → Message → Type 0
 IsMention was is fec (Mapping f) = (f ≡ fec) × (is ≡ true) × (was ≡ false)
 IsMention was is fec (Withdraw f) = (f ≡ fec) × (is ≡ false) × (was ≡ true)

@@ -1,5 +1,6 @@
 -- Which frames fly after a step: those that flew, and one that its node sends on now.
-use Rattle.std.proofs.Common.{ℕ, zero, suc, ◌≡◌, ◌≢◌, ◌⊎◌, inl, inr, Bool, true, false, List, [], ◌∷◌, ◌++◌, length, refl, sym, ◌∙◌, ap, subst, Option, Some, None}
+use Rattle.std.proofs.Common.{ℕ, zero, suc, ◌≡◌, ◌≢◌, ◌⊎◌, inl, inr, Bool, true, false, List, [], ◌∷◌, ◌++◌, length, refl, sym, ◌∙◌, ap, subst, Option, Some}
+use Rattle.std.proofs.Common.{None}
 use Rattle.std.specs.Prelude.{◌==◌, ◌-◌, nat_le, slice_get}
 use Rattle.std.proofs.lemmas.Bool.Decides.{eqb_tells}
 use Rattle.mn_drops.specs.declared.drops.Rule.{Rule}
@@ -51,13 +52,14 @@ hops t v k token n cause apart (Some hop) e = (
   refl,
   λ c other i. elim (eqb_tells c at) [
     | inr x ↦ inl (subst (λ xs. In xs other) (put_off k.flying at pushed c x.1) i)
-    | inl x ↦ elim (in_append (k.flying at) (stamped k token ∷ []) other (subst (λ xs. In xs other) (ap (put k.flying at pushed) x.1 ∙ put_here k.flying at pushed) i)) [
-      | inl j ↦ inl (subst (λ b. In (k.flying b) other) (sym x.1) j)
-      | inr j ↦ inr (elim j [
-        | inl f ↦ subst (IsSentBy t v k.clock c n) f (record { hop = hop; apart = apart; way = e; over = x.1; now = refl })
-        | inr g ↦ absurd g
-      ])
-    ]
+    | inl x ↦ elim (in_append (k.flying at) (stamped k token ∷ []) other (subst (λ xs. In xs other) (ap (put k.flying at pushed) x.1
+        ∙ put_here k.flying at pushed) i)) [
+          | inl j ↦ inl (subst (λ b. In (k.flying b) other) (sym x.1) j)
+          | inr j ↦ inr (elim j [
+            | inl f ↦ subst (IsSentBy t v k.clock c n) f (record { hop = hop; apart = apart; way = e; over = x.1; now = refl })
+            | inr g ↦ absurd g
+          ])
+        ]
   ],
 )
   where
@@ -136,7 +138,8 @@ sends_in t _ = 0
 pub grows : (t : Network) (v : World) (k : Packets) (s : Step) (b : List ℕ) → Grows t v (sends_in t s) k (packets_after t v k s b)
 unfolding packets_after sends_in
 grows t v k (Inject s number) b =
-    enters t v (one_more (before_step k) (home_of t s.0)) (length k.verdicts) b (home_of t s.0) (vrf_of t s.0) (first_rule (entry_rules (v.config.attached s.0) b))
+    enters t v (one_more (before_step k) (home_of t s.0)) (length k.verdicts) b (home_of t s.0) (vrf_of t s.0)
+    (first_rule (entry_rules (v.config.attached s.0) b))
 grows t v k (Carry l dir place) b = carries t v (before_step k) l.0 dir place (receiver (wiring_of t) l.0 dir) (slice_get (flying_on k l.0 dir) place)
 grows t v k (Lose l dir place) b =
     let less = fall_fewer rule.Lost (before_step k) (taken (before_step k) l.0 dir place) (sender (wiring_of t) l.0 dir) (slice_get (flying_on k l.0 dir) place)

@@ -154,7 +154,8 @@ module _ (t : Network) (lawful : IsLawful t) (es : List JournalEntry) (ps : List
 
   flies_off : (x : HeldRoute) (hop : ℕ × ℕ) → MayEnter t (world_at t es s.place) s.site s.bytes x → (x.edge == home) ≡ false
       → usable t (world_at t es s.place).config (world_at t es s.place).views (world_at t es s.place).sessions home x.edge ≡ Some hop
-      → packets_at t es ps (suc s.place) ≡ hop_over t with_it (stamped with_it (bound s.packet x s.bytes)) home rule.NoLsp (Some hop) → IsKnown t es ps s (suc s.place)
+      → packets_at t es ps (suc s.place) ≡ hop_over t with_it (stamped with_it (bound s.packet x s.bytes)) home rule.NoLsp (Some hop) →
+      IsKnown t es ps s (suc s.place)
   flies_off x hop may far can now =
       let to : IsHop t home hop = hop_is t (world_at t es s.place) home x.edge hop lawful (home_there t s.site lawful site_there) (apart x.edge home far) can in
       let v : Verdict = Flying (record { 0 = hop.1 }) (away_from t hop.1 home) in
@@ -185,7 +186,11 @@ module _ (t : Network) (lawful : IsLawful t) (es : List JournalEntry) (ps : List
       only_frame c k i same = by_place (in_pushed with_it.flying (channel hop.1 (away_from t hop.1 home)) (stamped with_it (bound s.packet x s.bytes)) c k i)
         where
           by_place : In (before.flying c) k ⊎ (stamped with_it (bound s.packet x s.bytes) ≡ k) → k ≡ frame_of s x (home ∷ []) k.sent
-          by_place h = elim h [ inl j ↦ absurd (none_yet t es ps s.place s.packet c k (at_most sent.earlier) j same) | inr q ↦ sym q ∙ ap (λ (y : Token). frame_of s x (home ∷ []) y.sent) q ]
+          by_place h = elim h [
+            | inl j ↦ absurd (none_yet t es ps s.place s.packet c k (at_most sent.earlier) j same)
+            | inr q ↦ sym q
+                ∙ ap (λ (y : Token). frame_of s x (home ∷ []) y.sent) q
+          ]
             where
               at_most : {m n : ℕ} → m ≡ n → m ≤ n
               at_most q = omega (arith, q)
@@ -249,7 +254,8 @@ module _ (t : Network) (lawful : IsLawful t) (es : List JournalEntry) (ps : List
     | inl p ↦
         let link : l ≡ k = ap (λ m. record { 0 = m }) p.1 in
         cut_known t es ps s n e l d (takes t es ps s n e l d sent below there h flies) (is ∙ ap LinkDown (sym link))
-    | inr p ↦ left_known t es ps s n e sent below there (subst (Leaves t (clock_after e) s.packet (packets_at t es ps n)) (sym is) (λ b f i same. p.1 (other b f i same))) h
+    | inr p ↦ left_known t es ps s n e sent below there
+        (subst (Leaves t (clock_after e) s.packet (packets_at t es ps n)) (sym is) (λ b f i same. p.1 (other b f i same))) h
   ]
     where
       one_link : (a b : LinkNo) (c f : Dir) → Flying a c ≡ Flying b f → a.0 ≡ b.0
@@ -281,7 +287,8 @@ module _ (t : Network) (lawful : IsLawful t) (es : List JournalEntry) (ps : List
           young m b k i same early =
               let at = only m b k i same in
               ap (λ a. is_overdue t (clock_after e) a k) at.0 ∙ ap (is_overdue t (clock_after e) l.0) at.2 ∙ early
-  flying_step s n e x is sent below there h l d flies = left_known t es ps s n e sent below there (subst (Leaves t (clock_after e) s.packet (packets_at t es ps n)) (sym is) tt) h
+  flying_step s n e x is sent below there h l d flies =
+      left_known t es ps s n e sent below there (subst (Leaves t (clock_after e) s.packet (packets_at t es ps n)) (sym is) tt) h
 
   one_step : (s : Sending) (n : ℕ) (e : JournalEntry) → IsSent es ps s → s.place < n → slice_get es n ≡ Some e → IsKnown t es ps s n → IsKnown t es ps s (suc n)
   one_step s n e sent below there h = elim (where_flying (verdict_on (packets_at t es ps n) s.packet)) [

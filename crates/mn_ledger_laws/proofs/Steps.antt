@@ -1,5 +1,6 @@
 -- How many items a step makes at most.
-use Rattle.std.proofs.Common.{ℕ, zero, suc, ◌≡◌, ◌+◌, ◌*◌, ◌≤◌, Bool, true, false, cond, List, [], ◌∷◌, ◌++◌, map, filter, length, refl, arith, ap, length-append}
+use Rattle.std.proofs.Common.{ℕ, zero, suc, ◌≡◌, ◌+◌, ◌*◌, ◌≤◌, Bool, true, false, cond, List, [], ◌∷◌, ◌++◌, map, filter, length, refl, arith, ap}
+use Rattle.std.proofs.Common.{length-append}
 use Rattle.std.proofs.Common.{Option, Some, None}
 use Rattle.std.specs.Prelude.{◌==◌, ◌&&◌, not, nat_le, if◌then◌else◌, slice_get, slice_index_or}
 use Rattle.std.specs.List.{flat_map, range_with_len, list_any}
@@ -25,14 +26,16 @@ use Rattle.mn_ledger.specs.World.{World, Config, Views, Sessions, Peerings, Expo
 use Rattle.mn_ledger.specs.World.{Message, Initialization, Address}
 use Rattle.mn_ledger.specs.Transport as ledger_transport
 use Rattle.mn_ledger.specs.Transport.{Said, Knowledge, knowledge_of, lives, ldp_state_of, said_on, answer, mention, mentioned_on, mentioned_from, offered}
-use Rattle.mn_ledger.specs.Transport.{by_neighbour, offers, is_operational, news, opening, ldp_replies, ends_first, speakers, said_in, is_transport, ldp_counted}
+use Rattle.mn_ledger.specs.Transport.{by_neighbour, offers, is_operational, news, opening, ldp_replies, ends_first, speakers, said_in, is_transport}
+use Rattle.mn_ledger.specs.Transport.{ldp_counted}
 use Rattle.mn_ledger.specs.Exports.{exports_of, exports_with, in_order, placed, comes_before, export_of, is_present}
 use Rattle.mn_ledger.specs.Bgp as ledger_bgp
 use Rattle.mn_ledger.specs.Bgp.{Told, told_to, reply, bgp_replies, withdrawn, announced, changed, steady_peers, route_news, told_in, is_routing, bgp_state_of}
 use Rattle.mn_ledger.specs.Packets.{Token, Packets, flying_on}
 use Rattle.mn_ledger.specs.Verdicts.{verdict_on}
 use Rattle.mn_ledger.proofs.Saying.{few-answers}
-use Rattle.mn_ledger.specs.Items.{Channel, Notices, Frames, Load, Notice, Carries, notices_in, message_of, messages_in, route_of, routes_in, last_of, frame_by, frame_after, frames_in, made_in}
+use Rattle.mn_ledger.specs.Items.{Channel, Notices, Frames, Load, Notice, Carries, notices_in, message_of, messages_in, route_of, routes_in, last_of, frame_by}
+use Rattle.mn_ledger.specs.Items.{frame_after, frames_in, made_in}
 
 -- 1. Lists
 
@@ -115,7 +118,8 @@ few_opening t c k = either (lives c k)
   where
     either : (b : Bool) → length {A = Said} (elim b [
       | true ↦
-          said_on k (if ledger_transport.is_active t k (link (wiring_of t) k).a.0 then (link (wiring_of t) k).a.0 else (link (wiring_of t) k).b.0) (Initialization ∷ [])
+          said_on k (if ledger_transport.is_active t k (link (wiring_of t) k).a.0 then (link (wiring_of t) k).a.0 else (link (wiring_of t) k).b.0)
+          (Initialization ∷ [])
       | false ↦ []
     ]) ≤ 2
     either true = omega arith

@@ -31,7 +31,8 @@ use Rattle.mn_ledger.specs.Verdicts.{injections, verdict_on}
 use Rattle.mn_ledger.proofs.Members.{In}
 use Rattle.mn_ledger.proofs.OnePlace.{loosen}
 use Rattle.mn_ledger.proofs.Peers.{same_numbers}
-use Rattle.mn_ledger_laws.specs.Accounts.{world_at, packets_at, Sending, IsSent, routes_at, AreJoined, GoesOver, path_of, IsItsPath, node_of, is_flying, ttl_left}
+use Rattle.mn_ledger_laws.specs.Accounts.{world_at, packets_at, Sending, IsSent, routes_at, AreJoined, GoesOver, path_of, IsItsPath, node_of, is_flying}
+use Rattle.mn_ledger_laws.specs.Accounts.{ttl_left}
 use Rattle.mn_ledger_laws.specs.Accounts.{IsPassedOn, FallsTo, arrival_rules, applies_at_arrival, EndsInFlight, HasOutlived}
 use Rattle.mn_ledger_laws.specs.Named.{NamesItsSite}
 use Rattle.mn_ledger_laws.proofs.At.{bytes_of, packets_step}
@@ -40,7 +41,8 @@ use Rattle.mn_ledger_laws.proofs.Expired.{later, timed_here, timed_older}
 use Rattle.mn_ledger_laws.proofs.Moving.{after_time, carried_is, lost_is, cut_is, ticked_is, arrives}
 use Rattle.mn_ledger_laws.proofs.There.{receiver_there, joined_over, IsHop, hop_is, goes_further}
 use Rattle.mn_ledger_laws.proofs.Fates as fates
-use Rattle.mn_ledger_laws.proofs.Fates.{frame_of, HasFlown, Flies, FateIs, IsKnown, placed, in_verdicts, in_paths, in_counts, where_it_flies, some_frame, flown_on}
+use Rattle.mn_ledger_laws.proofs.Fates.{frame_of, HasFlown, Flies, FateIs, IsKnown, placed, in_verdicts, in_paths, in_counts, where_it_flies, some_frame}
+use Rattle.mn_ledger_laws.proofs.Fates.{flown_on}
 use Rattle.mn_ledger.specs.Time.{clock_after, is_overdue, timed_by}
 
 -- 1. The packet that arrives
@@ -258,7 +260,8 @@ module _ (t : Network) (lawful : IsLawful t) (es : List JournalEntry) (ps : List
   -- it flies on
   flies_there : nat_le frame.ttl 1 ≡ false → (node == k.flies.route.edge) ≡ false → (hop : ℕ × ℕ)
       → usable t (world_at t es n).config (world_at t es n).views (world_at t es n).sessions node k.flies.route.edge ≡ Some hop
-      → packets_at t es ps (suc n) ≡ hop_over t there_now (stamped there_now (record frame { ttl = frame.ttl - 1 })) node rule.NoEntry (Some hop) → IsKnown t es ps s (suc n)
+      → packets_at t es ps (suc n) ≡ hop_over t there_now (stamped there_now (record frame { ttl = frame.ttl - 1 })) node rule.NoEntry (Some hop) →
+      IsKnown t es ps s (suc n)
   flies_there lives far hop can now =
       let to : IsHop t node hop = hop_is t (world_at t es n) node k.flies.route.edge hop lawful (receiver_there t l.0 d lawful k.flies.there)
       (apart node k.flies.route.edge far) can in
@@ -306,15 +309,18 @@ module _ (t : Network) (lawful : IsLawful t) (es : List JournalEntry) (ps : List
           none_counted : 1 ≤ 0 → ⊥
           none_counted h = omega (arith, h)
 
-      new_frame : (c : ℕ) (x : Token) → In ((hop_over t there_now (stamped there_now (record frame { ttl = frame.ttl - 1 })) node rule.NoEntry (Some hop)).flying c) x
+      new_frame : (c : ℕ) (x : Token) →
+          In ((hop_over t there_now (stamped there_now (record frame { ttl = frame.ttl - 1 })) node rule.NoEntry (Some hop)).flying c) x
           → x.packet ≡ s.packet → x ≡ stamped there_now (record frame { ttl = frame.ttl - 1 })
-      new_frame c x i same = by_place (in_pushed there_now.flying (channel hop.1 (away_from t hop.1 node)) (stamped there_now (record frame { ttl = frame.ttl - 1 })) c x i)
+      new_frame c x i same = by_place (in_pushed there_now.flying (channel hop.1 (away_from t hop.1 node))
+          (stamped there_now (record frame { ttl = frame.ttl - 1 })) c x i)
         where
           by_place : In (there_now.flying c) x ⊎ (stamped there_now (record frame { ttl = frame.ttl - 1 }) ≡ x)
               → x ≡ stamped there_now (record frame { ttl = frame.ttl - 1 })
           by_place h = elim h [ inl j ↦ absurd (none_left c x j same) | inr q ↦ sym q ]
 
-      own_tick : (c : ℕ) (x : Token) → In ((hop_over t there_now (stamped there_now (record frame { ttl = frame.ttl - 1 })) node rule.NoEntry (Some hop)).flying c) x
+      own_tick : (c : ℕ) (x : Token) →
+          In ((hop_over t there_now (stamped there_now (record frame { ttl = frame.ttl - 1 })) node rule.NoEntry (Some hop)).flying c) x
           → x.packet ≡ s.packet → frame_of s k.flies.route (path_of (packets_at t es ps (suc n)) s.packet) (clock_after e)
           ≡ frame_of s k.flies.route (path_of (packets_at t es ps (suc n)) s.packet) x.sent
       own_tick c x i same = ap (λ (y : Token). frame_of s k.flies.route (path_of (packets_at t es ps (suc n)) s.packet) y.sent) (sym (new_frame c x i same))
@@ -415,7 +421,8 @@ module _ (t : Network) (es : List JournalEntry) (ps : List (List ℕ)) (s : Send
 one_way : (l : LinkNo) → Flying l Forth ≡ Flying l Back → ⊥
 one_way l h = cc
 
-cut_verdict : (t : Network) (es : List JournalEntry) (ps : List (List ℕ)) (s : Sending) (n : ℕ) (l : LinkNo) (clock : ℕ) (d : Dir) → IsSent es ps s → s.place < n
+cut_verdict : (t : Network) (es : List JournalEntry) (ps : List (List ℕ)) (s : Sending) (n : ℕ) (l : LinkNo) (clock : ℕ) (d : Dir) → IsSent es ps s →
+    s.place < n
     → verdict_on (packets_at t es ps n) s.packet ≡ Flying l d
     → verdict_on (cut t (cut t (before_step (later (packets_at t es ps n) clock)) l.0 Forth) l.0 Back) s.packet ≡ Dropped rule.LinkCut
     (record { 0 = sender (wiring_of t) l.0 d })

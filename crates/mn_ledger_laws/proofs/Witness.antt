@@ -72,7 +72,12 @@ one_delivery = refl
 
 -- each delivery bears the tick of its step
 abbrev carried_later : List JournalEntry
-carried_later = settling ++ record { tick = 5; step = Inject (site_no 0) 1; damaged = Undamaged } ∷ record { tick = 7; step = Carry (link_no 0) Forth 0; damaged = Undamaged } ∷
+carried_later = settling ++ record { tick = 5; step = Inject (site_no 0) 1; damaged = Undamaged } ∷ record {
+  tick = 7;
+  step =
+      Carry (link_no 0) Forth 0;
+  damaged = Undamaged;
+} ∷
     record { tick = 9; step = Carry (link_no 1) Forth 0; damaged = Undamaged } ∷ []
 
 pub at_its_tick : deliveries_of two_links carried_later (packet ∷ []) ≡ record { tick = 9; bytes = aged packet 3 } ∷ []

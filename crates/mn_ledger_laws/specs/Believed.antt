@@ -20,7 +20,7 @@ pub record IsLastMention (tellings : List Telling) (export : Export) : Type 0 wh
   pub last : list_any (mentions export.vrf export.prefix) after ≡ false
 
 -- an edge believes an export of a peer exactly where their session lives and the last mention of its VRF and prefix, of what the
--- edge has heard in this life, is its announcement
+-- edge has received in this life, is its announcement
 pub record BelievesLastMentions (config : Config) (peerings : Peerings) (edge peer : ℕ) (export : Export) : Type 0 where
   pub live : Contains (believed config peerings edge peer) export → peers_live config edge peer ≡ true
   pub mentioned : Contains (believed config peerings edge peer) export → IsLastMention (heard_of peerings edge peer) export

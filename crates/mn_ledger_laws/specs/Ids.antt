@@ -19,7 +19,7 @@ ids_after id (message ∷ messages) = (id + 1) ∷ ids_after (id + 1) messages
 abbrev pub ids_of : List Message → List ℕ
 ids_of messages = ids_after 0 messages
 
--- of all that an end said on a link the last is what it said in the present life, whose ids are their places, from 1
+-- of all that an end sent on a link the last is what it sent in the present life, whose ids are their places, from 1
 pub record SaysWithIds (topology : Network) (entries : List JournalEntry) (inputs : List (List ℕ)) (l end : ℕ) : Type 0 where
   pub earlier : List Message
   pub all : loads_on (Messages l end) (made_by topology entries inputs) ≡ map (λ message. Says message)

@@ -1,6 +1,6 @@
 //! Laws of the ledger: what a customer is owed for each packet, and what the network's crates stand on.
 //!
-//! The ledger (`mn_ledger`) says by definitions what every session has said and heard, which routes each VRF holds, and where
+//! The ledger (`mn_ledger`) says by definitions what every session has sent and received, which routes each VRF holds, and where
 //! every packet is. Here stands what follows from them, in words that need none of those definitions: `specs/Accounts` is the
 //! promise to a customer, and is read from top to bottom.
 //!
@@ -25,7 +25,7 @@
 //! ```text
 //!   notices      256                            one for each node
 //!   LDP          2 + 258 * 256 * 256 * 1024     each node says one message of each FEC on each of its links
-//!   BGP          1 + 65536 * 512 * 513          each route of an edge comes and goes, and is told to each peer
+//!   BGP          1 + 65536 * 512 * 513          each route of an edge comes and goes, and is advertised to each peer
 //!   a frame      1
 //! ```
 //!
@@ -66,7 +66,7 @@ pub fn the_network_accounts_for_every_packet()
         IsLawful topology → IsLawfulJournal topology entries inputs → length inputs ≡ injections entries → Accounts topology entries inputs }
 {}
 
-/// After a lawful journal what was said and told, and what a VRF holds, names nodes, VRFs, sites, prefixes and attachments that
+/// After a lawful journal what was sent by LDP and by BGP, and what a VRF holds, names nodes, VRFs, sites, prefixes and attachments that
 /// exist.
 pub fn what_is_named_exists()
     ensures { (topology : Network) (entries : List JournalEntry) (inputs : List (List ℕ)) →
@@ -88,7 +88,7 @@ pub fn what_flies_counts()
 {}
 
 /// An edge believes an export of a peer exactly where their session lives and the last mention of its VRF and prefix, of what
-/// the edge has heard in this life, is its announcement (RFC 4271, section 3.1). It holds of any two edges, whatever was told.
+/// the edge has received in this life, is its announcement (RFC 4271, section 3.1). It holds of any two edges, whatever was sent.
 pub fn an_edge_believes_what_was_announced_last()
     ensures { (config : Config) (peerings : Peerings) (edge peer : ℕ) (export : Export) → BelievesLastMentions config peerings edge peer export }
 {}
@@ -100,7 +100,7 @@ pub fn a_node_says_what_has_become_of_its_offers()
     ensures { (wiring : Wiring) (before after : Knowledge) (node : ℕ) → SaysItsNews wiring before after node }
 {}
 
-/// After a lawful journal what an end of a link said in the session's present life is the last of all that it said on the link,
+/// After a lawful journal what an end of a link sent in the session's present life is the last of all that it sent on the link,
 /// and the ids of these messages are their places, from 1 (RFC 5036, section 3.5).
 pub fn ids_are_places_in_a_life()
     ensures { (topology : Network) (entries : List JournalEntry) (inputs : List (List ℕ)) (l end : ℕ) →

@@ -31,7 +31,7 @@ abbrev pub sender_of : ℕ × ℕ → Dir → ℕ
 sender_of ends Forth = ends.0
 sender_of ends Back = ends.1
 
--- and the one that hears
+-- and the one that receives
 abbrev pub hearer_of : ℕ × ℕ → Dir → ℕ
 hearer_of ends Forth = ends.1
 hearer_of ends Back = ends.0

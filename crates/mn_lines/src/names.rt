@@ -39,7 +39,7 @@ fn ends_at(links: &[LinkEnds], number: u16) -> (NodeNo, NodeNo)
     }
 }
 
-/// The names of the node that sends in this direction of the link, and of the one that hears.
+/// The names of the node that sends in this direction of the link, and of the one that receives.
 pub(crate) fn direction(topology: &Topology, link: u16, dir: Dir) -> (&[u8], &[u8])
     ensures sender { result.0.now ≡
         name_at topology.now.node_names (sender_of (ends_at (pairs_of topology.now.links) link) dir) }

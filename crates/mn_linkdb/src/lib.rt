@@ -1,6 +1,6 @@
 //! What each node knows of the links, and the table of paths that it keeps.
 //!
-//! A link begins down, and each change turns it. A node hears of the changes of a link one by one,
+//! A link begins down, and each change turns it. A node learns of the changes of a link one by one,
 //! in their order, so how many it has learned says all that it knows: the link is up in its view
 //! where that number is odd. It plays the part of the link state database of OSPF (RFC 2328,
 //! section 12), with the flooding left to whoever calls `learn`.

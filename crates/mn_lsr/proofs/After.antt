@@ -1,6 +1,7 @@
 -- The parts of a node to which something has happened: what it keeps and what it says are its machine's, and its parts hang
 -- together again.
-use Rattle.std.proofs.Common.{ℕ, zero, suc, ◌≡◌, ◌≢◌, ◌+◌, ◌<◌, ◌^◌, ◌≤◌, ◌⊎◌, inl, inr, Bool, true, false, cond, List, [], ◌∷◌, ◌++◌, length, map, filter, refl, arith, sym}
+use Rattle.std.proofs.Common.{ℕ, zero, suc, ◌≡◌, ◌≢◌, ◌+◌, ◌<◌, ◌^◌, ◌≤◌, ◌⊎◌, inl, inr, Bool, true, false, cond, List, [], ◌∷◌, ◌++◌, length, map, filter}
+use Rattle.std.proofs.Common.{refl, arith, sym}
 use Rattle.std.proofs.Common.{◌∙◌, ap, subst, Option, Some, None}
 use Rattle.std.specs.Prelude.{◌==◌, ◌&&◌, if◌then◌else◌, not, is_some, nat_le, slice_index_or, option_map}
 use Rattle.std.specs.List.{flat_map, range_with_len}
@@ -51,7 +52,8 @@ use Rattle.mn_lsr.specs.Ties.{AreTied}
 use Rattle.mn_lsr.specs.Telling.{said_by_tell, message_of, as_number, MayTell}
 use Rattle.mn_base.specs.declared.numbers.LinkNo.{LinkNo}
 use Rattle.std.specs.Option.{option_to_list}
-use Rattle.mn_lsr.specs.Parts.{FitsLabel, AreOwn, AreOwed, Owes, Nothing, AtMost, HaveLabels, machines_of, wiring_in, node_in, kept_of, Stands, MayFollow, bumped, pdus_by, ends_after}
+use Rattle.mn_lsr.specs.Parts.{FitsLabel, AreOwn, AreOwed, Owes, Nothing, AtMost, HaveLabels, machines_of, wiring_in, node_in, kept_of, Stands, MayFollow}
+use Rattle.mn_lsr.specs.Parts.{bumped, pdus_by, ends_after}
 use Rattle.mn_lsr.proofs.Owing.{IsJoined, ends-owe, all-told, all-owe, owed-apart, told-open, stopped-owes}
 use Rattle.mn_lsr.proofs.Naming.{begun_is, ended_is}
 use Rattle.mn_lsr.proofs.Changing.{leads}
@@ -66,7 +68,7 @@ use Rattle.mn_lsr.proofs.Following.{no_next}
 use Rattle.mn_lsr.proofs.Tied.{offers_same, usable_same}
 use Rattle.mn_lsr.proofs.Saying.{at-is, with_ends, pdus-by, having-by, pdus_by-append, ends_after-append}
 
--- 1. What is said changes nothing that ties
+-- 1. What is sent changes nothing that ties
 
 counted-at : (ss : List (Option Session)) (q k me : ℕ) (xs : List Said) →
     slice_index_or (counted_from q me xs ss) k None ≡ option_map (with_count (length (messages_of (q + k) me xs))) (slice_index_or ss k None)
@@ -116,7 +118,7 @@ by-tells w me (t ∷ ts) =
 pub length-machines : (ends : List (Option Open)) → length (machines_of ends) ≡ length ends
 length-machines ends = length-map ends (option_map (λ (e : Open). e.session))
 
--- what is said moves no state machine
+-- what is sent moves no state machine
 machines-one : (ends : List (Option Open)) (l : ℕ) → machines_of (bumped ends l) ≡ machines_of ends
 machines-one [] l = refl
 machines-one (None ∷ ends) zero = refl
@@ -234,7 +236,8 @@ joined-by p st to = by (slice_index_or p.links.items to None) (st.links.join to)
     by (Some link) e = inr (link.0, e, leads (wiring_in p) p.me.0 to link.0 e)
 
 -- a FEC's rest isn't told by the rows
-stopped-owe : (w : Wiring) (me tick h : ℕ) (r : Resting) (fecs : List ℕ) (ends : List (Option Open)) → Owes w me r ends h → Owes w me (all_stopped tick r fecs) ends h
+stopped-owe : (w : Wiring) (me tick h : ℕ) (r : Resting) (fecs : List ℕ) (ends : List (Option Open)) → Owes w me r ends h →
+    Owes w me (all_stopped tick r fecs) ends h
 stopped-owe w me tick h r fecs ends (Nothing e) = Nothing (ap (λ rows. slice_index_or rows h None) (stopped-owes tick r fecs) ∙ e)
 stopped-owe w me tick h r fecs ends (AtMost l end j at few) =
     AtMost l end j at (λ f. subst (λ rows. count_in (slice_index_or rows h None) f ≤ end.said) (sym (stopped-owes tick r fecs)) (few f))
@@ -305,7 +308,7 @@ module _ (p : Parts) (st : Stands p) (e : Event) (counts : List ℕ) (es : List 
   said-then own withdrawn =
       pdus-by w p.me.0 b own withdrawn counts ends words ∙ ap (λ m. pdus w own withdrawn m words) h.is ∙ ap (pdus w own withdrawn (changed w n e)) words-are
 
-  -- first the answers are said, and then what is told
+  -- first the answers are sent, and then what is told
   pub said-all : (own : ℕ → ℕ) (withdrawn : ℕ) →
       pdus_by w p.me.0 own withdrawn ends (said_on l p.me.0 pre) ++ pdus_by w p.me.0 own withdrawn (ends_after ends (said_on l p.me.0 pre))
       (flat_map (said_by_tell w p.me.0) (tells p.lib.bindings es))
@@ -400,7 +403,7 @@ module _ (p : Parts) (st : Stands p) (e : Event) (counts : List ℕ) (es : List 
       ap (λ x. of x table.labels known.resting) node ∙ ap (λ y. of (after w n e) y known.resting) (is.labels_are ∙ labels-then tick)
       ∙ ap (of (after w n e) (labels_then w tick (kept_of p) e)) (ap (λ (y : Known). y.resting) is.known_is ∙ resting-then tick)
 
-  -- the events may be followed, whatever was said before
+  -- the events may be followed, whatever was sent before
   pub may-follow : (v : Learned) (mended : Mended) (sessions : Listed) (withdrawn : ℕ)
       → v ≡ record { nodes = p.view.nodes; ends = p.view.ends; counts = counts } → length sessions.items ≡ length p.view.ends →
       ((labels : Labels) → MayTell (length p.loopbacks.items) p.me.0 labels withdrawn (releases es))
@@ -425,7 +428,8 @@ module _ (p : Parts) (st : Stands p) (e : Event) (counts : List ℕ) (es : List 
 
 -- 4. What can be read off
 
-pub way-is : (p : Parts) → Stands p → (fec : ℕ) → fec < length p.loopbacks.items → fec ≢ p.me.0 → lib.usable p.lib.bindings fec ≡ way_to (wiring_in p) (node_in p) fec
+pub way-is : (p : Parts) → Stands p → (fec : ℕ) → fec < length p.loopbacks.items → fec ≢ p.me.0 →
+    lib.usable p.lib.bindings fec ≡ way_to (wiring_in p) (node_in p) fec
 way-is p st fec h d = usable_same (wiring_in p) (node_in p) p.lib.bindings st.wired.joins st.wired.once st.me st.tied fec h (λ e. d (sym e))
 
 pub state-at : (p : Parts) (l : ℕ) → state_in (session_at (node_in p) l) ≡ option_map (λ (e : Open). e.session.state) (slice_index_or p.sessions.items l None)

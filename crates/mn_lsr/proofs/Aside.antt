@@ -1,4 +1,4 @@
--- What is heard aside leaves offers and ways as they were.
+-- What is received aside leaves offers and ways as they were.
 use Rattle.std.proofs.Common.{ℕ, ◌≡◌, sym, ◌∙◌, ap, Option, Some, None}
 use Rattle.mn_base.specs.declared.numbers.NodeNo.{NodeNo}
 use Rattle.mn_labels.specs.declared.meaning.Bind.{Bind}

@@ -34,8 +34,10 @@ few_attachments site count given few e = small (attachments site given) (attachm
         kept false h = omega (arith, h)
 
         by : (what : Bind) → attachments site gs ≤ attachments_in gs →
-            length (let o : List Given = if is_of site what then g ∷ filter (λ giving. is_of site giving.what) gs else filter (λ giving. is_of site giving.what) gs in o)
-            ≤ length (let o : List Given = if is_attachment what then g ∷ filter (λ giving. is_attachment giving.what) gs else filter (λ giving. is_attachment giving.what) gs in o)
+            length (let o : List Given = if is_of site what then g ∷ filter (λ giving. is_of site giving.what) gs else filter
+            (λ giving. is_of site giving.what) gs in o)
+            ≤ length (let o : List Given =
+            if is_attachment what then g ∷ filter (λ giving. is_attachment giving.what) gs else filter (λ giving. is_attachment giving.what) gs in o)
         by (bind.Fec fec) h = h
         by (bind.Site other number) h = kept (other.0 == site) h
 
@@ -81,7 +83,11 @@ one_counted other site label number given =
 
 counted : (site : SiteNo) (label number : ℕ) (given : List Given) (xs : List ℕ) → site.0 < length xs →
     ((other : ℕ) → slice_index_or xs other 0 ≡ attachments other given)
-    → (other : ℕ) → slice_index_or (slice_set xs site.0 (slice_index_or xs site.0 0 + 1)) other 0 ≡ attachments other (given ++ record { label = label; what = bind.Site site number } ∷ [])
+    → (other : ℕ) → slice_index_or (slice_set xs site.0 (slice_index_or xs site.0 0 + 1)) other 0 ≡ attachments other (given ++ record {
+      label = label;
+      what =
+          bind.Site site number;
+    } ∷ [])
 counted site label number given xs there so_many other = elim (eqb_tells site.0 other) [
   | inl p ↦
       subst (λ k. slice_index_or (slice_set xs site.0 (slice_index_or xs site.0 0 + 1)) k 0 ≡ slice_index_or xs k 0 + 1) p.1
@@ -114,7 +120,8 @@ counted_once_more site label number at count given then_given xs ys given_is at_
 module _ (p : Parts) (st : Stands p) where
   -- a site has been attached, and its label is new
   pub attached_then : (site : SiteNo) (label number : ℕ) (table : LabelTable) (uses : List (ℕ × Use)) (counts : Vec ℕ Global) →
-      label ≡ greatest p.labels.labels.given + 1 → table.labels ≡ attached p.labels.labels (bind.Site site number) → table.me ≡ p.labels.me → IsTold table.labels
+      label ≡ greatest p.labels.labels.given + 1 → table.labels ≡ attached p.labels.labels (bind.Site site number) → table.me ≡ p.labels.me →
+      IsTold table.labels
       → meaning_of p.labels.labels label ≡ None
       → use_of uses label ≡ Some (use_kind.Site site) → ((other : ℕ) → other ≢ label → use_of uses other ≡ use_of p.lfib other)
       → ((other : ℕ) → slice_index_or counts.items other 0 ≡ attachments other table.labels.given)
@@ -158,7 +165,8 @@ module _ (p : Parts) (st : Stands p) where
       means = (told label (bind.Site site number)).1
           (contained_in table.labels.given (record { label = label; what = bind.Site site number })
           (subst (λ gs. In gs (record { label = label; what = bind.Site site number })) (sym given_is)
-          (in_rest p.labels.labels.given (record { label = label; what = bind.Site site number } ∷ []) (record { label = label; what = bind.Site site number }) (inl refl))))
+          (in_rest p.labels.labels.given (record { label = label; what = bind.Site site number } ∷ []) (record { label = label; what = bind.Site site number })
+          (inl refl))))
 
       -- what another label means it meant before
       forth : (at : ℕ) (thing : Bind) → Means p.labels.labels at thing → Means table.labels at thing

@@ -1,5 +1,6 @@
 -- One session and its neighbour's row change, and what happens to the node is that.
-use Rattle.std.proofs.Common.{ℕ, zero, suc, ◌≡◌, ◌≢◌, ◌≤◌, ◌<◌, length-set, inl, inr, true, false, List, [], ◌∷◌, ◌++◌, length, refl, arith, sym, ◌∙◌, ap, subst, Option, Some, None}
+use Rattle.std.proofs.Common.{ℕ, zero, suc, ◌≡◌, ◌≢◌, ◌≤◌, ◌<◌, length-set, inl, inr, true, false, List, [], ◌∷◌, ◌++◌, length, refl, arith, sym, ◌∙◌, ap}
+use Rattle.std.proofs.Common.{subst, Option, Some, None}
 use Rattle.std.specs.Prelude.{not, nat_le, is_some, slice_index_or, slice_set, option_map}
 use Rattle.std.specs.List.{flat_map}
 use Rattle.std.proofs.lemmas.Bool.Decides.{eqb_tells}
@@ -108,7 +109,8 @@ module _ (p : Parts) (st : Stands p) (l : ℕ) (there : l < length p.view.ends) 
   owed-then tick es x row is = record {
     rows = is.rows ∙ st.owed.rows;
     open_is = λ h. elim (eqb_tells h far) [
-      | inl q ↦ ap (λ k. is_some (rests.row_of (rested_events tick p.lib.resting es) k)) q.1 ∙ is.open_is ∙ sym (ap is_some (ap (row_of (with_row row)) q.1 ∙ row-at row))
+      | inl q ↦ ap (λ k. is_some (rests.row_of (rested_events tick p.lib.resting es) k)) q.1 ∙ is.open_is
+          ∙ sym (ap is_some (ap (row_of (with_row row)) q.1 ∙ row-at row))
       | inr q ↦ ap is_some (is.others h q.1) ∙ st.owed.open_is h ∙ sym (ap is_some (get_or-set_other p.lib.bindings.heard far h row None q.1))
     ];
     each = λ h. elim (eqb_tells h far) [
@@ -158,7 +160,8 @@ module _ (p : Parts) (st : Stands p) (l : ℕ) (there : l < length p.view.ends) 
         ∙ ap (λ ss. let o : Node = record { me = p.me.0; learned = p.view.counts; sessions = ss } in
         o) (sessions-one w p.me.0 l p.lib.bindings p.sessions.items row x st.wired.joins st.wired.once st.me there at_end st.ends)
         ∙ sym changed_is;
-    tied = subst (λ m. AreTied w m (after_events p.lib.bindings es)) (sym changed_is) (subst (AreTied w (with_session n l (session_with row x))) (sym lib_is) tied_row);
+    tied = subst (λ m. AreTied w m (after_events p.lib.bindings es)) (sym changed_is)
+        (subst (AreTied w (with_session n l (session_with row x))) (sym lib_is) tied_row);
     was = λ h k h_below j on. elim (eqb_tells k l) [
       | inl q ↦
           operational-is n k ∙ ap (λ i. is_up (session_at n i)) q.1
@@ -222,11 +225,13 @@ module _ (p : Parts) (st : Stands p) (l : ℕ) (there : l < length p.view.ends) 
 
   quiet : nat_le 2 (count_by end.session.state) ≡ false → Happens p (Closes l) p.view.counts [] (slice_set p.sessions.items l None) l []
   quiet off =
-      let row_none : row_of p.lib.bindings (across (wiring_in p) l p.me.0) ≡ None = closed (row_of p.lib.bindings (across (wiring_in p) l p.me.0)) (state_there ∙ off) in
+      let row_none : row_of p.lib.bindings (across (wiring_in p) l p.me.0) ≡ None = closed (row_of p.lib.bindings (across (wiring_in p) l p.me.0)) (state_there
+      ∙ off) in
       one p st l there at_end_of (Closes l) [] None (row_of p.lib.bindings (across (wiring_in p) l p.me.0)) [] (same_row p st l there at_end_of) refl
       (ap is_some row_none) (λ on. absurd (clash (sym on))) (λ h d. refl) refl none_own
       (λ fec. subst (λ r. FitsLabel (lib.label_learned r fec)) (sym row_none) tt) tt (omega arith)
-      (λ tick. sym (ap (λ s. rested_by_end tick s (across (wiring_in p) l p.me.0) p.lib.resting) (ap state_in session_there) ∙ not_ended tick end.session.state off))
+      (λ tick. sym (ap (λ s. rested_by_end tick s (across (wiring_in p) l p.me.0) p.lib.resting) (ap state_in session_there)
+      ∙ not_ended tick end.session.state off))
       (λ tick. record {
         rows = refl;
         others = λ h d. refl;
@@ -292,7 +297,8 @@ end-of p st l there some = by (slice_index_or p.sessions.items l None) refl
   where
     by : (o : Option Open) → slice_index_or p.sessions.items l None ≡ o → (end : Open) × (slice_index_or p.sessions.items l None ≡ Some end)
     by None e =
-        absurd (some (at-is (wiring_in p) p.me.0 p.lib.bindings p.sessions.items 0 l l (omega arith) ∙ ap (option_map (session_in (wiring_in p) p.me.0 p.lib.bindings l)) e))
+        absurd (some (at-is (wiring_in p) p.me.0 p.lib.bindings p.sessions.items 0 l l (omega arith)
+        ∙ ap (option_map (session_in (wiring_in p) p.me.0 p.lib.bindings l)) e))
     by (Some end) e = (end, e)
 
 -- the events by which a session that was open closes

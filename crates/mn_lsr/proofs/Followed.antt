@@ -1,5 +1,6 @@
 -- What holds once events are followed: the labels that FECs have then, what may be told by them, and what they are used for.
-use Rattle.std.proofs.Common.{ℕ, zero, suc, ◌≡◌, ◌≢◌, ◌+◌, ◌*◌, ◌≤◌, ◌<◌, inl, inr, Bool, true, false, cond, List, [], ◌∷◌, ◌++◌, length, map, refl, arith, sym, ◌∙◌, ap, subst}
+use Rattle.std.proofs.Common.{ℕ, zero, suc, ◌≡◌, ◌≢◌, ◌+◌, ◌*◌, ◌≤◌, ◌<◌, inl, inr, Bool, true, false, cond, List, [], ◌∷◌, ◌++◌, length, map, refl, arith, sym}
+use Rattle.std.proofs.Common.{◌∙◌, ap, subst}
 use Rattle.std.proofs.Common.{Option, Some, None, length-append}
 use Rattle.std.specs.Prelude.{◌&&◌, not, slice_index_or}
 use Rattle.std.specs.List.{All, flat_map, range_with_len}
@@ -137,7 +138,8 @@ module _ (p : Parts) (withdrawn : ℕ) (es : List LibEvent) (may : MayFollow p w
     not_free k e = ap (λ x. not x && is_over p.lib.resting tick k) e
 
     pub have : HaveLabels p.me.0 (length p.loopbacks.items) (after_events p.lib.bindings es) table
-    have = have_then p.me.0 (length p.loopbacks.items) p.lib.bindings (after_events p.lib.bindings es) (is_free p.lib tick) p.labels table may.labels may.lib_nodes
+    have = have_then p.me.0 (length p.loopbacks.items) p.lib.bindings (after_events p.lib.bindings es) (is_free p.lib tick) p.labels table may.labels
+        may.lib_nodes
         not_free labels_are is.told_is is.me_is
 
     pub may_tell : MayTell (length p.loopbacks.items) p.me.0 table.labels withdrawn (tells p.lib.bindings es)
@@ -178,11 +180,13 @@ module _ (p : Parts) (withdrawn : ℕ) (es : List LibEvent) (may : MayFollow p w
 
       pub table_is : (label : ℕ) → IsUseOf (usable (after_events p.lib.bindings es)) (meaning_of table.labels label) (use_of uses label)
       table_is =
-          table_then p.me.0 (length p.loopbacks.items) p.lib.bindings (after_events p.lib.bindings es) (is_free p.lib tick) p.labels table may.labels may.lib_nodes
+          table_then p.me.0 (length p.loopbacks.items) p.lib.bindings (after_events p.lib.bindings es) (is_free p.lib tick) p.labels table may.labels
+          may.lib_nodes
           not_free labels_are is.told_is is.me_is p.lfib may.table uses ways others
 
       pub sites_are : (label : ℕ) → IsAttachment (meaning_of p.labels.labels label) →
           (meaning_of table.labels label ≡ meaning_of p.labels.labels label) × (use_of uses label ≡ use_of p.lfib label)
       sites_are =
-          sites_stay p.me.0 (length p.loopbacks.items) p.lib.bindings (after_events p.lib.bindings es) (is_free p.lib tick) p.labels table may.labels may.lib_nodes
+          sites_stay p.me.0 (length p.loopbacks.items) p.lib.bindings (after_events p.lib.bindings es) (is_free p.lib tick) p.labels table may.labels
+          may.lib_nodes
           not_free labels_are is.told_is is.me_is p.lfib may.table uses ways others

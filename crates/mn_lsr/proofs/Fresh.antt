@@ -1,4 +1,4 @@
--- A fresh node and bindings of which nothing was heard are tied.
+-- A fresh node and bindings of which nothing was received are tied.
 use Rattle.std.proofs.Common.{ℕ, zero, suc, ◌≡◌, ◌+◌, ◌<◌, inl, inr, true, false, List, [], ◌∷◌, length, map, refl, sym, ◌∙◌, ap, subst, Option}
 use Rattle.std.proofs.Common.{Some, None, Vec, Global}
 use Rattle.std.specs.Prelude.{◌==◌, ◌&&◌, ◌||◌, ◌%◌, nat_le, is_some, slice_index_or, replicate}
@@ -87,7 +87,7 @@ fresh_tied w me joins below = record {
     clash : true ≡ false → ⊥
     clash e = cc
 
--- of a node of which nothing was heard no FEC can be used
+-- of a node of which nothing was received no FEC can be used
 none_usable : (me : NodeNo) (nodes fec : ℕ) → usable (nothing_heard me nodes) fec ≡ None
 none_usable me nodes fec = ap (lib.usable_by (nothing_heard me nodes) fec) (none_there nodes fec)
 
@@ -266,7 +266,8 @@ module _ (me : NodeNo) (loopbacks : List ℕ) (ends : List LinkEnds) (life : ℕ
 
   pub made-stands : Stands p
   made-stands =
-      subst Stands (sym made-is) (stands me p.loopbacks ends p.mended p.sessions p.labels life p.attached p.links here wired-here h.sessions given-is h.given_by h.attached links-are mended-is)
+      subst Stands (sym made-is) (stands me p.loopbacks ends p.mended p.sessions p.labels life p.attached p.links here wired-here h.sessions given-is h.given_by
+      h.attached links-are mended-is)
 
   pub made-kept : kept_of p ≡ record {
     node = fresh_node (record { loopbacks = loopbacks; ends = ends }) me.0;

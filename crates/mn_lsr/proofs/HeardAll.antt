@@ -1,4 +1,4 @@
--- A node that hears messages one after another.
+-- A node that receives messages one after another.
 use Rattle.std.proofs.Common.{ℕ, suc, ◌≡◌, ◌+◌, ◌<◌, List, ◌∷◌, ◌++◌, length, drop, refl, arith, sym, ◌∙◌, ap, subst, Option, Some, None}
 use Rattle.std.specs.Prelude.{slice_index_or, option_map}
 use Rattle.std.proofs.Math.Seq.{drop-cons}
@@ -29,14 +29,16 @@ module _ (messages : List LdpMessage) (i : ℕ) (d : LdpMessage) (below : i < le
       then_out ++ (after_messages w tick l then_n (drop (i + 1) messages)).said ≡ out ++ (after_messages w tick l n (drop i messages)).said
   said-step w tick l n then_n out then_out e f =
       ap (λ xs. xs ++ (after_messages w tick l then_n (drop (i + 1) messages)).said) f
-      ∙ ap (λ m. (out ++ (after_message w tick l n (message_in w (slice_index_or messages i d).body)).said) ++ (after_messages w tick l m (drop (i + 1) messages)).said) e
+      ∙ ap (λ m. (out ++ (after_message w tick l n (message_in w (slice_index_or messages i d).body)).said)
+      ++ (after_messages w tick l m (drop (i + 1) messages)).said) e
       ∙ append_assoc out (after_message w tick l n (message_in w (slice_index_or messages i d).body)).said
       (after_messages w tick l (after_message w tick l n (message_in w (slice_index_or messages i d).body)).kept (drop (i + 1) messages)).said
       ∙ ap (λ ms. out ++ (after_messages w tick l n ms).said) (sym seam)
 
   pub node-step : (w : Wiring) (tick l : ℕ) (n then_n : Kept) → then_n ≡ (after_message w tick l n (message_in w (slice_index_or messages i d).body)).kept
       → (after_messages w tick l then_n (drop (i + 1) messages)).kept ≡ (after_messages w tick l n (drop i messages)).kept
-  node-step w tick l n then_n e = ap (λ m. (after_messages w tick l m (drop (i + 1) messages)).kept) e ∙ ap (λ ms. (after_messages w tick l n ms).kept) (sym seam)
+  node-step w tick l n then_n e = ap (λ m. (after_messages w tick l m (drop (i + 1) messages)).kept) e
+      ∙ ap (λ ms. (after_messages w tick l n ms).kept) (sym seam)
 
   both : (session : Machine) (from : LdpId) → first_refusal session from (slice_index_or messages i d ∷ drop (i + 1) messages) ≡ None
       → (refusal session from (slice_index_or messages i d).body ≡ None)

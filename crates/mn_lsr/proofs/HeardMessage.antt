@@ -1,5 +1,6 @@
--- A node that hears a message.
-use Rattle.std.proofs.Common.{ℕ, zero, suc, ◌≡◌, ◌≢◌, ◌≤◌, ◌<◌, ◌^◌, inl, inr, Bool, true, false, List, [], ◌∷◌, ◌++◌, length, refl, arith, sym, ◌∙◌, ap, subst, replicate}
+-- A node that receives a message.
+use Rattle.std.proofs.Common.{ℕ, zero, suc, ◌≡◌, ◌≢◌, ◌≤◌, ◌<◌, ◌^◌, inl, inr, Bool, true, false, List, [], ◌∷◌, ◌++◌, length, refl, arith, sym, ◌∙◌, ap, subst}
+use Rattle.std.proofs.Common.{replicate}
 use Rattle.std.proofs.Common.{Option, Some, None}
 use Rattle.std.specs.Prelude.{◌==◌, ◌||◌, not, nat_le, is_some, slice_index_or, slice_set, option_map, position, if◌then◌else◌, ⊤}
 use Rattle.std.specs.List.{flat_map}
@@ -242,7 +243,8 @@ module _ (p : Parts) (st : Stands p) (l : ℕ) (there : l < length p.view.ends) 
     rows = ap (λ (x : Resting). length x.owed) (stays tick);
     others = λ h d. ap (λ x. rests.row_of x h) (stays tick);
     open_is = ap (λ x. is_some (rests.row_of x (across (wiring_in p) l p.me.0))) (stays tick) ∙ rests_open ∙ sym same;
-    far_owes = subst (λ x. Owes (wiring_in p) p.me.0 x (slice_set p.sessions.items l (Some (heard_end next))) (across (wiring_in p) l p.me.0)) (sym (stays tick))
+    far_owes = subst (λ x. Owes (wiring_in p) p.me.0 x (slice_set p.sessions.items l (Some (heard_end next))) (across (wiring_in p) l p.me.0))
+        (sym (stays tick))
         (far-still p st l there at_end p.lib.resting end (heard_end next) is (omega arith) (λ f. omega arith) (λ none. none));
   }
 
@@ -265,7 +267,8 @@ module _ (p : Parts) (st : Stands p) (l : ℕ) (there : l < length p.view.ends) 
   began label e =
       let off : nat_le 2 (count_by end.session.state) ≡ false = ap (λ s. nat_le 2 (count_by s)) e in
       let row_none : old_row ≡ None = none old_row (open-is ∙ off) in
-      heard KeepAlive label Operational (event.Opened (record { 0 = across (wiring_in p) l p.me.0 }) ∷ []) (Some (replicate (nodes p.lib.bindings) None)) answer.Begins
+      heard KeepAlive label Operational (event.Opened (record { 0 = across (wiring_in p) l p.me.0 }) ∷ []) (Some (replicate (nodes p.lib.bindings) None))
+      answer.Begins
       (ap (λ s. state_after s KeepAlive) e) refl
       (ap (labels_in (length p.loopbacks.items)) row_none ∙ ap (λ k. let o : List (Option ℕ) = replicate k None in o) (sym st.tied.one_each)) refl
       (λ on. off ∙ sym (ap (λ b. not (b || false)) (test_same (across (wiring_in p) l p.me.0))))
@@ -276,7 +279,8 @@ module _ (p : Parts) (st : Stands p) (l : ℕ) (there : l < length p.view.ends) 
       (λ tick. record {
         rows = length-set p.lib.resting.owed (across (wiring_in p) l p.me.0) _;
         others = λ h d. get_or-set_other p.lib.resting.owed (across (wiring_in p) l p.me.0) h _ None d;
-        open_is = ap is_some (get_or-set_same p.lib.resting.owed (across (wiring_in p) l p.me.0) (Some (replicate (length p.lib.resting.rested) 0)) None inside);
+        open_is = ap is_some (get_or-set_same p.lib.resting.owed (across (wiring_in p) l p.me.0) (Some (replicate (length p.lib.resting.rested) 0)) None
+            inside);
         far_owes = AtMost l (heard_end Operational) (only p st l there at_end)
             (get_or-set_same p.sessions.items l (Some (heard_end Operational)) None (omega (arith, there, st.ends.one_each, length-machines p.sessions.items)))
             (λ f. subst (λ o. count_in o f ≤ end.said)
@@ -329,7 +333,8 @@ module _ (p : Parts) (st : Stands p) (l : ℕ) (there : l < length p.view.ends) 
           rows = length-set p.lib.resting.owed (across (wiring_in p) l p.me.0) _;
           others = λ h d. get_or-set_other p.lib.resting.owed (across (wiring_in p) l p.me.0) h _ None d;
           open_is = released-open p.lib.resting (across (wiring_in p) l p.me.0) fec tick (across (wiring_in p) l p.me.0) ∙ rests_open;
-          far_owes = far-still p st l there at_end (rests.released p.lib.resting (across (wiring_in p) l p.me.0) fec tick) end (heard_end Operational) is (omega arith)
+          far_owes = far-still p st l there at_end (rests.released p.lib.resting (across (wiring_in p) l p.me.0) fec tick) end (heard_end Operational) is
+              (omega arith)
               (λ f. released-at p.lib.resting (across (wiring_in p) l p.me.0) fec tick f)
               (λ none. unowed (rests.row_of (rests.released p.lib.resting (across (wiring_in p) l p.me.0) fec tick) (across (wiring_in p) l p.me.0))
               (released-open p.lib.resting (across (wiring_in p) l p.me.0) fec tick (across (wiring_in p) l p.me.0) ∙ ap is_some none));
@@ -423,7 +428,8 @@ module _ (p : Parts) (st : Stands p) (l : ℕ) (there : l < length p.view.ends) 
       → row end.session.state (kind_of body) ≡ Some (reply, machine.state) → machine ≡ record end.session { state = machine.state } →
       to.0 ≡ across (wiring_in p) l p.me.0 → es ≡ heard_by to (begins reply) m label
       → ends ≡ slice_set p.sessions.items l (Some (record { session = machine; said = end.said }))
-      → Happens p (Hears l m label) p.view.counts es ends l (replied reply) × ((labels : Labels) → MayTell (length p.loopbacks.items) p.me.0 labels label (releases es))
+      → Happens p (Hears l m label) p.view.counts es ends l (replied reply) × ((labels : Labels) →
+      MayTell (length p.loopbacks.items) p.me.0 labels label (releases es))
   hearing-as body m label reply machine to es ends meant f e g i j =
       let es_are : es ≡ heard_by (record { 0 = across (wiring_in p) l p.me.0 }) (begins reply) m label =
       i ∙ ap (λ k. heard_by (let o : NodeNo = record { 0 = k } in o) (begins reply) m label) g in

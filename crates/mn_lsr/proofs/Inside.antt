@@ -1,4 +1,4 @@
--- What a node says and hears inside the network.
+-- What a node says and receives inside the network.
 use Rattle.std.proofs.Common.{ℕ, suc, ◌≡◌, ◌+◌, ◌<◌, ◌≤◌, Bool, true, false, List, [], ◌∷◌, ◌++◌, length, refl, arith, sym, ◌∙◌, ap, subst, append-nil}
 use Rattle.std.proofs.Common.{Option, Some, None, Ok, Result}
 use Rattle.std.specs.Prelude.{◌%◌, ◌&&◌, if◌then◌else◌, ⊤}
@@ -12,7 +12,8 @@ use Rattle.mn_ldp_wire.specs.declared.message.LdpBody.{LdpBody}
 use Rattle.mn_ldp_wire.specs.Message.{PduContents}
 use Rattle.mn_ldp_wire.specs.Grammar.{written}
 use Rattle.mn_ldp_session.specs.Table.{refusal}
-use Rattle.mn_ldp_session.specs.Spelling.{Pdu, pdus, pdu_in_network, withdrawn_by, body_of, id_of, count_of, one_said, label_with, AreSpelled, SpeaksOfNode, IsHeardAsSaid}
+use Rattle.mn_ldp_session.specs.Spelling.{Pdu, pdus, pdu_in_network, withdrawn_by, body_of, id_of, count_of, one_said, label_with, AreSpelled, SpeaksOfNode}
+use Rattle.mn_ldp_session.specs.Spelling.{IsHeardAsSaid}
 use Rattle.mn_ldp_session.proofs.Hearable.{heard_as_said}
 use Rattle.mn_node.specs.Ldp.{Message, Initialization, KeepAlive, Address, Mapping, Withdraw, Release, Said, said_on, answer, Knowledge, is_operational}
 use Rattle.mn_node.specs.Ldp.{mention, mentioned_on, mentioned_from, offered, offers, by_neighbour, news}
@@ -24,7 +25,7 @@ use Rattle.mn_lsr.specs.Hearing.{Heard, after_bytes, after_read, after_tried, af
 use Rattle.mn_lsr.specs.declared.refusal.LsrBad.{LsrBad}
 use Rattle.mn_lsr.specs.InNetwork.{Labelling, IsHeardInside, SpeakOfNodes, label_withdrawn, pdus_in_network, SpeaksInside, IsHeardAsOne, MayBeHeard}
 
--- 1. What is said, a message at a time
+-- 1. What is sent, a message at a time
 
 -- a Release is of the label that is withdrawn
 abbrev IsReleased : Wiring → Labelling → ℕ → ℕ → ℕ → Message → Type 0
@@ -39,7 +40,8 @@ abbrev AreInside : Wiring → Labelling → ℕ → ℕ → List Said → Type 0
 AreInside w given me withdrawn [] = ⊤
 AreInside w given me withdrawn (x ∷ xs) = IsInside w given me withdrawn x × AreInside w given me withdrawn xs
 
-inside-append : (w : Wiring) (given : Labelling) (me withdrawn : ℕ) (xs ys : List Said) → AreInside w given me withdrawn xs → AreInside w given me withdrawn ys →
+inside-append : (w : Wiring) (given : Labelling) (me withdrawn : ℕ) (xs ys : List Said) → AreInside w given me withdrawn xs →
+    AreInside w given me withdrawn ys →
     AreInside w given me withdrawn (xs ++ ys)
 inside-append w given me withdrawn [] ys h g = g
 inside-append w given me withdrawn (x ∷ xs) ys h g = (h.0, inside-append w given me withdrawn xs ys h.1 g)
@@ -121,7 +123,8 @@ of-answers : (w : Wiring) (given : Labelling) (n : Node) (e : Event) → IsHeard
 of-answers w given n (Learns l) h = tt
 of-answers w given n (Opens l) h = of-first w given n.me l (speaks_first w l n.me)
 of-answers w given n (Closes l) h = tt
-of-answers w given n (Hears l message label) h = subst (λ k. AreInside w given n.me k (said_on l n.me (answer_in (session_at n l) message))) (sym h.1) (by (session_at n l))
+of-answers w given n (Hears l message label) h =
+    subst (λ k. AreInside w given n.me k (said_on l n.me (answer_in (session_at n l) message))) (sym h.1) (by (session_at n l))
   where
     by : (s : Option Session) → AreInside w given n.me (label_with (given (across w l n.me)) message) (said_on l n.me (answer_in s message))
     by None = tt
@@ -172,12 +175,13 @@ speaks w given n e h = record {
       (subst (λ me. AreInside w given me (label_withdrawn e) (said w n e)) (sym (me-stays w n e)) (are-inside w given n e h));
 }
 
--- 5. How it is heard
+-- 5. How it is received
 
 pub heard : (w : Wiring) (given : Labelling) (tick l far id : ℕ) (message : Message) (k : Kept) (s : Session) → AreSpelled w →
     MayBeHeard w given l far message k.node s → IsHeardAsOne w given tick l far id message k s
 heard w given tick l far id message k s spelled may =
-    ap (λ to. after_bytes w tick l k s (written (id_of w far) (record { id = id; body = body_of w far (given far) to (withdrawn_by (given k.node.me) message) message })))
+    ap (λ to. after_bytes w tick l k s
+    (written (id_of w far) (record { id = id; body = body_of w far (given far) to (withdrawn_by (given k.node.me) message) message })))
     may.this_end
     ∙ ap (after_bytes w tick l k s) (sym (written_low (id_of w far) body id))
     ∙ ap (after_read w tick l k (session_over w l k.node.me s)) is.read

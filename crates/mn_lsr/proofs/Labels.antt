@@ -8,7 +8,8 @@ use Rattle.mn_lfib.specs.declared.answer.Use.{Use}
 use Rattle.mn_lfib.specs.Uses.{use_of, fec_use, IsNotSite}
 
 -- no two FECs have one label
-pub labels_differ : (labels : Labels) → IsTold labels → (one other label : ℕ) → label_now labels one ≡ Some label → label_now labels other ≡ Some label → one ≡ other
+pub labels_differ : (labels : Labels) → IsTold labels → (one other label : ℕ) → label_now labels one ≡ Some label → label_now labels other ≡ Some label →
+    one ≡ other
 labels_differ labels told one other label e f = same (sym ((told label (fec_of one)).1 e) ∙ (told label (fec_of other)).1 f)
   where
     inner : {a b : NodeNo} → (let o : Option Bind = Some (fec_of a.0) in o) ≡ Some (fec_of b.0) → a.0 ≡ b.0

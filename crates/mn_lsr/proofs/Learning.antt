@@ -50,7 +50,8 @@ no-rest tick r same table zero q = refl
 no-rest tick r same table (suc n) q = by (same q) (no-rest tick r same table n (q + 1))
   where
     by : (x : Bool) → rested_events tick r (flat_map (hop_event same table) (range_with_len (q + 1) n)) ≡ r →
-        rested_events tick r ((if x then [] else event.Next (record { 0 = q }) (next_at table q) ∷ []) ++ flat_map (hop_event same table) (range_with_len (q + 1) n)) ≡ r
+        rested_events tick r ((if x then [] else event.Next (record { 0 = q }) (next_at table q) ∷ []) ++ flat_map (hop_event same table)
+        (range_with_len (q + 1) n)) ≡ r
     by true h = h
     by false h = h
 
@@ -68,7 +69,8 @@ learning p st l tree tree_is =
       is = ap (λ b. let o : Node =
           record { me = p.me.0; learned = (after_learn p.view l).counts; sessions = sessions_from w p.me.0 b 0 p.sessions.items } in o) follow
           ∙ ap (λ ss. let o : Node = record { me = p.me.0; learned = (after_learn p.view l).counts; sessions = ss } in o)
-          (sessions-hops w p.me.0 p.lib.bindings (map (λ fec. hop_alone (next w (view_in (changed w n (Learns l))) p.me.0 fec)) (nodes_of w)) 0 p.sessions.items);
+          (sessions-hops w p.me.0 p.lib.bindings (map (λ fec. hop_alone (next w (view_in (changed w n (Learns l))) p.me.0 fec)) (nodes_of w)) 0
+          p.sessions.items);
       tied = subst (AreTied w (changed w n (Learns l))) (sym follow)
           (still_tied w n p.lib.bindings l tree st.wired.joins st.wired.differ st.wired.once st.me st.tied tree_is);
       was = λ h k below j on. on ∙ sym (ap not (opens-none (stays p.me.0 p.lib.bindings.hops tree) tree h (length p.loopbacks.items) 0));
@@ -98,8 +100,10 @@ pub events-of : (p : Parts) → Stands p → (l : ℕ) (v : Learned) (tree : Pat
 events-of p st l v tree k es ds e f g h = h ∙ g ∙ ap (hop_events p.me.0 p.lib.bindings.hops tree) (f ∙ ap (λ x. x.nodes) e ∙ st.nodes)
 
 -- they withdraw nothing
-pub releases-of : (p : Parts) (tree : PathTable) (withdrawn : ℕ) (es : List LibEvent) → es ≡ hop_events p.me.0 p.lib.bindings.hops tree (length p.loopbacks.items) →
+pub releases-of : (p : Parts) (tree : PathTable) (withdrawn : ℕ) (es : List LibEvent) →
+    es ≡ hop_events p.me.0 p.lib.bindings.hops tree (length p.loopbacks.items) →
     (labels : Labels) → MayTell (length p.loopbacks.items) p.me.0 labels withdrawn (releases es)
 releases-of p tree withdrawn es e labels =
-    subst (MayTell (length p.loopbacks.items) p.me.0 labels withdrawn) (sym (ap releases e ∙ releases-none (stays p.me.0 p.lib.bindings.hops tree) tree (length p.loopbacks.items) 0))
+    subst (MayTell (length p.loopbacks.items) p.me.0 labels withdrawn) (sym (ap releases e
+    ∙ releases-none (stays p.me.0 p.lib.bindings.hops tree) tree (length p.loopbacks.items) 0))
     tt

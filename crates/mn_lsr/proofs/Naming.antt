@@ -1,5 +1,6 @@
 -- Which labels a node's FECs have once some are offered newly, and what they are used for.
-use Rattle.std.proofs.Common.{ℕ, zero, suc, ◌≡◌, ◌≢◌, ◌+◌, ◌≤◌, ◌<◌, ◌⊎◌, inl, inr, Bool, true, false, cond, List, [], ◌∷◌, ◌++◌, filter, length, refl, arith, sym, ◌∙◌, ap, subst}
+use Rattle.std.proofs.Common.{ℕ, zero, suc, ◌≡◌, ◌≢◌, ◌+◌, ◌≤◌, ◌<◌, ◌⊎◌, inl, inr, Bool, true, false, cond, List, [], ◌∷◌, ◌++◌, filter, length, refl, arith}
+use Rattle.std.proofs.Common.{sym, ◌∙◌, ap, subst}
 use Rattle.std.proofs.Common.{Option, Some, None}
 use Rattle.std.specs.Prelude.{◌==◌, ◌&&◌, ◌||◌, not, is_some}
 use Rattle.std.specs.List.{flat_map, range_with_len, list_any}
@@ -33,7 +34,8 @@ flat_filter : (p : ℕ → Bool) (xs : List ℕ) → flat_map (λ x. cond (p x) 
 flat_filter p [] = refl
 flat_filter p (x ∷ xs) = by (p x) (flat_filter p xs)
   where
-    by : (b : Bool) → flat_map (λ y. cond (p y) (y ∷ []) []) xs ≡ filter p xs → cond b (x ∷ []) [] ++ flat_map (λ y. cond (p y) (y ∷ []) []) xs ≡ cond b (x ∷ filter p xs) (filter p xs)
+    by : (b : Bool) → flat_map (λ y. cond (p y) (y ∷ []) []) xs ≡ filter p xs →
+        cond b (x ∷ []) [] ++ flat_map (λ y. cond (p y) (y ∷ []) []) xs ≡ cond b (x ∷ filter p xs) (filter p xs)
     by true e = ap (λ ys. x ∷ ys) e
     by false e = e
 
@@ -133,20 +135,23 @@ module _ (me n : ℕ) (b a : Bindings) (free : ℕ → Bool) (table then_table :
   -- a label that a FEC has and that isn't newly offered it had before
   was_its : (p label : ℕ) → offers a p ≡ offers b p → label_now then_table.labels p ≡ Some label → label_now table.labels p ≡ Some label
   was_its p label same e =
-      offered_was free table.labels (begun b a) p label (λ i. let f = begun_in b a p i in clash (sym f.2 ∙ same ∙ f.1)) (ap (λ l. label_now l p) (sym labels_is) ∙ e)
+      offered_was free table.labels (begun b a) p label (λ i. let f = begun_in b a p i in clash (sym f.2 ∙ same ∙ f.1)) (ap (λ l. label_now l p) (sym labels_is)
+      ∙ e)
     where
       clash : true ≡ false → ⊥
       clash g = cc
 
   -- attachments are the same
-  site_then : (site : SiteNo) (k label : ℕ) → meaning_of table.labels label ≡ Some (bind.Site site k) → meaning_of then_table.labels label ≡ Some (bind.Site site k)
+  site_then : (site : SiteNo) (k label : ℕ) → meaning_of table.labels label ≡ Some (bind.Site site k) →
+      meaning_of then_table.labels label ≡ Some (bind.Site site k)
   site_then site k label e =
       let g : Given = record { label = label; what = bind.Site site k } in
       let i = in_contained table.labels.given g ((have.told label (bind.Site site k)).0 e) in
       (told label (bind.Site site k)).1
       (contained_in then_table.labels.given g (subst (λ (l : Labels). In l.given g) (sym labels_is) ((offered_sites free table.labels (begun b a) g refl).0 i)))
 
-  pub site_was : (site : SiteNo) (k label : ℕ) → meaning_of then_table.labels label ≡ Some (bind.Site site k) → meaning_of table.labels label ≡ Some (bind.Site site k)
+  pub site_was : (site : SiteNo) (k label : ℕ) → meaning_of then_table.labels label ≡ Some (bind.Site site k) →
+      meaning_of table.labels label ≡ Some (bind.Site site k)
   site_was site k label e =
       let g : Given = record { label = label; what = bind.Site site k } in
       let i = in_contained then_table.labels.given g ((told label (bind.Site site k)).0 e) in
@@ -187,10 +192,12 @@ module _ (me n : ℕ) (b a : Bindings) (free : ℕ → Bool) (table then_table :
       unnamed label off = others label (λ p e. off p ((told label (fec_of p)).1 e))
 
       -- what has been given up had no use
-      given_up_unused : (fec label : ℕ) → meaning_of table.labels label ≡ Some (fec_of fec) → meaning_of then_table.labels label ≡ None → use_of uses label ≡ None
+      given_up_unused : (fec label : ℕ) → meaning_of table.labels label ≡ Some (fec_of fec) → meaning_of then_table.labels label ≡ None →
+          use_of uses label ≡ None
       given_up_unused fec label e gone = elim (two_ways (offers b fec)) [
         | inl on ↦ absurd (clash (sym ((told label (fec_of fec)).1 (kept fec label (free_is fec on) ((have.told label (fec_of fec)).0 e))) ∙ gone))
-        | inr off ↦ subst (λ m. IsUseOf (usable b) m (use_of uses label)) e (stands label) ∙ ap fec_use (unusable (usable b fec) (or_off (b.me.0 == fec) (usable b fec) off))
+        | inr off ↦ subst (λ m. IsUseOf (usable b) m (use_of uses label)) e (stands label)
+            ∙ ap fec_use (unusable (usable b fec) (or_off (b.me.0 == fec) (usable b fec) off))
       ]
         where
           clash : (let x : Option Bind = Some (fec_of fec) in x) ≡ None → ⊥
@@ -287,7 +294,8 @@ any_filter q p (suc n) s low high = elim (eqb_tells s p) [
     there false e i = i
 
 -- a FEC is one of those that were found just where it is free, or it has no label
-pub found_free : (known : Known) (labels : Labels) (tick n : ℕ) (free : List NodeNo) → numbers free ≡ flat_map (free_of known labels tick) (range_with_len 0 n) →
+pub found_free : (known : Known) (labels : Labels) (tick n : ℕ) (free : List NodeNo) →
+    numbers free ≡ flat_map (free_of known labels tick) (range_with_len 0 n) →
     (p : ℕ) → p < n → (is_one_of free p ≡ is_free known tick p) ⊎ (label_now labels p ≡ None)
 found_free known labels tick n free e p h = by (label_now labels p) refl
   where
@@ -295,7 +303,8 @@ found_free known labels tick n free e p h = by (label_now labels p) refl
     test fec = is_some (label_now labels fec) && is_free known tick fec
 
     found : is_one_of free p ≡ is_some (label_now labels p) && is_free known tick p
-    found = one_of_numbers free p ∙ ap (list_any (λ k. k == p)) (e ∙ flat_filter (λ fec. is_some (label_now labels fec) && is_free known tick fec) (range_with_len 0 n))
+    found = one_of_numbers free p ∙ ap (list_any (λ k. k == p)) (e
+        ∙ flat_filter (λ fec. is_some (label_now labels fec) && is_free known tick fec) (range_with_len 0 n))
         ∙ any_filter (λ fec. is_some (label_now labels fec) && is_free known tick fec) p n 0 (omega arith) (omega (arith, h))
 
     by : (o : Option ℕ) → label_now labels p ≡ o → (is_one_of free p ≡ is_free known tick p) ⊎ (label_now labels p ≡ None)

@@ -1,5 +1,6 @@
 -- What is noted of a link is what was noted of it last.
-use Rattle.std.proofs.Common.{ℕ, zero, suc, ◌≡◌, ◌+◌, ◌-◌, ◌<◌, ◌≤◌, Bool, true, false, List, [], ◌∷◌, length, get_or, set, map, replicate, refl, arith, sym, ◌∙◌, ap, subst, Option, None, inl, inr, Less, Equal, Greater}
+use Rattle.std.proofs.Common.{ℕ, zero, suc, ◌≡◌, ◌+◌, ◌-◌, ◌<◌, ◌≤◌, Bool, true, false, List, [], ◌∷◌, length, get_or, set, map, replicate, refl, arith, sym}
+use Rattle.std.proofs.Common.{◌∙◌, ap, subst, Option, None, inl, inr, Less, Equal, Greater}
 use Rattle.std.specs.Prelude.{◌==◌, if◌then◌else◌}
 use Rattle.std.specs.List.{HoldsAt, insert, list_all, range_with_len}
 use Rattle.std.specs.List.Sorted.{IsNonDecreasingBy, IsPartitionPoint}
@@ -133,7 +134,8 @@ inserted_ascends es i x within under over up a b d lt there =
 pub set_ends : (n : ℕ) (es fs : List End) (l : ℕ) (o : Option Open) → l < length (ends_of n es) →
     ((k : ℕ) → end_of fs k ≡ (if l == k then o else end_of es k)) → ends_of n fs ≡ set (ends_of n es) l o
 set_ends n es fs l o h all =
-    sym (fill_by_all (end_of fs) (set (ends_of n es) l o) n None (length-set (ends_of n es) l o ∙ length-map-range_with_len (end_of es) 0 n) (λ k g. elim (eqb_tells l k) [
+    sym (fill_by_all (end_of fs) (set (ends_of n es) l o) n None (length-set (ends_of n es) l o
+    ∙ length-map-range_with_len (end_of es) 0 n) (λ k g. elim (eqb_tells l k) [
       | inl q ↦ subst (λ j. get_or (set (ends_of n es) l o) j None ≡ end_of fs j) q.1
           (get_or-set_same (ends_of n es) l o None h ∙ sym (all l ∙ ap (λ b. if b then o else end_of es l) (same_test l)))
       | inr q ↦ get_or-set_other (ends_of n es) l k o None (λ e. q.1 (sym e)) ∙ get_or-map-range_with_len (end_of es) 0 n k k None g (omega arith)

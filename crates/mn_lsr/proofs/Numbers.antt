@@ -1,4 +1,4 @@
--- How far the numbers of what is said go: no end has said more than it had, and all that was said since.
+-- How far the numbers of what is sent go: no end has sent more than it had, and all that was sent since.
 use Rattle.std.proofs.Common.{ℕ, true, zero, suc, ◌≡◌, ◌+◌, ◌≤◌, ◌^◌, List, [], ◌∷◌, ◌++◌, map, length, length-append, refl, arith}
 use Rattle.std.proofs.Common.{sym, ap, subst, Option, Some, None}
 use Rattle.std.specs.Prelude.{slice_index_or, slice_set, option_map}
@@ -29,13 +29,13 @@ most-set f m (y ∷ ys) (suc k) (suc j) x h = most-set f m ys k j x h
 
 -- 2. By the ends of the sessions
 
--- an end that is set has said no more than the one before
+-- an end that is set has sent no more than the one before
 pub set-fits : (ends then_ends : List (Option Open)) (k said : ℕ) (x : Option Open) → then_ends ≡ slice_set ends k x →
     said_in x ≤ said_in (slice_index_or ends k None) → NumbersFit ends said → NumbersFit then_ends said
 set-fits ends then_ends k said x e h fit =
     subst (λ es. NumbersFit es said) (sym e) (λ l. omega (arith, fit l, most-set said_in 0 ends k l x (omega (arith, h))))
 
--- its end has said as much as the session's
+-- its end has sent as much as the session's
 pub as-much : (ends : List (Option Open)) (l : ℕ) (was : Open) → slice_index_or ends l None ≡ Some was → was.said ≤ said_in (slice_index_or ends l None)
 as-much ends l was e = subst (λ o. was.said ≤ said_in o) (sym e) (omega arith)
 
@@ -57,11 +57,12 @@ after-fits ends (x ∷ xs) said fit l =
           )) l,
     )
 
-length-pdus : (w : Wiring) (me : ℕ) (own : ℕ → ℕ) (withdrawn : ℕ) (ends : List (Option Open)) (xs : List Said) → length (pdus_by w me own withdrawn ends xs) ≡ length xs
+length-pdus : (w : Wiring) (me : ℕ) (own : ℕ → ℕ) (withdrawn : ℕ) (ends : List (Option Open)) (xs : List Said) →
+    length (pdus_by w me own withdrawn ends xs) ≡ length xs
 length-pdus w me own withdrawn ends [] = refl
 length-pdus w me own withdrawn ends (x ∷ xs) = ap suc (length-pdus w me own withdrawn (bumped ends x.link) xs)
 
--- once these are said
+-- once these are sent
 pub said-fits : (w : Wiring) (me : ℕ) (own : ℕ → ℕ) (withdrawn : ℕ) (ends then_ends : List (Option Open)) (xs : List Said) (before after_it : List Spoken) →
     then_ends ≡ ends_after ends xs → map pdu_of after_it ≡ map pdu_of before ++ pdus_by w me own withdrawn ends xs →
     NumbersFit ends (length before) → NumbersFit then_ends (length after_it)
@@ -91,7 +92,7 @@ by-ends p said has l =
       count-is (wiring_in p) p.me.0 p.lib.bindings l (slice_index_or p.sessions.items l None),
     )
 
--- where all ends have said little, so has the node
+-- where all ends have sent little, so has the node
 pub all-have : (p : Parts) → ((l : ℕ) → has_numbers (slice_index_or p.sessions.items l None) ≡ true) → HasNumbers (node_in p)
 all-have p h l =
     omega (
@@ -103,11 +104,11 @@ all-have p h l =
 
 -- 4. What is owed
 
--- no neighbour owes more Releases than was said
+-- no neighbour owes more Releases than was sent
 pub few-owed : (p : Parts) → Stands p → (said : ℕ) → NumbersFit p.sessions.items said → AreFew (2 ^ 62 + said) p.lib.resting
 few-owed p st said fit = few-owe (wiring_in p) p.me.0 p.lib.resting p.sessions.items said st.owed.each fit
 
--- nor once more was said
+-- nor once more was sent
 pub few-still : (p : Parts) (few more : ℕ) → few ≤ more → AreFew (2 ^ 62 + few) p.lib.resting → AreFew (2 ^ 62 + more) p.lib.resting
 few-still p few more h owed neighbour fec = steps (owed neighbour fec)
   where

@@ -1,4 +1,4 @@
--- A neighbour that opens has said no label, so no way changes.
+-- A neighbour that opens has sent no label, so no way changes.
 use Rattle.std.proofs.Common.{ℕ, zero, suc, ◌≡◌, true, false, List, [], ◌∷◌, Option, Some, None, refl, ap, replicate}
 use Rattle.std.specs.Prelude.{is_some, slice_index_or, slice_set}
 use Rattle.mn_base.specs.declared.numbers.NodeNo.{NodeNo}

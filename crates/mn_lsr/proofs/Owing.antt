@@ -27,7 +27,8 @@ count-none r to fec e =
     ∙ ap (λ xs. let s : Resting = record r { owed = xs } in s) (set-get_or r.owed to None)
 
 -- a row that was set is that one, or there is none
-row-set : (rows : List (Option (List ℕ))) (k : ℕ) (x : Option (List ℕ)) → (slice_index_or (slice_set rows k x) k None ≡ x) ⊎ (slice_index_or (slice_set rows k x) k None ≡ None)
+row-set : (rows : List (Option (List ℕ))) (k : ℕ) (x : Option (List ℕ)) →
+    (slice_index_or (slice_set rows k x) k None ≡ x) ⊎ (slice_index_or (slice_set rows k x) k None ≡ None)
 row-set [] k x = inr refl
 row-set (row ∷ rows) zero x = inl refl
 row-set (row ∷ rows) (suc k) x = row-set rows k x
@@ -129,7 +130,7 @@ after-has ends (x ∷ xs) l end e =
 -- 3. One neighbour
 
 module _ (w : Wiring) (me : ℕ) where
-  -- what is said changes nothing but the ends
+  -- what is sent changes nothing but the ends
   pub ends-owe : (r : Resting) (ends : List (Option Open)) (xs : List Said) (h : ℕ) → Owes w me r ends h → Owes w me r (ends_after ends xs) h
   ends-owe r ends xs h (Nothing e) = Nothing e
   ends-owe r ends xs h (AtMost l end j at few) =
@@ -138,7 +139,7 @@ module _ (w : Wiring) (me : ℕ) where
       steps : {a b c : ℕ} → a ≤ b → b ≤ c → a ≤ c
       steps f g = omega (arith, f, g)
 
-  -- nobody owes more than was said
+  -- nobody owes more than was sent
   pub few-owe : (r : Resting) (ends : List (Option Open)) (said : ℕ) → ((h : ℕ) → Owes w me r ends h) → NumbersFit ends said → AreFew (2 ^ 62 + said) r
   few-owe r ends said owes fit h fec = by (owes h)
     where
@@ -164,7 +165,7 @@ module _ (w : Wiring) (me : ℕ) where
   owed-nothing tells.Withdraw r to fec e = count-none r to fec e
   owed-nothing tells.Release r to fec e = refl
 
-  -- what is owed for a tell is what is owed for what is said
+  -- what is owed for a tell is what is owed for what is sent
   one-told : (r : Resting) (ends : List (Option Open)) (t : Tell) → IsJoined t.to.0 → Owes w me r ends t.to.0 →
       owed_by t.kind r t.to.0 t.fec.0 ≡ owed_for_said w me r (said_by_tell w me t)
   one-told r ends t (inl none) (Nothing e) = owed-nothing t.kind r t.to.0 t.fec.0 e ∙ sym (ap (owed_for_said w me r) (tell-said t [] none))
@@ -176,7 +177,7 @@ module _ (w : Wiring) (me : ℕ) where
       sym (ap (owed_for_said w me r) (tell-said t (one.0 ∷ []) one.1)
       ∙ ap (λ to. owed_for_message (message_of t.kind t.fec.0) to r) one.2 ∙ owed-message t.kind r t.to.0 t.fec.0)
 
-  -- after a tell each neighbour owes no more than was said
+  -- after a tell each neighbour owes no more than was sent
   one-owes : (r : Resting) (ends : List (Option Open)) (t : Tell) (h : ℕ) → IsJoined t.to.0 → Owes w me r ends t.to.0 → Owes w me r ends h →
       Owes w me (owed_by t.kind r t.to.0 t.fec.0) (ends_after ends (said_by_tell w me t)) h
   one-owes r ends t h joined at_to owes = by t.kind refl

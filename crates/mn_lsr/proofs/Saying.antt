@@ -146,7 +146,7 @@ counted_none : (q me : ℕ) (ss : List (Option Session)) → counted_from q me [
 counted_none q me [] = refl
 counted_none q me (s ∷ ss) = ap (λ x. x ∷ counted_from (q + 1) me [] ss) (count_none s) ∙ ap (λ xs. s ∷ xs) (counted_none (q + 1) me ss)
 
--- the node by its ends, once all is said
+-- the node by its ends, once all is sent
 pub having-by : (w : Wiring) (me : ℕ) (lib : Bindings) (learned : List ℕ) (ends : List (Option Open)) (xs : List Said) → EachBy me xs
     → having_said (with_ends w me lib learned ends) xs ≡ with_ends w me lib learned (ends_after ends xs)
 having-by w me lib learned ends [] h =
@@ -156,7 +156,7 @@ having-by w me lib learned ends (x ∷ xs) h =
     ∙ ap (λ n. having_said n xs) (one-is w me lib learned ends x.link)
     ∙ having-by w me lib learned (bumped ends x.link) xs h.1
 
--- 3. What is said in two parts
+-- 3. What is sent in two parts
 
 pub length-ends_after : (ends : List (Option Open)) (xs : List Said) → length (ends_after ends xs) ≡ length ends
 length-ends_after ends [] = refl
@@ -192,7 +192,8 @@ module _ (w : Wiring) (me : ℕ) (own : ℕ → ℕ) (withdrawn : ℕ) (f : Tell
       → then_out ++ pdus_by w me own withdrawn then_ends (flat_map f (drop (i + 1) tells)) ≡ out ++ pdus_by w me own withdrawn ends (flat_map f (drop i tells))
   said-one out then_out ends then_ends e o =
       ap (λ ps. ps ++ pdus_by w me own withdrawn then_ends (flat_map f (drop (i + 1) tells))) o
-      ∙ append_assoc out (pdus_by w me own withdrawn ends (f (slice_index_or tells i d))) (pdus_by w me own withdrawn then_ends (flat_map f (drop (i + 1) tells)))
+      ∙ append_assoc out (pdus_by w me own withdrawn ends (f (slice_index_or tells i d)))
+      (pdus_by w me own withdrawn then_ends (flat_map f (drop (i + 1) tells)))
       ∙ ap (λ es. out ++ (pdus_by w me own withdrawn ends (f (slice_index_or tells i d)) ++ pdus_by w me own withdrawn es (flat_map f (drop (i + 1) tells)))) e
       ∙ ap (λ ps. out ++ ps) (sym (pdus_by-append w me own withdrawn ends (f (slice_index_or tells i d)) (flat_map f (drop (i + 1) tells)))
       ∙ ap (pdus_by w me own withdrawn ends) (sym seam))

@@ -1,4 +1,4 @@
--- The parts once a session has changed, its answers are said, and the bindings are followed.
+-- The parts once a session has changed, its answers are sent, and the bindings are followed.
 use Rattle.std.proofs.Common.{ℕ, ◌≡◌, Bool, true, false, cond, List, [], ◌∷◌, ◌++◌, length, refl, sym, ◌∙◌, ap, subst, append-nil, Option}
 use Rattle.std.specs.Prelude.{◌&&◌, not}
 use Rattle.std.specs.List.{flat_map, range_with_len}
@@ -27,7 +27,7 @@ use Rattle.mn_lsr.proofs.Saying.{ends_after-append, length-ends_after}
 use Rattle.mn_lsr.proofs.After.{Happens, IsThen, stands-then, kept-of, said-all, may-follow, length-machines, machines-after, no_tells}
 use Rattle.mn_lsr.specs.Turns.{kept_then}
 
--- messages that bring no label are said alike, whatever labels FECs have and whatever is withdrawn
+-- messages that bring no label are sent alike, whatever labels FECs have and whatever is withdrawn
 no_label : (w : Wiring) (l me : ℕ) (own then_own : ℕ → ℕ) (withdrawn : ℕ) (ends : List (Option Open)) (reply : Reply) →
     pdus_by w me own 0 ends (said_on l me (replied reply)) ≡ pdus_by w me then_own withdrawn ends (said_on l me (replied reply))
 no_label w l me own then_own withdrawn ends says.Nothing = refl
@@ -58,7 +58,11 @@ pub known_none : (known : Known) (tick : ℕ) → known ≡ known_after known []
 known_none known tick =
     ap (λ fecs. let k : Known = record { bindings = known.bindings; resting = all_stopped tick known.resting fecs } in k)
     (sym (flat_none (ended_of known.bindings known.bindings) (none_ended_at known.bindings) (range_with_len 0 (lib.nodes known.bindings))))
-    ∙ ap (λ ts. let k : Known = record { bindings = known.bindings; resting = all_stopped tick (owed_for known.resting ts) (ended known.bindings known.bindings) } in k)
+    ∙ ap (λ ts. let k : Known = record {
+      bindings = known.bindings;
+      resting =
+          all_stopped tick (owed_for known.resting ts) (ended known.bindings known.bindings);
+    } in k)
     (sym (no_tells known.bindings))
 
 -- the node once an event is over
@@ -86,7 +90,8 @@ module _ (p : Parts) (st : Stands p) (e : Event) (es : List LibEvent) (ends : Li
       subst MaySpeak (sym q_is) (record { few = st.wired.spelled.few; me = st.me; joins = st.wired.joins; one_each = ap length s_is ∙ ends-length })
 
   pub may-follow-then : (q : Parts) (s : Listed) (withdrawn : ℕ) → q ≡ record p { sessions = s } →
-      s.items ≡ ends_after ends (said_on l p.me.0 (replied reply)) → ((labels : Labels) → MayTell (length p.loopbacks.items) p.me.0 labels withdrawn (releases es))
+      s.items ≡ ends_after ends (said_on l p.me.0 (replied reply)) →
+      ((labels : Labels) → MayTell (length p.loopbacks.items) p.me.0 labels withdrawn (releases es))
       → MayFollow q withdrawn es
   may-follow-then q s withdrawn q_is s_is may =
       subst (λ x. MayFollow x withdrawn es) (sym q_is)
@@ -102,25 +107,29 @@ module _ (p : Parts) (st : Stands p) (e : Event) (es : List LibEvent) (ends : Li
       let new : ℕ → ℕ = own_labels p.me.0 r.labels.labels in
       let first : List Said = said_on l p.me.0 (replied reply) in
       let rest : List Said = flat_map (said_by_tell (wiring_in p) p.me.0) (tells p.lib.bindings es) in
-      let counted : r.sessions.items ≡ ends_after ends (said_on l p.me.0 (replied reply) ++ flat_map (said_by_tell (wiring_in p) p.me.0) (tells p.lib.bindings es)) =
+      let counted : r.sessions.items ≡ ends_after ends (said_on l p.me.0 (replied reply) ++ flat_map (said_by_tell (wiring_in p) p.me.0)
+      (tells p.lib.bindings es)) =
       t.counted ∙ ap (λ xs. ends_after xs (flat_map (said_by_tell (wiring_in p) p.me.0) (tells p.lib.bindings es))) s_is
       ∙ sym (ends_after-append ends (said_on l p.me.0 (replied reply)) (flat_map (said_by_tell (wiring_in p) p.me.0) (tells p.lib.bindings es))) in
       let is : IsThen p st e p.view.counts es ends l (replied reply) h tick p.view r.sessions r.lib r.labels =
       record { view_is = refl; known_is = t.known; ends_are = counted; labels_are = t.labels } in
       record {
         stands = subst Stands (sym t.others)
-            (stands-then p st e p.view.counts es ends l (replied reply) h tick p.view p.mended r.sessions r.lib r.labels r.lfib is refl st.mended t.have t.table);
+            (stands-then p st e p.view.counts es ends l (replied reply) h tick p.view p.mended r.sessions r.lib r.labels r.lfib is refl st.mended t.have
+            t.table);
         kept = ap kept_of t.others ∙ kept-of p st e p.view.counts es ends l (replied reply) h tick p.view p.mended r.sessions r.lib r.labels r.lfib is;
         said = t.said ∙ ap (λ xs. xs ++ pdus_by (wiring_in p) p.me.0 new withdrawn s.items rest) m_is
-            ∙ ap (λ xs. (before ++ xs) ++ pdus_by (wiring_in p) p.me.0 new withdrawn s.items rest) (no_label (wiring_in p) l p.me.0 own new withdrawn ends reply)
+            ∙ ap (λ xs. (before ++ xs) ++ pdus_by (wiring_in p) p.me.0 new withdrawn s.items rest)
+            (no_label (wiring_in p) l p.me.0 own new withdrawn ends reply)
             ∙ ap (λ xs. (before ++ pdus_by (wiring_in p) p.me.0 new withdrawn ends first) ++ pdus_by (wiring_in p) p.me.0 new withdrawn xs rest) s_is
-            ∙ append_assoc before (pdus_by (wiring_in p) p.me.0 new withdrawn ends first) (pdus_by (wiring_in p) p.me.0 new withdrawn (ends_after ends first) rest)
+            ∙ append_assoc before (pdus_by (wiring_in p) p.me.0 new withdrawn ends first)
+            (pdus_by (wiring_in p) p.me.0 new withdrawn (ends_after ends first) rest)
             ∙ ap (λ xs. before ++ xs) (said-all p st e p.view.counts es ends l (replied reply) h new withdrawn);
         sites = t.sites;
         others = t.others;
       }
 
-  -- what was said first has its PDUs, and then what is told
+  -- what was sent first has its PDUs, and then what is told
   pub after-all : (q : Parts) (s : Listed) (r : Parts) (withdrawn tick : ℕ) (own : ℕ → ℕ) (before middle after_it : List Pdu) →
       q ≡ record p { sessions = s } → s.items ≡ ends_after ends (said_on l p.me.0 (replied reply))
       → middle ≡ before ++ pdus_by (wiring_in p) p.me.0 own 0 ends (said_on l p.me.0 (replied reply)) → HasTold q r withdrawn tick es middle after_it →
@@ -142,7 +151,8 @@ pub none-told : (p : Parts) → Stands p →
     (s : Listed) (withdrawn tick : ℕ) (said : List Pdu) →
     HasTold (record p { sessions = s }) (record p { sessions = s }) withdrawn tick [] said said
 none-told p st s withdrawn tick said = record {
-  said = sym (ap (λ ts. said ++ pdus_by (wiring_in p) p.me.0 (own_labels p.me.0 p.labels.labels) withdrawn s.items (flat_map (said_by_tell (wiring_in p) p.me.0) ts))
+  said = sym (ap (λ ts. said ++ pdus_by (wiring_in p) p.me.0 (own_labels p.me.0 p.labels.labels) withdrawn s.items
+      (flat_map (said_by_tell (wiring_in p) p.me.0) ts))
       (no_tells p.lib.bindings) ∙ append-nil said);
   counted = sym (ap (λ ts. ends_after s.items (flat_map (said_by_tell (wiring_in p) p.me.0) ts)) (no_tells p.lib.bindings));
   known = known_none p.lib tick;
@@ -156,7 +166,7 @@ none-told p st s withdrawn tick said = record {
 pub none-before : (before after_it x : List Pdu) → before ≡ [] → after_it ≡ before ++ x → after_it ≡ x
 none-before before after_it x e f = f ∙ ap (λ b. b ++ x) e
 
--- the node once it has said its answers, where the bindings stay
+-- the node once it has sent its answers, where the bindings stay
 pub after-said : (p : Parts) (st : Stands p) (e : Event) (ends : List (Option Open)) (l : ℕ) (reply : Reply) →
     Happens p e p.view.counts [] ends l (replied reply) → (q : Parts) (withdrawn tick : ℕ) (own : ℕ → ℕ) (before middle : List Pdu)
     → q ≡ record p { sessions = q.sessions } → q.sessions.items ≡ ends_after ends (said_on l p.me.0 (replied reply)) →

@@ -124,7 +124,7 @@ mapped_has_label n l fec on = by (session_at n l) refl
         ∙ sym (ap (λ o. is_some (session_label o fec)) e)
 
 module _ (w : Wiring) (n : Node) (b : Bindings) (joins : JoinsNodes w) (once : JoinsOnce w) (below : n.me < length w.loopbacks) (tied : AreTied w n b) where
-  -- the label is there where what is heard says so
+  -- the label is there where what is received says so
   over_hop : (fec : ℕ) (hop : ℕ × ℕ) → IsHop w n.me hop → (on : Bool) → is_operational (knowledge_in n) hop.1 ≡ on
       → lib.labelled (record { 0 = hop.0 }) (lib.label_learned (row_of b hop.0) fec) ≡ labelled n fec (usable_over (knowledge_in n) fec (Some hop))
   over_hop fec hop h false e =

@@ -1,5 +1,6 @@
 -- Where the tree hasn't moved, no next hop is another one.
-use Rattle.std.proofs.Common.{ℕ, zero, suc, ◌≡◌, ◌+◌, ◌++◌, ◌<◌, Bool, true, false, List, [], ◌∷◌, length, get_or, refl, arith, sym, ◌∙◌, ap, Option, Some, None}
+use Rattle.std.proofs.Common.{ℕ, zero, suc, ◌≡◌, ◌+◌, ◌++◌, ◌<◌, Bool, true, false, List, [], ◌∷◌, length, get_or, refl, arith, sym, ◌∙◌, ap, Option, Some}
+use Rattle.std.proofs.Common.{None}
 use Rattle.std.specs.Prelude.{◌==◌, ◌||◌, if◌then◌else◌}
 use Rattle.std.specs.List.{flat_map, range_with_len}
 use Rattle.std.proofs.lemmas.List.FromFn.{get_or-map-range_with_len}
@@ -41,6 +42,7 @@ none_new same table zero q all = refl
 none_new same table (suc n) q all = by (same q) (all q (omega arith)) (none_new same table n (q + 1) (λ k h. all k (omega (arith, h))))
   where
     by : (x : Bool) → x ≡ true → flat_map (hop_event same table) (range_with_len (q + 1) n) ≡ [] →
-        (let es : List LibEvent = if x then [] else event.Next (record { 0 = q }) (next_at table q) ∷ [] in es) ++ flat_map (hop_event same table) (range_with_len (q + 1) n) ≡ []
+        (let es : List LibEvent = if x then [] else event.Next (record { 0 = q }) (next_at table q) ∷ [] in es) ++ flat_map (hop_event same table)
+        (range_with_len (q + 1) n) ≡ []
     by true e h = h
     by false e h = cc

@@ -21,7 +21,7 @@ use Rattle.mn_lsr.specs.declared.parts.Open.{Open}
 use Rattle.mn_lsr.specs.declared.refusal.LsrBad.{LsrBad}
 use Rattle.mn_lsr.specs.declared.refusal.LsrBad.TheVariants as bad
 
--- a node once it has heard something, and what it says then
+-- a node once it has received something, and what it says then
 pub record Heard : Type 0 where
   pub kept : Kept
   pub said : List Pdu
@@ -39,12 +39,12 @@ abbrev pub Accepts : Option Open → LdpId → LdpBody → Type 0
 Accepts None from body = ⊥
 Accepts (Some end) from body = refusal end.session from body ≡ None
 
--- the state machine of an end once the message is heard
+-- the state machine of an end once the message is received
 abbrev pub machine_then : Option Open → LdpBody → Option Session
 machine_then None body = None
 machine_then (Some end) body = Some (record end.session { state = then_state end.session.state (kind_of body) })
 
--- a message is heard as one change; one that says nothing to the node is passed over
+-- a message is received as one change; one that says nothing to the node is passed over
 abbrev pub after_message : Wiring → ℕ → ℕ → Kept → Option (Message × ℕ) → Heard
 after_message wiring tick l kept None = record { kept = kept; said = [] }
 after_message wiring tick l kept (Some message) =
@@ -67,7 +67,7 @@ abbrev pub AcceptsAll : Option Session → LdpId → List LdpMessage → Type 0
 AcceptsAll None from messages = ⊥
 AcceptsAll (Some session) from messages = first_refusal session from messages ≡ None
 
--- none of the messages of a PDU is heard where one is refused
+-- none of the messages of a PDU is received where one is refused
 abbrev pub after_tried : Wiring → ℕ → ℕ → Kept → PduContents → Option SessionBad → Result Heard LsrBad
 after_tried wiring tick l kept pdu (Some why) = Err (bad.Session why)
 after_tried wiring tick l kept pdu None = Ok (after_messages wiring tick l kept pdu.messages)
@@ -76,7 +76,7 @@ abbrev pub after_read : Wiring → ℕ → ℕ → Kept → Session → Result P
 after_read wiring tick l kept session (Err why) = Err (bad.Wire why)
 after_read wiring tick l kept session (Ok pdu) = after_tried wiring tick l kept pdu (first_refusal session pdu.from pdu.messages)
 
--- the bytes are read as a PDU, and its messages are tried and heard
+-- the bytes are read as a PDU, and its messages are tried and received
 abbrev pub after_pdu : Wiring → ℕ → ℕ → Kept → Option Session → List ℕ → Result Heard LsrBad
 after_pdu wiring tick l kept None bytes = Err bad.NoMemory
 after_pdu wiring tick l kept (Some session) bytes = after_read wiring tick l kept session (pdu_of bytes)

@@ -1,4 +1,4 @@
--- What a node says and hears inside the network, where the other end of a session is a node too.
+-- What a node says and receives inside the network, where the other end of a session is a node too.
 use Rattle.std.specs.Prelude.{ℕ, ◌+◌, ◌≡◌, ◌<◌, true, length, List, [], ◌∷◌, Ok, Some, ⊤}
 use Rattle.std.specs.List.{AllByRecursion}
 use Rattle.mn_wiring.specs.Wiring.{Wiring, across}
@@ -13,7 +13,7 @@ use Rattle.mn_lsr.specs.Hearing.{after_message, after_bytes}
 abbrev pub Labelling : Type 0
 Labelling = ℕ → ℕ → ℕ
 
--- a message that is heard was said by the other end: it speaks of a node, and brings that end's label
+-- a message that is received was sent by the other end: it speaks of a node, and brings that end's label
 abbrev pub IsHeardInside : Wiring → Labelling → Node → Event → Type 0
 IsHeardInside wiring given node (Hears l message label) = SpeaksOfNode wiring message × (label ≡ label_with (given (across wiring l node.me)) message)
 IsHeardInside wiring given node _ = ⊤
@@ -21,12 +21,12 @@ IsHeardInside wiring given node _ = ⊤
 abbrev pub SpeakOfNodes : Wiring → List Said → Type 0
 SpeakOfNodes wiring sayings = AllByRecursion (λ saying. SpeaksOfNode wiring saying.message) sayings
 
--- the label that a Release brings, where one is said: that of the Withdraw
+-- the label that a Release brings, where one is sent: that of the Withdraw
 abbrev pub label_withdrawn : Event → ℕ
 label_withdrawn (Hears l message label) = label
 label_withdrawn _ = 0
 
--- what is said, each message as it looks inside the network
+-- what is sent, each message as it looks inside the network
 abbrev pub pdus_in_network : Wiring → Labelling → Node → List Said → List Pdu
 pdus_in_network wiring given node [] = []
 pdus_in_network wiring given node (saying ∷ sayings) =
@@ -40,7 +40,7 @@ pub record SpeaksInside (wiring : Wiring) (given : Labelling) (node : Node) (eve
   pub looks : pdus wiring (given node.me) (label_withdrawn event) (changed wiring node event) (said wiring node event)
       ≡ pdus_in_network wiring given (changed wiring node event) (said wiring node event)
 
--- what one end says the other end hears as one change, where the table has a row for it
+-- what one end says the other end receives as one change, where the table has a row for it
 abbrev pub IsHeardAsOne : Wiring → Labelling → ℕ → ℕ → ℕ → ℕ → Message → Kept → Session → Type 0
 IsHeardAsOne wiring given tick l far id message kept session =
     after_bytes wiring tick l kept session (pdu_in_network wiring l far (given far) (given kept.node.me) id message).bytes

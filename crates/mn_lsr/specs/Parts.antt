@@ -1,5 +1,6 @@
 -- The parts of a node, what contracts see of them, and how they hang together.
-use Rattle.std.specs.Prelude.{◌≡◌, ◌≢◌, ◌<◌, ◌≤◌, ◌^◌, ℕ, ◌+◌, ◌==◌, ◌||◌, ◌&&◌, is_some, Bool, true, false, if◌then◌else◌, List, [], ◌∷◌, ◌++◌, length, map, slice_index_or}
+use Rattle.std.specs.Prelude.{◌≡◌, ◌≢◌, ◌<◌, ◌≤◌, ◌^◌, ℕ, ◌+◌, ◌==◌, ◌||◌, ◌&&◌, is_some, Bool, true, false, if◌then◌else◌, List, [], ◌∷◌, ◌++◌, length, map}
+use Rattle.std.specs.Prelude.{slice_index_or}
 use Rattle.std.specs.Prelude.{slice_set, Option, Some, None, option_map, nat_le, ⊤}
 use Rattle.std.specs.List.{flat_map, range_with_len}
 use Rattle.mn_base.specs.declared.numbers.NodeNo.{NodeNo}
@@ -63,7 +64,7 @@ pub record HaveLabels (me nodes : ℕ) (bindings : Bindings) (table : LabelTable
   pub told : IsTold table.labels
   pub had : (fec : ℕ) → fec < nodes → fec ≢ me → lib.offers bindings fec ≡ true → is_some (label_now table.labels fec) ≡ true
 
--- what a neighbour owes: nothing where its session isn't open, and of each FEC no more Releases than messages were said in it
+-- what a neighbour owes: nothing where its session isn't open, and of each FEC no more Releases than messages were sent in it
 pub data Owes (wiring : Wiring) (me : ℕ) (resting : Resting) (ends : List (Option Open)) (neighbour : ℕ) : Type 0 where
   Nothing : row_of resting neighbour ≡ None → Owes wiring me resting ends neighbour
   AtMost : (l : ℕ) → (end : Open) → joining wiring me neighbour ≡ l ∷ [] → slice_index_or ends l None ≡ Some end →
@@ -95,20 +96,20 @@ abbrev pub SitesStay : Parts → Parts → Type 0
 SitesStay p q = (label : ℕ) → IsAttachment (meaning_of p.labels.labels label) →
     (meaning_of q.labels.labels label ≡ meaning_of p.labels.labels label) × (use_of q.lfib label ≡ use_of p.lfib label)
 
--- how much was said on a link, by its end
+-- how much was sent on a link, by its end
 abbrev pub said_in : Option Open → ℕ
 said_in None = 0
 said_in (Some end) = end.said
 
--- with so many messages said in this call, the numbers of more have 64 bits in each session
+-- with so many messages sent in this call, the numbers of more have 64 bits in each session
 abbrev pub NumbersFit : List (Option Open) → ℕ → Type 0
 NumbersFit ends said = (l : ℕ) → said_in (slice_index_or ends l None) ≤ 2 ^ 62 + said
 
--- it has said so few
+-- it has sent so few
 abbrev pub has_numbers : Option Open → Bool
 has_numbers end = nat_le (said_in end) (2 ^ 62)
 
--- something may be said on each link
+-- something may be sent on each link
 pub record MaySpeak (p : Parts) : Type 0 where
   pub few : length p.loopbacks.items ≤ 256
   pub me : p.me.0 < length p.loopbacks.items
@@ -151,11 +152,11 @@ hop_events me hops table nodes = flat_map (hop_event (stays me hops table) table
 abbrev pub one_more : Open → Open
 one_more end = record { session = end.session; said = end.said + 1 }
 
--- the ends once one message more is said on a link
+-- the ends once one message more is sent on a link
 abbrev pub bumped : List (Option Open) → ℕ → List (Option Open)
 bumped ends l = slice_set ends l (option_map one_more (slice_index_or ends l None))
 
--- what is said, with ids from the ends, and the ends then
+-- what is sent, with ids from the ends, and the ends then
 abbrev pub pdus_by : Wiring → ℕ → (ℕ → ℕ) → ℕ → List (Option Open) → List Said → List Pdu
 pdus_by wiring me own withdrawn ends [] = []
 pdus_by wiring me own withdrawn ends (said ∷ sayings) =

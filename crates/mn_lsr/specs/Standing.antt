@@ -22,7 +22,7 @@ use Rattle.mn_spf_inc.specs.Mended.{Mended, IsOver}
 use Rattle.mn_lsr.specs.declared.parts.Open.{Open}
 
 -- the network around it, what it keeps, the labels that it gave, since when its FECs are at rest, what labels are used for, and
--- whether it has wanted memory
+-- whether it has run out of memory
 pub record Standing : Type 0 where
   pub wiring : Wiring
   pub node : Node
@@ -31,7 +31,7 @@ pub record Standing : Type 0 where
   pub uses : List (ℕ × Use)
   pub failed : Bool
 
--- the session of a link, whose labels are those that the neighbour over it said
+-- the session of a link, whose labels are those that the neighbour over it sent
 abbrev pub labels_in : ℕ → Option (List (Option ℕ)) → List (Option ℕ)
 labels_in nodes None = replicate nodes None
 labels_in nodes (Some row) = row
@@ -44,11 +44,11 @@ abbrev pub sessions_from : Wiring → ℕ → Bindings → ℕ → List (Option 
 sessions_from wiring me lib l [] = []
 sessions_from wiring me lib l (end ∷ ends) = option_map (session_in wiring me lib l) end ∷ sessions_from wiring me lib (l + 1) ends
 
--- a node has said so few messages in each session that the numbers of those that it says next have 64 bits
+-- a node has sent so few messages in each session that the numbers of those that it says next have 64 bits
 abbrev pub HasNumbers : Node → Type 0
 HasNumbers node = (l : ℕ) → count_of (session_at node l) ≤ 2 ^ 62
 
--- the label that was heard last in a session
+-- the label that was received last in a session
 abbrev pub session_label : Option Session → ℕ → Option ℕ
 session_label None fec = None
 session_label (Some session) fec = slice_index_or session.labels fec None

@@ -1,4 +1,4 @@
--- What the bindings tell, said on the links that join the node with its neighbours.
+-- What the bindings tell, sent on the links that join the node with its neighbours.
 use Rattle.std.specs.Prelude.{Bool, true, false, ℕ, ◌≡◌, ◌<◌, ◌==◌, if◌then◌else◌, List, [], ◌∷◌, length, slice_index_or, Option, Some, None, option_map, ⊤}
 use Rattle.std.specs.Option.{option_to_list}
 use Rattle.std.specs.List.{flat_map}

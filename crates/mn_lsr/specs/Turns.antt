@@ -58,7 +58,7 @@ rested_by_event wiring tick node (Hears l message label) resting =
     rested_by_message tick message (state_in (session_at node l)) (across wiring l node.me) resting
 rested_by_event wiring tick node _ resting = resting
 
--- for each Withdraw that is said a Release is owed
+-- for each Withdraw that is sent a Release is owed
 abbrev pub owed_for_message : Message → ℕ → Resting → Resting
 owed_for_message (Withdraw fec) far resting = withdrawn resting far fec
 owed_for_message _ far resting = resting

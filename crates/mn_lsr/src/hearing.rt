@@ -65,7 +65,7 @@ fn event_of(far: NodeNo, began: bool, message: Message, label: u32) -> Option<Li
 }
 
 impl Parts {
-    /// Hears a message that the session accepts and that says this to the node.
+    /// Receives a message that the session accepts and that says this to the node.
     fn hear_meant(
         &mut self,
         alloc: Global,
@@ -109,7 +109,7 @@ impl Parts {
         Ok(())
     }
 
-    /// Hears a message that the session accepts, as one change.
+    /// Receives a message that the session accepts, as one change.
     pub(crate) fn hear(
         &mut self,
         alloc: Global,
@@ -153,7 +153,7 @@ fn first_refusal(session: Session, from: LdpId, messages: &[LdpMessage]) -> Opti
 }
 
 impl Parts {
-    /// Hears messages that the session accepts, one after the other.
+    /// Receives messages that the session accepts, one after the other.
     fn hear_all(
         &mut self,
         alloc: Global,
@@ -179,7 +179,7 @@ impl Parts {
         Ok(out)
     }
 
-    /// Hears the messages of a PDU, where the session accepts them all.
+    /// Receives the messages of a PDU, where the session accepts them all.
     pub(crate) fn hear_ldp(
         &mut self,
         alloc: Global,

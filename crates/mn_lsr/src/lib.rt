@@ -1,4 +1,4 @@
-//! One node's transport: what it has learned of the links, its least walks, its LDP sessions, what its neighbours said of
+//! One node's transport: what it has learned of the links, its least walks, its LDP sessions, what its neighbours advertised for
 //! labels, the labels that it gave itself, and what each of them is used for.
 //!
 //! ```text
@@ -9,10 +9,10 @@
 //!                                                                +--> next hop and its label --> uses of the labels
 //! ```
 //!
-//! What happens is one change each time: a link's next change, a session that opens or closes, a message that is heard.
+//! What happens is one change each time: a link's next change, a session that opens or closes, a message that is received.
 //! What the node keeps and says after it is what `mn_node`'s machine says, and it says it byte for byte, each message in a
 //! PDU of its own. A node offers its own FEC, and another one while its next hop has mapped it (RFC 5036, section 2.6.1.2);
-//! it keeps what any neighbour said (section 2.6.2.2), so that a new next hop is used at once.
+//! it keeps what any neighbour advertised (section 2.6.2.2), so that a new next hop is used at once.
 //!
 //! A FEC that is offered newly takes up the label that it has, or else the least that nothing has; before that, those FECs give up
 //! their labels that aren't offered, of which no neighbour owes a Release and towards which no frame flies any more.
@@ -23,9 +23,9 @@
 //! - `lsr`: the node, in the words of its contract; `refusal`: why it refuses
 //! - `parts`, `hearing`, `making`, `sites`: its parts, and what each change does to them
 //! - `own_ends`: the node's ends of its sessions
-//! - `message`, `speaking`, `said`: what is said, as PDUs on links; `links`: the link to each neighbour
+//! - `message`, `speaking`, `said`: what is sent, as PDUs on links; `links`: the link to each neighbour
 //! - `ways`: the labels of FECs and their uses
-//! - `laws`: what is said and heard where both ends of a session are nodes
+//! - `laws`: what is sent and received where both ends of a session are nodes
 #![tactic(auto)]
 
 mod hearing;

@@ -14,7 +14,7 @@ fn is_end(link: &LinkEnds, me: NodeNo) -> bool
     link.a == me || link.b == me
 }
 
-/// By neighbour, the link that joins the node with it, so that what is said to one looks at no other link.
+/// By neighbour, the link that joins the node with it, so that what is sent to one looks at no other link.
 pub(crate) fn links_by_neighbour(
     alloc: Global,
     me: NodeNo,

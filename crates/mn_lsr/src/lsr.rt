@@ -25,12 +25,12 @@ use std::marker::Model;
 /// One node's transport.
 ///
 /// Contracts see the network around it, what the node keeps, the labels that it gave, since when its FECs are at rest, what labels
-/// are used for, and whether it has wanted memory.
+/// are used for, and whether it has run out of memory.
 #[derive(Drop)]
 pub struct Lsr {
     alloc: Global,
     parts: Parts,
-    /// It has wanted memory, and its parts may not fit together any more.
+    /// It has run out of memory, and its parts may not fit together any more.
     failed: bool,
 }
 
@@ -200,7 +200,7 @@ impl Lsr {
         }
     }
 
-    /// Hears the messages of a PDU at this tick, one after the other, where the session accepts them all.
+    /// Receives the messages of a PDU at this tick, one after the other, where the session accepts them all.
     ///
     /// `Wire` and `Session` change nothing. A mention of a FEC that is no node's loopback is passed over.
     pub fn hear_ldp(&mut self, link: LinkNo, bytes: &[u8], tick: u64) -> Result<Vec<Said>, LsrBad>
@@ -240,7 +240,7 @@ impl Lsr {
         }
     }
 
-    /// Whether it has said at most 2 ^ 62 messages in each session, so that the numbers of those that a call says have 64 bits.
+    /// Whether it has sent at most 2 ^ 62 messages in each session, so that the numbers of those that a call says have 64 bits.
     pub fn has_numbers(&self) -> bool
         ensures { IsTrue result → HasNumbers self.now.node }
     {
@@ -249,7 +249,7 @@ impl Lsr {
 
     /// Gives the next label to a new attachment of a site, whose number counts the site's attachments from 1.
     ///
-    /// A refusal changes nothing, but for room that was made. After a call that wanted memory the answer is `NoMemory`.
+    /// A refusal changes nothing, but for room that was made. After a call that ran out of memory the answer is `NoMemory`.
     pub fn attach(&mut self, site: SiteNo) -> Result<u32, LabelBad>
         ensures label { IfOk result (λ label. label ≡ greatest self.old.labels.given + 1) }
         ensures given { OnOk result (self.new.labels ≡ attached self.old.labels (bind.Site site (attachments site.0 self.old.labels.given + 1))) }
@@ -269,7 +269,7 @@ impl Lsr {
 
     /// Ends the attachment that has a label. It takes no memory.
     ///
-    /// After a call that wanted memory it does nothing.
+    /// After a call that ran out of memory it does nothing.
     pub fn detach(&mut self, label: u32)
         requires attachment { IsAttachment (meaning_of self.old.labels label) }
         ensures ended { self.old.failed ≡ false → use_of self.new.uses label ≡ Some use_kind.Ended }

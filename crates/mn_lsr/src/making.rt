@@ -81,7 +81,7 @@ fn walks(
     Ok((view, mended))
 }
 
-/// The bindings where nothing was heard, and the labels where none was given.
+/// The bindings where nothing was received, and the labels where none was given.
 fn tables(alloc: Global, me: NodeNo, nodes: u32, life: u32) -> Result<(Lib, Labels), AllocError>
     requires few { nodes ≤ 256 }
     requires me { me.0 < nodes }

@@ -73,14 +73,14 @@ fn note(ends: &mut Vec<End>, link: LinkNo, noted: Option<Open>) -> Result<(), Al
     }
 }
 
-/// Whether little was said at an end.
+/// Whether little was sent at an end.
 fn end_has_numbers(end: &End) -> bool
     ensures { result ≡ has_numbers end.now.noted }
 {
     has_numbers(&end.noted)
 }
 
-/// Whether little was said at each of these ends.
+/// Whether little was sent at each of these ends.
 fn all_have_numbers(ends: &[End]) -> bool
     ensures { result ≡ list_all (λ end. has_numbers end.noted) ends.now }
 {
@@ -109,7 +109,7 @@ impl Sessions {
         }
     }
 
-    /// Sets the end of a link. An `Err` is want of memory.
+    /// Sets the end of a link. An `Err` means out of memory.
     pub fn set(&mut self, link: LinkNo, session: Option<Open>) -> Result<(), AllocError>
         requires { link.0 < length self.old.items }
         ensures { OnOk result (self.new.items ≡ slice_set self.old.items link.0 session) }
@@ -117,7 +117,7 @@ impl Sessions {
         note(&mut self.ends, link, session)
     }
 
-    /// Whether little was said at each end.
+    /// Whether little was sent at each end.
     pub fn have_numbers(&self) -> bool
         ensures { IsTrue result → (l : ℕ) → has_numbers (slice_index_or self.now.items l None) ≡ true }
     {

@@ -27,7 +27,7 @@ use mn_spf_inc::MendTree;
 use mn_states::LdpState;
 use std::alloc::{AllocError, Global};
 
-/// The node's end of a session, and how many messages it has said in it.
+/// The node's end of a session, and how many messages it has sent in it.
 #[derive(Clone, Copy)]
 pub struct Open {
     pub session: Session,
@@ -53,7 +53,7 @@ pub struct Parts {
     pub links: Vec<Option<LinkNo>>,
 }
 
-/// Whether little was said at an end.
+/// Whether little was sent at an end.
 pub(crate) fn has_numbers(end: &Option<Open>) -> bool
     ensures { result ≡ has_numbers end.now }
 {
@@ -130,7 +130,7 @@ fn new_hops(
 
 impl Parts {
     /// Takes what happened to the bindings at this tick as one change, gives the FECs that are offered newly their labels, says
-    /// what must be told, and uses the new ways. A Release brings the label that was withdrawn.
+    /// what must be sent, and uses the new ways. A Release brings the label that was withdrawn.
     ///
     /// Which FECs are free is asked before the change: one whose last Release comes by it isn't.
     pub(crate) fn follow(
@@ -229,7 +229,7 @@ impl Parts {
         }
     }
 
-    /// The same for one event. What is heard of a FEC from a neighbour that isn't its next hop is kept, and nothing else is done.
+    /// The same for one event. What is received from a FEC from a neighbour that isn't its next hop is kept, and nothing else is done.
     fn follow_one(
         &mut self,
         alloc: Global,
@@ -257,7 +257,7 @@ impl Parts {
         self.sessions.get(link)
     }
 
-    /// Whether little was said in each session.
+    /// Whether little was sent in each session.
     pub(crate) fn has_numbers(&self) -> bool
         ensures { IsTrue result → HasNumbers (node_in self.now) }
     {

@@ -61,7 +61,7 @@ pub(crate) fn say(
     sessions.set(link, one_more(end))
 }
 
-/// How much was said at an end.
+/// How much was sent at an end.
 fn said_at(end: Option<Open>) -> u64
     ensures { result ≡ said_in end }
 {
@@ -71,7 +71,7 @@ fn said_at(end: Option<Open>) -> u64
     }
 }
 
-/// The end once one message more is said there.
+/// The end once one message more is sent there.
 fn one_more(end: Option<Open>) -> Option<Open>
     requires { said_in end < 18446744073709551615 }
     ensures { result ≡ option_map one_more end }
@@ -133,7 +133,7 @@ fn message_of(tell: &Tell) -> Message
     }
 }
 
-/// Says what must be told, each tell on the link to its neighbour.
+/// Says what must be sent, each tell on the link to its neighbour.
 pub(crate) fn say_all(
     alloc: Global,
     me: NodeNo,

@@ -133,7 +133,7 @@ fn use_ways_of(
     Ok(())
 }
 
-/// Whether all that happens is that one neighbour opens, which has said no label yet.
+/// Whether all that happens is that one neighbour opens, which has advertised no label yet.
 fn opens_one(events: &[LibEvent]) -> bool
     ensures { result ≡ opens_one events.now }
 {

@@ -1,5 +1,6 @@
 -- Calls of a flight, as the list of what flies sees them.
-use Rattle.std.proofs.Common.{ℕ, zero, suc, ◌≡◌, ◌≢◌, ◌+◌, ◌*◌, ◌<◌, inl, inr, Bool, true, false, cond, List, [], ◌∷◌, ◌++◌, refl, arith, sym, ◌∙◌, ap, subst, Some, None, filter, Option, ◌≤◌}
+use Rattle.std.proofs.Common.{ℕ, zero, suc, ◌≡◌, ◌≢◌, ◌+◌, ◌*◌, ◌<◌, inl, inr, Bool, true, false, cond, List, [], ◌∷◌, ◌++◌, refl, arith, sym, ◌∙◌, ap, subst}
+use Rattle.std.proofs.Common.{Some, None, filter, Option, ◌≤◌}
 use Rattle.std.specs.Prelude.{◌==◌, ◌&&◌, not, slice_get, option_map, is_some, nat_lt, nat_le}
 use Rattle.std.specs.List.{AllByRecursion}
 use Rattle.std.proofs.lemmas.Bool.Decides.{eqb_tells}
@@ -57,14 +58,17 @@ first_on items n m from to k e on same = e ∙ ap (λ x. slice_get (on_channel x
 pub first_is : (n made from to : ℕ) (items : List (Item Letter)) → to < n → AllByRecursion (IsInPlace n made) items →
     option_map letter_of (slice_get (on_channel (channel n from to) items) 0) ≡ first_from_to from to (letters_of items)
 first_is n made from to [] below h = refl
-first_is n made from to (x ∷ items) below h = by (is_from_to from to x.item) (x.channel == channel n from to) (on_its_channel n made from to x below h.0) refl (first_is n made from to items below h.1)
+first_is n made from to (x ∷ items) below h =
+    by (is_from_to from to x.item) (x.channel == channel n from to) (on_its_channel n made from to x below h.0) refl (first_is n made from to items below h.1)
   where
     by : (b c : Bool) → c ≡ is_from_to from to x.item → is_from_to from to x.item ≡ b →
         option_map letter_of (slice_get (on_channel (channel n from to) items) 0) ≡ first_from_to from to (letters_of items) →
         option_map letter_of (slice_get (cond c (x ∷ on_channel (channel n from to) items) (on_channel (channel n from to) items)) 0)
         ≡ cond b (Some x.item) (first_from_to from to (letters_of items))
-    by true c e q f = ap (λ d. option_map letter_of (slice_get (cond d (x ∷ on_channel (channel n from to) items) (on_channel (channel n from to) items)) 0)) (e ∙ q)
-    by false c e q f = ap (λ d. option_map letter_of (slice_get (cond d (x ∷ on_channel (channel n from to) items) (on_channel (channel n from to) items)) 0)) (e ∙ q) ∙ f
+    by true c e q f = ap (λ d. option_map letter_of (slice_get (cond d (x ∷ on_channel (channel n from to) items) (on_channel (channel n from to) items)) 0)) (e
+        ∙ q)
+    by false c e q f = ap (λ d. option_map letter_of (slice_get (cond d (x ∷ on_channel (channel n from to) items) (on_channel (channel n from to) items)) 0))
+        (e ∙ q) ∙ f
 
 one_left : (n made from to : ℕ) (items : List (Item Letter)) (x : Item Letter) → to < n → AllByRecursion (IsInPlace n made) items → Ascends items →
     slice_get (on_channel (channel n from to) items) 0 ≡ Some x → letters_of (filter (others x.number) items) ≡ without_first from to (letters_of items)
@@ -176,16 +180,22 @@ off_both n made a b (x ∷ items) first second h =
     by : (p q d : Bool) → (x.channel == channel n b a) ≡ q → (not p && not q) ≡ not (is_between a b x.item) →
         letters_of (off_channel (channel n b a) (off_channel (channel n a b) items)) ≡ filter (λ letter. not (is_between a b letter)) (letters_of items) →
         letters_of (off_channel (channel n b a) (cond (not p) (x ∷ off_channel (channel n a b) items) (off_channel (channel n a b) items)))
-        ≡ cond (not (is_between a b x.item)) (x.item ∷ filter (λ letter. not (is_between a b letter)) (letters_of items)) (filter (λ letter. not (is_between a b letter)) (letters_of items))
+        ≡ cond (not (is_between a b x.item)) (x.item ∷ filter (λ letter. not (is_between a b letter)) (letters_of items))
+        (filter (λ letter. not (is_between a b letter)) (letters_of items))
     by true q d e s f =
-        f ∙ ap (λ k. cond k (x.item ∷ filter (λ letter. not (is_between a b letter)) (letters_of items)) (filter (λ letter. not (is_between a b letter)) (letters_of items))) s
+        f ∙ ap (λ k. cond k (x.item ∷ filter (λ letter. not (is_between a b letter)) (letters_of items))
+        (filter (λ letter. not (is_between a b letter)) (letters_of items))) s
     by false true d e s f =
-        ap (λ k. letters_of (cond (not k) (x ∷ off_channel (channel n b a) (off_channel (channel n a b) items)) (off_channel (channel n b a) (off_channel (channel n a b) items)))) e
-        ∙ f ∙ ap (λ k. cond k (x.item ∷ filter (λ letter. not (is_between a b letter)) (letters_of items)) (filter (λ letter. not (is_between a b letter)) (letters_of items))) s
+        ap (λ k. letters_of (cond (not k) (x ∷ off_channel (channel n b a) (off_channel (channel n a b) items))
+        (off_channel (channel n b a) (off_channel (channel n a b) items)))) e
+        ∙ f ∙ ap (λ k. cond k (x.item ∷ filter (λ letter. not (is_between a b letter)) (letters_of items))
+        (filter (λ letter. not (is_between a b letter)) (letters_of items))) s
     by false false d e s f =
-        ap (λ k. letters_of (cond (not k) (x ∷ off_channel (channel n b a) (off_channel (channel n a b) items)) (off_channel (channel n b a) (off_channel (channel n a b) items)))) e
+        ap (λ k. letters_of (cond (not k) (x ∷ off_channel (channel n b a) (off_channel (channel n a b) items))
+        (off_channel (channel n b a) (off_channel (channel n a b) items)))) e
         ∙ ap (λ ss. x.item ∷ ss) f
-        ∙ ap (λ k. cond k (x.item ∷ filter (λ letter. not (is_between a b letter)) (letters_of items)) (filter (λ letter. not (is_between a b letter)) (letters_of items))) s
+        ∙ ap (λ k. cond k (x.item ∷ filter (λ letter. not (is_between a b letter)) (letters_of items))
+        (filter (λ letter. not (is_between a b letter)) (letters_of items))) s
 
 -- 5. The item that was sent first of all is the earliest
 

@@ -62,7 +62,7 @@ impl Mail {
         u32::from(from.0) * self.nodes + u32::from(to.0)
     }
 
-    /// Sends a letter, behind all others. An `Err` changes nothing; it comes for want of memory, and once 2^64 letters were sent.
+    /// Sends a letter, behind all others. An `Err` changes nothing; it comes where memory runs out, and once 2^64 letters were sent.
     pub fn send(&mut self, letter: Letter) -> Result<(), AllocError>
         requires from { letter.from < self.old.nodes }
         requires to { letter.to < self.old.nodes }

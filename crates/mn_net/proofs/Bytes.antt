@@ -153,7 +153,8 @@ module _ (net : NetNow) (lawful : IsLawful net.topology) (ps : List (List ℕ)) 
   flies = in_flight t j ps lawful h.stands.lawful
 
   abbrev PdusAreTold : Channel → ℕ → Type 0
-  PdusAreTold on c = AreTold t j (items_in net ps) (of_messages t) (λ (item : ItemOf (List ℕ)). item.item) net.transport.messages on c (ldp_at (c / 2) (dir_of c))
+  PdusAreTold on c = AreTold t j (items_in net ps) (of_messages t) (λ (item : ItemOf (List ℕ)). item.item) net.transport.messages on c
+      (ldp_at (c / 2) (dir_of c))
 
   away : (l : ℕ) (d : Dir) → l < length t.links → away_from t l (sender (wiring_of t) l d) ≡ d
   away l Forth there = ap (λ b. if b then Forth else Back) (same_test (link (wiring_of t) l).a.0)
@@ -177,7 +178,8 @@ module _ (net : NetNow) (lawful : IsLawful net.topology) (ps : List (List ℕ)) 
             ∙ ap (λ n. spelled (wiring_of t) (own_of (given t j)) l from n (drop heard said)) (one_on heard)
             ∙ said_told t j l from 0 (drop heard said)
             ∙ ap (told_from (λ n load. bytes_on t j n (Messages l from) load) 0) (sym (flies.messages l from there (ends l d there).0));
-        names = names_all t (of_messages t) (Messages l from) (channel l d) (message_named t lawful l d there) (items_in net ps) (all_there t j ps lawful h.stands.lawful);
+        names = names_all t (of_messages t) (Messages l from) (channel l d) (message_named t lawful l d there) (items_in net ps)
+            (all_there t j ps lawful h.stands.lawful);
         own = ap (λ b. b && (from == from)) (same_test l) ∙ same_test from;
         place_is = ap (ldp_at l) (away l d there ∙ sym (in_halves l d).1) ∙ ap (λ n. ldp_at n (dir_of (channel l d))) (sym (in_halves l d).0);
       }
@@ -227,7 +229,8 @@ module _ (net : NetNow) (lawful : IsLawful net.topology) (ps : List (List ℕ)) 
   message_at _ load c of e = cc
 
   abbrev FramesAreTold : Channel → ℕ → Type 0
-  FramesAreTold on c = AreTold t j (items_in net ps) of_frames (λ (item : ItemOf Flown). frame_bytes item.item.frame) net.moving.flying on c (frame_at (c / 2) (dir_of c))
+  FramesAreTold on c = AreTold t j (items_in net ps) of_frames (λ (item : ItemOf Flown). frame_bytes item.item.frame) net.moving.flying on c
+      (frame_at (c / 2) (dir_of c))
 
   named : (l : ℕ) (d : Dir) (other : Channel) → IsThere t other → same_channel (Frames l d) other ≡ is_number (channel l d) (of_frames other)
   named l d (Frames k e) g = refl

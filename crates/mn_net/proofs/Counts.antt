@@ -1,5 +1,6 @@
 -- How many fly on a channel, as a flight counts them.
-use Rattle.std.proofs.Common.{ℕ, zero, suc, ◌≡◌, ◌+◌, ◌*◌, ◌<◌, ◌≤◌, Bool, true, false, not, List, [], ◌∷◌, length, map, refl, arith, sym, ap, subst, ◌∙◌, Option, Some, None, IfSome}
+use Rattle.std.proofs.Common.{ℕ, zero, suc, ◌≡◌, ◌+◌, ◌*◌, ◌<◌, ◌≤◌, Bool, true, false, not, List, [], ◌∷◌, length, map, refl, arith, sym, ap, subst, ◌∙◌}
+use Rattle.std.proofs.Common.{Option, Some, None, IfSome}
 use Rattle.std.specs.Prelude.{◌==◌, ◌&&◌, ◌-◌, nat_le, nat_lt, is_some, slice_get, slice_index, slice_index_or}
 use Rattle.mn_base.proofs.Bools.{and_left, and_right, at_most_is, not_at_most}
 use Rattle.mn_base.proofs.Rules.{some_is}
@@ -47,7 +48,8 @@ switch_at (x ∷ xs) zero b e = sym (some_is x b e)
 switch_at (x ∷ xs) (suc i) b e = switch_at xs i b e
 
 -- a node has no next label exactly where all are asked for
-pub none_left : (nodes : List Standing) (node : ℕ) (standing : Standing) (labels : Labels) (next : Option ℕ) (none : Bool) → slice_get nodes node ≡ Some standing →
+pub none_left : (nodes : List Standing) (node : ℕ) (standing : Standing) (labels : Labels) (next : Option ℕ) (none : Bool) →
+    slice_get nodes node ≡ Some standing →
     labels ≡ standing.labels → 1 ≤ length standing.labels.fecs → is_some next ≡ not none →
     IfSome next (λ label. attachments_in labels.given + length labels.fecs ≤ 1048560) →
     (next ≡ None → attachments_in labels.given + (length labels.fecs - 1) ≡ 1048560) →

@@ -105,7 +105,8 @@ stands_so old mid new d done e ps h =
 
 -- as a call's proof has it: by the step that ends it, and by how it is marked
 pub ended_so : (old mid new : NetNow) (d : Damage) (s : Step) (m : Damaged) → s ≡ ending d → m ≡ mark_of d → IsDone old mid s []
-    → new ≡ record mid { journal = marked_last mid.journal m; spare = new.spare } → IsDamaged old new d × ((ps : List (List ℕ)) → StandsFor old ps → StandsFor new ps)
+    → new ≡ record mid { journal = marked_last mid.journal m; spare = new.spare } →
+    IsDamaged old new d × ((ps : List (List ℕ)) → StandsFor old ps → StandsFor new ps)
 ended_so old mid new d s m ends marks done e =
     let as_ended : IsDone old mid (ending d) [] = subst (λ x. IsDone old mid x []) ends done in
     let as_marked : new ≡ record mid { journal = marked_last mid.journal (mark_of d); spare = new.spare } =

@@ -113,7 +113,8 @@ module _ (net : NetNow) (lawful : IsLawful net.topology) (is : IsNet net) (v : �
   pub its_edge : slice_index_or (routes_in t l c p).edges (edge_of t v) None ≡ Some its
   its_edge =
       map_numbers_at (edge_or_none t l c p) (length t.loopbacks) (edge_of t v) None (edge_there t v lawful h)
-      ∙ ap (λ b. if b then Some its else None) (in_filter (λ node. is_edge t.vrfs node) (range_with_len 0 (length t.loopbacks)) (edge_of t v) (among_edges t v h (edge_there t v lawful h))).1
+      ∙ ap (λ b. if b then Some its else None) (in_filter (λ node. is_edge t.vrfs node) (range_with_len 0 (length t.loopbacks)) (edge_of t v)
+      (among_edges t v h (edge_there t v lawful h))).1
 
   pub edge_told : slice_index_or net.routes.edges (edge_of t v) None ≡ Some (working its)
   edge_told = ap (λ es. slice_index_or es (edge_of t v) None) is.stands.routes.edges

@@ -161,7 +161,8 @@ module _ (net : NetNow) (lawful : IsLawful net.topology) (is : IsNet net) (v : �
   -- what the VRF of an edge finds at a prefix among the open routes is the best of those that are resolved
   pub open_told : (q : AddressBlock) (ways : List Bool) (pe : PeNow) (result : Option Source) → Some pe ≡ slice_index_or net.routes.edges (edge_of t v) None
       → (pe.failed ≡ false
-      → result ≡ found_in v (λ (vrf : VrfState). first_of (filter (is_open ways) (sources_of q (held_by pe.edge vrf)))) pe.edge.vrfs) → AreWays t w (edge_of t v) ways
+      → result ≡ found_in v (λ (vrf : VrfState). first_of (filter (is_open ways) (sources_of q (held_by pe.edge vrf)))) pe.edge.vrfs) →
+      AreWays t w (edge_of t v) ways
       → result ≡ option_map (λ (route : HeldRoute). entry.source_of g route route.source) (best_for (filter on rs) q)
   open_told q ways pe result at tells are =
       let told =

@@ -37,7 +37,7 @@ channel_of topology (on.Routes edge peer) = Bgp (record { 0 = edge }) (record { 
 channel_of topology (on.Frames l dir) = Frame (record { 0 = l }) dir
 
 -- A message of LDP in a PDU of its own, with the label that its FEC has now, whose id is its place, from 1, among those that its
--- end has said in the session's life: the other end has heard so many, and so many are in flight before it (RFC 5036, section
+-- end has sent in the session's life: the other end has received so many, and so many are in flight before it (RFC 5036, section
 -- 3.5). A message of BGP (RFC 4271, section 4.1). A frame is its stack and then the packet (RFC 3032, section 2.1). A notice has no
 -- bytes.
 abbrev pub bytes_on : Network → List JournalEntry → ℕ → on.Channel → Load → List ℕ
@@ -65,7 +65,7 @@ told_at topology journal inputs number =
     (find (λ item. item.number == number) (flight_of topology journal inputs).items)
 
 -- What a step has made, as it is told once it is done, with this journal; so many of it are on the channel from here on. A message
--- of LDP is the last but so many that its end has said.
+-- of LDP is the last but so many that its end has sent.
 abbrev pub bytes_made : Network → List JournalEntry → ℕ → on.Channel → Load → List ℕ
 bytes_made topology journal left (on.Messages l end) (Says message) =
     (pdu_in_network (wiring_of topology) l end (own_of (given topology journal) end) (own_of (given topology journal) (across (wiring_of topology) l end))

@@ -18,7 +18,7 @@ impl Net {
     /// read (RFC 5036, section 3.5.1.2; RFC 4271, section 6). It refuses by the first cause that holds: Empty, StillReads, NetFull
     /// or TooManySteps.
     ///
-    /// After want of memory the network is as after that of a step.
+    /// After running out of memory the network is as after that of a step.
     pub fn damage(&mut self, damage: Damage, packet: &[u8]) -> Result<Done, Refused>
         requires fits { damage_fits self.old.topology damage ≡ true }
         ensures answer { (inputs : List (List ℕ)) → StandsFor self.old inputs → Answers (damage_refusal self.old.topology self.old.journal inputs damage packet.now) result }

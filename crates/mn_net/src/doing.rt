@@ -1,6 +1,6 @@
 //! How a step is done.
 
-/// Does a step, and writes it into the journal: what wants memory on the way leaves the network failed. With a clock's name its part
+/// Does a step, and writes it into the journal: running out of memory on the way leaves the network failed. With a clock's name its part
 /// has the clock from before it, and answers how many items that made.
 macro_rules! do_step {
     ($net:ident, $step:expr => $part:block) => {

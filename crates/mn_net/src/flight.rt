@@ -130,7 +130,7 @@ fn within(count: u64)
 {}
 
 impl Net {
-    /// The item of a number, if it is in flight. Nothing is copied, and nothing is told after want of memory.
+    /// The item of a number, if it is in flight. Nothing is copied, and nothing is told after running out of memory.
     pub fn item(&self, number: u64) -> Option<Flying<'_>>
         ensures told { (inputs : List (List ℕ)) → StandsFor self.now inputs →
             option_map (λ flying. record { kind = flying.kind; channel = flying.channel; due = flying.due; bytes = flying.bytes.now }) result

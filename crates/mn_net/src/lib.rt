@@ -18,7 +18,7 @@
 //! whoever writes files asks for them by number.
 //!
 //! A step first does all that may want memory, and last what can't fail. While it is under way the network counts as failed,
-//! so that nothing has to be undone: after want of memory it stays so.
+//! so that nothing has to be undone: after running out of memory it stays so.
 //!
 //! - `net`: what is kept; `step` and the clock
 //! - `links`: the steps of links and of LDP
@@ -63,7 +63,7 @@ mod room;
 mod sessions;
 mod sites;
 mod tell;
-mod turns;
+mod turns; // the steps of the transport alone, and those of the routes alone
 mod vrfs;
 
 pub use flight::{Channel, Flying};

@@ -32,7 +32,7 @@ pub struct Net {
     pub(crate) journal: Vec<JournalEntry>,
     pub(crate) tick: u64,
     pub(crate) made: u64,
-    /// It has wanted memory, and its parts may not fit together any more.
+    /// It has run out of memory, and its parts may not fit together any more.
     pub(crate) failed: bool,
     pub(crate) transport: Transport,
     pub(crate) routes: Routes,
@@ -130,7 +130,7 @@ impl Net {
     }
 
     /// Makes room for so many more steps that carry or lose a frame: as long as there is room, none of them wants memory. Nothing
-    /// else changes. After want of memory in a step there is none.
+    /// else changes. After running out of memory in a step there is none.
     pub fn reserve(&mut self, more: u32) -> Result<(), AllocError>
         ensures room { OnOk result (HasRoom self.new more) }
         ensures kept { self.new ≡ but_spare self.old self.new.spare self.new.tally.spare }
@@ -148,7 +148,7 @@ impl Net {
 
     /// Does a step, or refuses it by the first cause that holds. Only an injection looks at the packet.
     ///
-    /// After want of memory the journal, verdicts and paths are as before, and each later step answers it too.
+    /// After running out of memory the journal, verdicts and paths are as before, and each later step answers it too.
     pub fn step(&mut self, step: Step, packet: &[u8]) -> Result<Done, Refused>
         requires fits { fits self.old.topology step ≡ true }
         ensures answer { (inputs : List (List ℕ)) → StandsFor self.old inputs → Answers (refusal self.old.topology self.old.journal inputs step packet.now) result }

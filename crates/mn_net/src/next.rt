@@ -15,7 +15,7 @@ use mn_course_laws::{Coming, Kind};
 
 impl Net {
     /// What comes next of a kind, if it is due by the limit: the item of the least due tick and, of these, of the least number,
-    /// with the step that delivers it, and whether its link loses it. Nothing comes after want of memory.
+    /// with the step that delivers it, and whether its link loses it. Nothing comes after running out of memory.
     pub fn coming(&self, kind: Kind, limit: u64) -> Option<Coming>
         ensures value { (inputs : List (List ℕ)) → StandsFor self.now inputs → result ≡ ledgers self.now.topology self.now.journal inputs kind limit }
         ensures within { IfSome result (λ item. item.due ≤ limit) }

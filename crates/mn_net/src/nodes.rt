@@ -28,7 +28,7 @@ fn next_hop(way: Option<(NodeNo, Option<u32>)>) -> Option<NodeNo>
 }
 
 impl Net {
-    /// Whether no step has wanted memory. What follows is told of a network that works.
+    /// Whether no step has run out of memory. What follows is told of a network that works.
     pub fn works(&self) -> bool
         ensures { result ≡ not self.now.failed }
     {
@@ -46,7 +46,7 @@ impl Net {
         self.topology.laws();
     }
 
-    /// A node's transport: what it has learned and heard, the labels that it gave and heard, and where its labels lead.
+    /// A node's transport: what it has learned and received, the labels that it gave and received, and where its labels lead.
     pub fn transport(&self, node: NodeNo) -> &Lsr
         requires works { self.now.failed ≡ false }
         requires node { node.0 < length self.now.topology.loopbacks }

@@ -20,7 +20,7 @@ impl Net {
         self.transit.packets()
     }
 
-    /// What became of a packet. After want of memory it is what it was before.
+    /// What became of a packet. After running out of memory it is what it was before.
     pub fn verdict(&self, packet: u32) -> Verdict
         requires { packet < length self.now.moving.verdicts }
         ensures told { (inputs : List (List ℕ)) → StandsFor self.now inputs → result ≡ verdict_on (packets_of self.now.topology self.now.journal inputs) packet }
@@ -29,7 +29,7 @@ impl Net {
         self.transit.verdict(packet)
     }
 
-    /// The nodes at which a packet was, from the entry on. After want of memory they are what they were before.
+    /// The nodes at which a packet was, from the entry on. After running out of memory they are what they were before.
     pub fn path(&self, packet: u32) -> &[NodeNo]
         requires { packet < length self.now.moving.verdicts }
         ensures told { (inputs : List (List ℕ)) → StandsFor self.now inputs → map (λ node. node.0) result.now ≡ slice_index_or (packets_of self.now.topology self.now.journal inputs).paths packet [] }
@@ -53,7 +53,7 @@ impl Net {
         self.transit.delivered()
     }
 
-    /// Which packet the last step delivered, by its number from 0, and at which site. After want of memory it may tell of a step that was not
+    /// Which packet the last step delivered, by its number from 0, and at which site. After running out of memory it may tell of a step that was not
     /// done.
     pub fn landed(&self) -> Option<(u32, SiteNo)>
         requires { length self.now.moving.verdicts < 2 ^ 32 }

@@ -26,7 +26,8 @@ use Rattle.mn_course_laws.specs.declared.coming.Coming.{Coming}
 use Rattle.mn_course_laws.specs.Coming.{kind_of, is_kind, is_due, is_due_before, is_lost, coming, earlier}
 use Rattle.mn_course_laws.specs.Next.{IsNext}
 use Rattle.mn_course_laws.proofs.Nexts.{what_is_next}
-use Rattle.mn_timetable_laws.specs.Keys.{Key, Numbering, keys_in, keys_on, with_key, of_notices, of_messages, of_routes, of_frames, channel_from, IsThere, AreThere}
+use Rattle.mn_timetable_laws.specs.Keys.{Key, Numbering, keys_in, keys_on, with_key, of_notices, of_messages, of_routes, of_frames, channel_from, IsThere}
+use Rattle.mn_timetable_laws.specs.Keys.{AreThere}
 use Rattle.mn_timetable_laws.proofs.OtherKeys.{pair_one, turned}
 use Rattle.mn_net_parts_laws.specs.Stands.{Packed, StandsFor}
 use Rattle.mn_net_parts_laws.proofs.News.{all_there}

@@ -23,7 +23,8 @@ relabelled labels [] k i label e = absurd (none_is label e)
 relabelled labels (None ∷ xs) k zero label e = absurd (none_is label e)
 relabelled labels (Some x ∷ xs) k zero label e = sym (same_Some (labels k) label e) ∙ ap labels (let plain : k ≡ k + 0 = omega arith in plain)
 relabelled labels (None ∷ xs) k (suc i) label e = relabelled labels xs (k + 1) i label e ∙ ap labels (let along : k + 1 + i ≡ k + suc i = omega arith in along)
-relabelled labels (Some x ∷ xs) k (suc i) label e = relabelled labels xs (k + 1) i label e ∙ ap labels (let along : k + 1 + i ≡ k + suc i = omega arith in along)
+relabelled labels (Some x ∷ xs) k (suc i) label e = relabelled labels xs (k + 1) i label e
+    ∙ ap labels (let along : k + 1 + i ≡ k + suc i = omega arith in along)
 
 in_session : (labels : ℕ → ℕ) (o : Option Session) (fec label : ℕ) → session_label (option_map (session_with labels) o) fec ≡ Some label → label ≡ labels fec
 in_session labels None fec label e = absurd (none_is label e)

@@ -207,7 +207,8 @@ table_then : (t : Network) (es : List JournalEntry) (tick : ℕ) (s : Step) (old
     IsTransport t (pushed es tick s) old.transport → slice_get old.transport.nodes node ≡ Some standing →
     TableStands t (given t (pushed es tick s)) (later_world t es s) node standing.uses
 table_then t es tick s old node standing h there =
-    subst (λ w. TableStands t (given t (pushed es tick s)) w node standing.uses) (world_from-push t es (start t) (record { tick = tick; step = s; damaged = Undamaged }))
+    subst (λ w. TableStands t (given t (pushed es tick s)) w node standing.uses)
+    (world_from-push t es (start t) (record { tick = tick; step = s; damaged = Undamaged }))
     (h.nodes node standing there).table
 
 -- and each next hop that isn't the edge has a label for it there
@@ -283,7 +284,8 @@ lose_done old moving l d place stays stay lawful is may moved_as left counts =
     let s : Step = Lose l d place in
     let t : Network = old.topology in
     let es : List JournalEntry = old.journal in
-    goes old (record old { journal = pushed old.journal old.tick s; moving = moving }) s [] 0 0 0 is may refl refl (same_tick s old.tick refl) (omega arith) counts (omega arith)
+    goes old (record old { journal = pushed old.journal old.tick s; moving = moving }) s [] 0 0 0 is may refl refl (same_tick s old.tick refl)
+    (omega arith) counts (omega arith)
     (omega arith) (no_more _ is.bytes) (λ ps h. let step = may_step old s [] lawful is may ps h in record {
       works = h.works;
       transport = stays t es old.tick s old.transport lawful refl h.transport;
@@ -404,7 +406,8 @@ inject_done old moving tally site number b node entered outer made made_now stay
     (let room = room_for old is site number b may (told is.inputs is.stands) in omega (arith, room, small)) (λ ps h.
     let still : IsTransport t (pushed es old.tick s) old.transport = stays t es old.tick s old.transport lawful refl h.transport in
     let routes : IsRoutes t (pushed es old.tick s) old.routes = stay t es old.tick s old.routes lawful refl h.routes in
-    let same : world_of t (pushed es old.tick s) ≡ later_world t es s = world_from-push t es (start t) (record { tick = old.tick; step = s; damaged = Undamaged }) in
+    let same : world_of t (pushed es old.tick s) ≡ later_world t es s =
+    world_from-push t es (start t) (record { tick = old.tick; step = s; damaged = Undamaged }) in
     let step = may_step old s b lawful is may ps h in
     let is_fate = fate (pushed es old.tick s) (ps ++ b ∷ []) (lawful_more t es old.tick s b ps h.stands.each h.stands.lawful step) routes still in
     let on = injected t es old.tick site number b ps (packed_in old) moving made h.stands step

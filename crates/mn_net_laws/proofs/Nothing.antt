@@ -1,4 +1,4 @@
--- Nothing flies on a channel where the ledger has nothing there to be learned, heard or carried.
+-- Nothing flies on a channel where the ledger has nothing there to be learned, received or carried.
 use Rattle.std.proofs.Common.{ℕ, ◌≡◌, ◌+◌, ◌-◌, ◌*◌, ◌<◌, Bool, true, false, List, [], ◌∷◌, length, map, drop, refl, arith, sym, ap, ◌∙◌, subst}
 use Rattle.std.specs.Prelude.{◌==◌, ◌&&◌, ◌||◌, not, nat_le, nat_lt}
 use Rattle.std.proofs.lemmas.Bool.Decides.{nat_tests}
@@ -43,7 +43,7 @@ none_of_so_many n a b e = grind (arith, nat_tests, e)
 none_behind : (n a b : ℕ) → n ≡ a - b → (n == 0) ≡ nat_le a b
 none_behind n a b e = grind (arith, nat_tests, e)
 
--- of a session without a life nothing flies, since nothing was said
+-- of a session without a life nothing flies, since nothing was sent
 none_said : (live : Bool) (n a b : ℕ) → n ≡ a - b → (live ≡ false → a ≡ 0) → (n == 0) ≡ (not live || nat_le a b)
 none_said true n a b e silent = none_behind n a b e
 none_said false n a b e silent = let none : a ≡ 0 = silent refl in grind (arith, nat_tests, e, none)

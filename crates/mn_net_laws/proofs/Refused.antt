@@ -20,7 +20,7 @@ refused_so T cause LabelsSpent h = h
 refused_so T cause NetFull h = h
 refused_so T cause TooManySteps h = h
 
--- where it isn't for want of memory, the network is as before
+-- where it isn't because memory ran out, the network is as before
 pub left_so : (T : Type 0) (old new : NetNow) (why : Refused) → Some why ≢ Some NoMemory → new ≡ old → Leaves {T = T} old new (Err why)
 left_so T old new NoMemory other same = absurd (other refl)
 left_so T old new Unchanged other same = same

@@ -95,7 +95,8 @@ module _ (t : Network) (lawful : IsLawful t) (es : List JournalEntry) (ps : List
   labels_are (Attach s) fit =
       let there = home_there t s.0 lawful (less_tells s.0 (length t.sites) fit) in
       ap (nat_le 1048560) (h.given (home_of t s.0) there
-      ∙ ap (λ n. attachments_in (given t es (home_of t s.0)).given + (n - 1)) (given_long t es (home_of t s.0)) ∙ as_many_given t es ps (home_of t s.0) h.packed.lawful)
+      ∙ ap (λ n. attachments_in (given t es (home_of t s.0)).given + (n - 1)) (given_long t es (home_of t s.0))
+      ∙ as_many_given t es ps (home_of t s.0) h.packed.lawful)
   labels_are (LinkUp l) fit = refl
   labels_are _ fit = refl
 

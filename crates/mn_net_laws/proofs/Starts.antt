@@ -83,7 +83,8 @@ pub starts_with : (es : List JournalEntry) (t : Network) (carried : Carried) (ro
     IsTransport t [] carried → IsRoutes t [] routed → carried.notices ≡ [] → carried.messages ≡ [] → routed.messages ≡ [] →
     IsStart moving (2 * length t.links) →
     ((g : Labelling) → transit.StandsFor t g moving no_packets) → Tallies t [] [] tally →
-    IsNet (record (start_of t carried routed moving tally spare) { journal = es }) × StandsFor (record (start_of t carried routed moving tally spare) { journal = es }) []
+    IsNet (record (start_of t carried routed moving tally spare) { journal = es }) × StandsFor
+    (record (start_of t carried routed moving tally spare) { journal = es }) []
 starts_with es t carried routed moving tally spare none transport routes no_notices no_messages no_routes start packets tallied =
     subst (λ js. IsNet (record (start_of t carried routed moving tally spare) { journal = js })
     × StandsFor (record (start_of t carried routed moving tally spare) { journal = js }) []) (sym none) (

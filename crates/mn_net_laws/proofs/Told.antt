@@ -39,9 +39,11 @@ pub node_in : (view now : NetNow) → view ≡ now → IsNet view → (node : �
 node_in view now same is node below =
     subst (λ n. node < n) (sym is.stands.transport.each) (subst (λ (n : NetNow). node < length n.topology.loopbacks) (sym same) below)
 
-pub changed_once_free : (net : NetNow) → IsNet net → IsLawful net.topology → (node : ℕ) → node < length net.topology.loopbacks → ChangedOnceFree net.topology net.journal node
+pub changed_once_free : (net : NetNow) → IsNet net → IsLawful net.topology → (node : ℕ) → node < length net.topology.loopbacks →
+    ChangedOnceFree net.topology net.journal node
 changed_once_free net is lawful node below entries entry same =
-    changes_once_free net.topology entries is.inputs entry node below lawful (subst (λ (journal : List JournalEntry). IsLawfulJournal net.topology journal is.inputs) same is.stands.stands.lawful)
+    changes_once_free net.topology entries is.inputs entry node below lawful
+    (subst (λ (journal : List JournalEntry). IsLawfulJournal net.topology journal is.inputs) same is.stands.stands.lawful)
 
 pub link_in : (view now : NetNow) → view ≡ now → IsNet view → (l : ℕ) → l < length now.topology.links → l < length view.transport.changes
 link_in view now same is l below =

@@ -174,7 +174,7 @@ route_numbers net is =
     flight_below (of_routes (length net.topology.loopbacks)) net.topology net.journal is.inputs net.made net.routes.messages is.stands.stands.made
     is.stands.stands.routes
 
--- 4. What is said
+-- 4. What is sent
 
 -- a step of links tells no routes
 none_told : (t : Network) (es : List JournalEntry) (s : Step) → is_transport s ≡ true → routes_now t es s ≡ []
@@ -434,7 +434,8 @@ down_done old l carried moving made made_now stay lawful is may did moved_as lef
       tally = counts_as_it_did old.topology old.journal old.tick s [] ps old.tally lawful h.stands.lawful h.stands.each refl refl h.tally;
       stands = cut_down old.topology old.journal old.tick l [] ps (packed_in old) _ h.stands step
           (links_said old s carried moving made lawful is may refl did)
-          (moved_as (given old.topology (pushed old.journal old.tick s)) (later_world old.topology old.journal s) (packets_now old.topology old.journal ps old.tick s) []
+          (moved_as (given old.topology (pushed old.journal old.tick s)) (later_world old.topology old.journal s)
+          (packets_now old.topology old.journal ps old.tick s) []
           (labelled_now old.topology old.journal old.tick s old.moving ps lawful h.stands.lawful step.forward refl h.stands.packets)) left;
     }))
 

@@ -12,7 +12,7 @@ use Rattle.mn_timetable_laws.specs.Steps.{pushed}
 use Rattle.mn_net_laws.specs.Now.{NetNow, StandsFor, HasRoom}
 use Rattle.mn_ledger.specs.Time.{ticks_in}
 
--- done exactly where nothing refuses the step, and else the first cause; want of memory is free
+-- done exactly where nothing refuses the step, and else the first cause; out of memory is free
 abbrev pub Answers : {T : Type 0} → Option Refused → Result T Refused → Type 0
 Answers cause (Ok done) = cause ≡ None
 Answers cause (Err NoMemory) = ⊤
@@ -31,7 +31,7 @@ pub record IsLonger (old new : NetNow) (step : Step) : Type 0 where
   pub room : length old.journal < most_steps
   pub made : old.made ≤ new.made
 
--- after want of memory: the journal, verdicts and paths as before it
+-- after running out of memory: the journal, verdicts and paths as before it
 pub record HasFailed (old new : NetNow) : Type 0 where
   pub topology : new.topology ≡ old.topology
   pub journal : new.journal ≡ old.journal

@@ -31,7 +31,7 @@ pub record NodeMeans (net : NetNow) (node : ℕ) (standing : Standing) : Type 0 
 pub record LabelsMean (net : NetNow) (inputs : List (List ℕ)) : Type 0 where
   pub nodes : (node : ℕ) (standing : Standing) → node < length net.topology.loopbacks → slice_get net.transport.nodes node ≡ Some standing →
       NodeMeans net node standing
-  -- each Mapping, Withdraw or Release in flight spells what was said and not heard, with the label that its FEC has now
+  -- each Mapping, Withdraw or Release in flight spells what was sent and not received, with the label that its FEC has now
   pub said : (l : ℕ) (dir : Dir) → l < length net.topology.links →
       map (λ item. item.item) (on_channel (channel l dir) net.transport.messages)
       ≡ drop ((world_of net.topology net.journal).sessions.heard l (receiver (wiring_of net.topology) l dir))

@@ -61,7 +61,7 @@ abbrev pub WorksAsNet : NetNow → Type 0
 WorksAsNet net = net.failed ≡ false → IsNet net
 
 -- It works, and has memory for so many more steps that carry or lose a frame, and numbers for what they make. The room of a network
--- is the greatest such number; a network that has wanted memory has none.
+-- is the greatest such number; a network that has run out of memory has none.
 pub record HasRoom (net : NetNow) (more : ℕ) : Type 0 where
   pub works : net.failed ≡ false
   pub journal : more ≤ net.spare

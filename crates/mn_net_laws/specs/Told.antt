@@ -17,7 +17,7 @@ abbrev pub state_at : Network → World → ℕ → ℕ → Option LdpState
 state_at topology world l end = if lives world.config l then Some (ldp_state_of topology world.sessions l end) else None
 
 -- a label that a FEC had before the last step means something else after it only where the FEC was free before it: the node didn't offer
--- it, each Withdraw of it had its Release heard or its session ended, and no frame that was sent before that could fly any more
+-- it, each Withdraw of it had its Release received or its session ended, and no frame that was sent before that could fly any more
 abbrev pub ChangedOnceFree : Network → List JournalEntry → ℕ → Type 0
 ChangedOnceFree topology journal node =
     (entries : List JournalEntry) (entry : JournalEntry) → journal ≡ entries ++ entry ∷ [] → ChangesOnceFree topology entries entry node

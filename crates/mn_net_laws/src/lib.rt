@@ -11,7 +11,7 @@
 //! ```
 //!
 //! So a contract of a step says: for whatever packets the network stood, it stands for them now, or for them and the one that entered.
-//! After want of memory it stands for nothing any more, but its journal, verdicts and paths are as they were (`Leaves`, `HasFailed`).
+//! After running out of memory it stands for nothing any more, but its journal, verdicts and paths are as they were (`Leaves`, `HasFailed`).
 //!
 //! - `specs/Now`: what contracts see of a network, when it stands for the ledger, and what always holds of it
 //! - `specs/Labels`: what labels mean between any two steps

@@ -114,7 +114,8 @@ pub labelled_now : (t : Network) (es : List JournalEntry) (tick : ℕ) (s : Step
     GoesForward t (tick_from 0 es) (packets_of t es ps) tick → takes_time s ≡ false → transit.StandsFor t (given t es) m (packets_of t es ps) →
     transit.StandsFor t (given t (pushed es tick s)) m (packets_now t es ps tick s)
 labelled_now t es tick s m ps lawful journal forward quiet h =
-    stands_now t (given t (pushed es tick s)) m (clock_after (entry_of tick s)) s (packets_of t es ps) quiet (labelled_then t es tick s m ps lawful journal forward h)
+    stands_now t (given t (pushed es tick s)) m (clock_after (entry_of tick s)) s (packets_of t es ps) quiet
+    (labelled_then t es tick s m ps lawful journal forward h)
 
 -- 3. Each clause
 
@@ -160,11 +161,13 @@ goes_on t es tick s b ps old new h may done =
           ∙ sym (ap (λ (flight : Flight). flight.made) (flight_more t es tick s b ps h.each));
       notices = clause (of_notices n) t es tick s b ps _ _ new.notices h.each
           (notices_left t s left.items may.fitting there ∙ ap (notices_leave n s) (notices_timed n t clock s f ∙ sym h.notices))
-          (ap (λ m. keys_on (of_notices n) (numbered t tick m (made_now t es ps tick s b))) (sym h.made) ∙ notices_made n t w v k q s tick old.made) done.notices;
+          (ap (λ m. keys_on (of_notices n) (numbered t tick m (made_now t es ps tick s b))) (sym h.made)
+          ∙ notices_made n t w v k q s tick old.made) done.notices;
       messages = clause (of_messages t) t es tick s b ps _ _ new.messages h.each
           (messages_left t s left.items may.topology_lawful may.fitting there
           ∙ ap (messages_leave s) (messages_timed t t clock s f ∙ sym h.messages))
-          (ap (λ m. keys_on (of_messages t) (numbered t tick m (made_now t es ps tick s b))) (sym h.made) ∙ messages_made t w v k q s tick old.made) done.messages;
+          (ap (λ m. keys_on (of_messages t) (numbered t tick m (made_now t es ps tick s b))) (sym h.made)
+          ∙ messages_made t w v k q s tick old.made) done.messages;
       routes = clause (of_routes n) t es tick s b ps _ _ new.routes h.each
           (routes_left t s left.items (edge_nodes t s may.fitting (edge-below t may.topology_lawful)) there
           ∙ ap (routes_leave n s) (routes_timed n t clock s f ∙ sym h.routes))

@@ -9,7 +9,7 @@ use mn_script::{Command, Line, ScriptBad, read_script};
 use mn_topo::Step;
 use std::alloc::{AllocError, Global};
 
-/// Does a step. One that doesn't fit the topology counts as want of memory, which no row expects.
+/// Does a step. One that doesn't fit the topology counts as out of memory, which no row expects.
 fn go(net: &mut Net, step: Step, packet: &[u8]) -> Result<(), Refused> {
     if !net.topology().fits(&step) {
         return Err(Refused::NoMemory);

@@ -53,7 +53,7 @@ fn is_playable(topology: &Topology, command: &Command) -> bool
     }
 }
 
-/// Plays a line. One that can't be played counts as want of memory, which no row expects.
+/// Plays a line. One that can't be played counts as out of memory, which no row expects.
 fn play_line(net: &mut Net, command: &Command, watch: &mut Recorder) -> Result<Played, Stopped> {
     if is_playable(net.topology(), command) && net.tick() <= 1 << 61 {
         play(net, command, watch)

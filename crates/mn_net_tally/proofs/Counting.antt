@@ -329,7 +329,8 @@ module _ (t : Network) (es : List JournalEntry) (tick : ℕ) (s : Step) (b : Lis
   abbrev k : Packets
   k = later_packets t es ps tick s b
 
-  those_are : (fs : List (Channel × Load)) → frames_in (packets_now t es ps tick s) k s ≡ fs → keys_on of_frames those ≡ keys_on of_frames (numbered t tick n fs)
+  those_are : (fs : List (Channel × Load)) → frames_in (packets_now t es ps tick s) k s ≡ fs →
+      keys_on of_frames those ≡ keys_on of_frames (numbered t tick n fs)
   those_are fs e =
       frames_made t (world_of t es) v (packets_now t es ps tick s) k s tick n
       ∙ ap (λ i. keys_on of_frames (numbered t tick i (frames_in (packets_now t es ps tick s) k s))) (first_number t (world_of t es) v s n m)

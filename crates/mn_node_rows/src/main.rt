@@ -12,7 +12,7 @@
 mod frames;
 mod labels;
 mod links;
-mod mended;
+mod mended; // trees that are mended
 mod numbers;
 mod routers;
 mod trees;

@@ -66,7 +66,7 @@ fn turn_all(tree: &mut MendTree, call: Call<'_>) -> Result<(), AllocError> {
     turn_over::<Brand>(tree, call, Blank::new(1))
 }
 
-/// The cost of a node and the next hop to it; none where the tree has wanted memory, or the node isn't there.
+/// The cost of a node and the next hop to it; none where the tree has run out of memory, or the node isn't there.
 pub(crate) fn entry(tree: &MendTree, to: NodeNo) -> Option<(Option<u32>, Option<NodeNo>)> {
     if tree.failed() || u32::from(to.0) >= tree.nodes() {
         return None;

@@ -4,9 +4,9 @@
 //!   0 pe1 --- 0 --- 1 p --- 1 --- 2 pe2
 //! ```
 //!
-//! `lsr new NODE LINK ..` makes a router that opens these sessions; `lsr agree` has those that were made hear one another until
-//! all is said, and answers how many PDUs were refused; `lsr said NODE LINK` is all that it said there, `lsr state NODE LINK` its
-//! session. `lsr hear NODE LINK BYTES` and `lsr close NODE LINK` answer what is said then: on the link where it heard, and on
+//! `lsr new NODE LINK ..` makes a router that opens these sessions; `lsr agree` has those that were made receive from one another until
+//! all is sent, and answers how many PDUs were refused; `lsr said NODE LINK` is all that it sent there, `lsr state NODE LINK` its
+//! session. `lsr hear NODE LINK BYTES` and `lsr close NODE LINK` answer what is sent then: on the link where it received, and on
 //! link 0 as it closes; they happen at the tick of the last `lsr tick NODE TICK`. `lsr outer NODE TO`, `lsr mended NODE TO`, `lsr forward NODE STACK`, `lsr attach NODE SITE`,
 //! `lsr detach NODE LABEL`.
 ghost use Rattle.std.specs.Prelude.{◌≡◌, ◌≢◌, ◌<◌, true, false, None, length, IfOk, OnOk, IsTrue};
@@ -46,7 +46,7 @@ const ENDS: [LinkEnds; 2] = [
     },
 ];
 
-/// Who hears whom in a round: the speaker, the link and the hearer.
+/// Who receives whom in a round: the speaker, the link and the hearer.
 const ROUND: [(u16, u16, u16); 4] = [(2, 1, 1), (0, 0, 1), (1, 1, 2), (1, 0, 0)];
 
 /// Learns of a link, which a node without a session says nothing of.
@@ -96,7 +96,7 @@ fn is_at(me: NodeNo, link: LinkNo) -> bool
     matches!((me.0, link.0), (0, 0) | (1, 0) | (1, 1) | (2, 1))
 }
 
-/// Opens a session, where the node is an end of the link and has none, and answers what is said.
+/// Opens a session, where the node is an end of the link and has none, and answers what is sent.
 fn open(
     alloc: Global,
     lsr: &mut Lsr,
@@ -125,7 +125,7 @@ fn add(all: &mut Vec<Said>, more: Vec<Said>) -> Result<(), AllocError> {
     Ok(())
 }
 
-/// The bytes that were said on a link, in hexadecimal.
+/// The bytes that were sent on a link, in hexadecimal.
 fn on_link(alloc: Global, said: &[Said], link: LinkNo) -> Answer {
     let mut bytes = Vec::new(alloc);
     for one in said {
@@ -136,7 +136,7 @@ fn on_link(alloc: Global, said: &[Said], link: LinkNo) -> Answer {
     Ok(Some(in_hex(alloc, &bytes)?))
 }
 
-/// A node, all that it has said, and by link how much of that its neighbour has heard.
+/// A node, all that it has sent, and by link how much of that its neighbour has received.
 #[derive(Drop)]
 pub(crate) struct Router {
     lsr: Lsr,
@@ -183,7 +183,7 @@ impl Router {
         }
     }
 
-    /// Hears PDUs, and answers how many were refused.
+    /// Receives PDUs, and answers how many were refused.
     fn hear_all(
         &mut self,
         alloc: Global,
@@ -200,7 +200,7 @@ impl Router {
         Ok(refused)
     }
 
-    /// The PDUs of a link that its neighbour hasn't heard yet, which it hears now.
+    /// The PDUs of a link that its neighbour hasn't received yet, which it receives now.
     fn untold(&mut self, alloc: Global, link: LinkNo) -> Result<Vec<Vec<u8>>, AllocError> {
         let mut pdus = Vec::new(alloc);
         let Some(told) = self.told.get_mut(usize::from(link.0)) else {
@@ -225,7 +225,7 @@ impl Router {
         Ok(answer)
     }
 
-    /// Whether both links are learned, which a node that has wanted memory doesn't say.
+    /// Whether both links are learned, which a node that has run out of memory doesn't say.
     fn has_learned(&mut self, db: &LinkDb) -> bool
         requires { length db.now ≡ 2 }
         ensures { IsTrue result → self.new.lsr.failed ≡ false }
@@ -361,7 +361,7 @@ impl Routers {
         }
     }
 
-    /// What one said on a link is heard by the other, where both were made.
+    /// What one sent on a link is received by the other, where both were made.
     fn exchange(
         &mut self,
         alloc: Global,
@@ -379,7 +379,7 @@ impl Routers {
         }
     }
 
-    /// Eight rounds, after which all is said.
+    /// Eight rounds, after which all is sent.
     fn agree(&mut self, alloc: Global) -> Answer {
         let mut refused = 0u32;
         for _ in 0..8 {

@@ -1,4 +1,4 @@
--- Heard routes in an ordered map, at their VRFs and prefixes.
+-- Received routes in an ordered map, at their VRFs and prefixes.
 use Rattle.std.proofs.Common.{ℕ, ◌≡◌, true, false, arith, ◌∙◌, ap}
 use Rattle.std.specs.Prelude.{nat_lt}
 use Rattle.std.specs.declared.cmp.Ordering.{Ordering}

@@ -1,4 +1,4 @@
--- RFC 4271, section 3.2, and RFC 4456, section 8: the routes that were heard of one peer, each by its last mention, with the reflectors
+-- RFC 4271, section 3.2, and RFC 4456, section 8: the routes that were received from one peer, each by its last mention, with the reflectors
 -- through which it came.
 use Rattle.std.specs.Prelude.{ℕ, Bool, List, [], Option}
 use Rattle.mn_base.specs.declared.numbers.Rt.{Rt}

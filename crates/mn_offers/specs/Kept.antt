@@ -1,4 +1,4 @@
--- How heard routes are kept: each in an ordered map, at its VRF and prefix.
+-- How received routes are kept: each in an ordered map, at its VRF and prefix.
 use Rattle.std.specs.Prelude.{ℕ, List}
 use Rattle.mn_by_key_laws.specs.ByKey.{AreByKey}
 use Rattle.mn_prefix.specs.Prefix.{AddressBlock}

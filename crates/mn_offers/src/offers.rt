@@ -11,7 +11,7 @@ use std::collections::BTreeMap;
 use std::collections::btree_map::Values;
 use std::marker::Model;
 
-/// The routes heard of one peer. Contracts see the list of them, which ascends.
+/// The routes received from one peer. Contracts see the list of them, which ascends.
 #[derive(Drop)]
 pub struct Offers {
     by_name: BTreeMap<(u16, Prefix), Offered>,
@@ -31,7 +31,7 @@ impl Model for Offers {
 }
 
 impl Offers {
-    /// Nothing was heard yet. It takes no memory.
+    /// Nothing was received yet. It takes no memory.
     pub fn new(alloc: Global) -> Offers
         ensures { result ≡ [] }
     {

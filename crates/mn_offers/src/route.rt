@@ -67,7 +67,7 @@ impl Offered {
         self.label
     }
 
-    /// Its targets, in the order in which they were told.
+    /// Its targets, in the order in which they were advertised.
     pub fn targets(&self) -> &[Rt]
         ensures { result.now ≡ self.now.targets }
     {

@@ -47,7 +47,10 @@ above a (suc n) x i = elim i [ inl e ↦ omega (arith, e) | inr j ↦ (let h = a
 
 range_apart : (a n : ℕ) → AreApart Same (range_with_len a n)
 range_apart a zero = tt
-range_apart a (suc n) = (λ y i e. (let h = above (a + 1) n y i in let clash : a + 1 ≤ y → a ≡ y → ⊥ = (λ p q. omega (arith, p, q)) in clash h e), range_apart (a + 1) n)
+range_apart a (suc n) = (
+  λ y i e. (let h = above (a + 1) n y i in let clash : a + 1 ≤ y → a ≡ y → ⊥ = (λ p q. omega (arith, p, q)) in clash h e),
+  range_apart (a + 1) n,
+)
 
 -- 2. The attachments to which a node gives labels
 
@@ -126,7 +129,8 @@ from_apart t node c (e ∷ es) =
     apart : (x y : Bind) → IsLater c x × ((site number : ℕ) → x ≡ attachment_of site number → number < (config_after c e.step).attaches site + 2) →
         IsLater (config_after c e.step) y → Alike x y → ⊥
     apart x y h l a =
-        let same = numbers_one h.0.site h.0.number l.site l.number (subst (λ u. Alike u (attachment_of l.site l.number)) h.0.is (subst (λ v. Alike x v) l.is a)) in
+        let same = numbers_one h.0.site h.0.number l.site l.number
+        (subst (λ u. Alike u (attachment_of l.site l.number)) h.0.is (subst (λ v. Alike x v) l.is a)) in
         let low : h.0.number < (config_after c e.step).attaches h.0.site + 2 = h.1 h.0.site h.0.number h.0.is in
         let high : (config_after c e.step).attaches h.0.site + 2 ≤ l.number = subst (λ s. (config_after c e.step).attaches s + 2 ≤ l.number) same.0 l.late in
         omega (arith, low, high, same.1)
@@ -161,7 +165,8 @@ label_of_one (g ∷ gs) label s k apart i = by (is_attachment g.what) (same_bind
     none b at e = no (sym at ∙ ap is_attachment (same_is (attachment_of s k) g.what e))
 
     by : (a b : Bool) → is_attachment g.what ≡ a → same_bind (attachment_of s k) g.what ≡ b →
-        AreApart Alike (map (λ (x : Given). x.what) (cond a (g ∷ filter (λ (x : Given). is_attachment x.what) gs) (filter (λ (x : Given). is_attachment x.what) gs))) →
+        AreApart Alike (map (λ (x : Given). x.what)
+        (cond a (g ∷ filter (λ (x : Given). is_attachment x.what) gs) (filter (λ (x : Given). is_attachment x.what) gs))) →
         (g ≡ record { label = label; what = attachment_of s k }) ⊎ In gs (record { label = label; what = attachment_of s k }) →
         (AreApart Alike (attachments_given gs) → In gs (record { label = label; what = attachment_of s k }) → label_given (attachment_of s k) gs ≡ label) →
         cond b g.label (label_given (attachment_of s k) gs) ≡ label
@@ -172,7 +177,8 @@ label_of_one (g ∷ gs) label s k apart i = by (is_attachment g.what) (same_bind
     by true false at e h (inr j) more = more h.1 j
     by false false at e h (inr j) more = more h j
 
-pub has_its_label : (t : Network) (es : List JournalEntry) (node label s k : ℕ) → In (given t es node).given (record { label = label; what = attachment_of s k }) →
+pub has_its_label : (t : Network) (es : List JournalEntry) (node label s k : ℕ) →
+    In (given t es node).given (record { label = label; what = attachment_of s k }) →
     label_in (given t es node) (attachment_of s k) ≡ label
 has_its_label t es node label s k i =
     label_of_one (given t es node).given label s k (subst (AreApart Alike) (sym (journal_gives t es node)) (apart_first t es node)) i

@@ -1,4 +1,4 @@
--- The whole of a .ldp file: all that an end said over a link, in all lives of the session, with the labels of the moment at which it was said.
+-- The whole of a .ldp file: all that an end sent over a link, in all lives of the session, with the labels of the moment at which it was sent.
 use Rattle.std.proofs.Common.{ℕ, zero, suc, ◌≡◌, ◌+◌, ◌-◌, ◌<◌, ◌≤◌, inl, inr, Bool, true, false, List, [], ◌∷◌, ◌++◌, map, length, drop, refl, arith}
 use Rattle.std.proofs.Common.{sym, ap, subst, ◌∙◌, append_assoc, append-nil}
 use Rattle.std.specs.Prelude.{◌==◌, ◌||◌}
@@ -49,7 +49,7 @@ zipped f (i ∷ a) b [] ys n = absurd (omega (arith, n))
 zipped f (i ∷ a) b (x ∷ xs) ys n =
     ap (λ r. f (i, x) ++ r) (zipped f a b xs ys (omega (arith, n))) ∙ sym (append_assoc (f (i, x)) (flat_map f (zip a xs)) (flat_map f (zip b ys)))
 
--- what is said in a row at one moment
+-- what is sent in a row at one moment
 in_row : (t : Network) (labels : ℕ → Labelling) (now : Labelling) (l end id : ℕ) (sayings : List Saying)
     → ((saying : Saying) → In sayings saying → labels saying.number ≡ now)
     → flat_map (said_pdu t labels l end) (zip (range_with_len id (length sayings)) sayings) ≡ pdus t now l end id (messages_in sayings)
@@ -58,7 +58,7 @@ in_row t labels now l end id (s ∷ ss) h =
     ap (λ given. pdu_bytes t given l end id s.message ++ flat_map (said_pdu t labels l end) (zip (range_with_len (id + 1) (length ss)) ss)) (h s (inl refl))
     ∙ ap (λ r. pdu_bytes t now l end id s.message ++ r) (in_row t labels now l end (id + 1) ss (λ x i. h x (inr i)))
 
--- what was said keeps its bytes where the labels of its moment are the same
+-- what was sent keeps its bytes where the labels of its moment are the same
 alike : (t : Network) (labels later : ℕ → Labelling) (l end : ℕ) (ids : List ℕ) (sayings : List Saying)
     → ((saying : Saying) → In sayings saying → labels saying.number ≡ later saying.number)
     → flat_map (said_pdu t labels l end) (zip ids sayings) ≡ flat_map (said_pdu t later l end) (zip ids sayings)
@@ -226,7 +226,7 @@ module _ (t : Network) (capture : List (List ℕ)) (lawful : IsLawful t) (l end 
   messages_grown : messages_in (old ++ fresh) ≡ messages_in old ++ new
   messages_grown = map-append (λ saying. saying.message) old fresh ∙ ap (λ r. messages_in old ++ r) fresh_is_new
 
-  -- what is new flies, and what flies on the channel was said in this life
+  -- what is new flies, and what flies on the channel was sent in this life
   few_new : IsLawfulJournal t later packets → length new ≤ length said
   few_new journal =
       let left : List Item = left_in_flight t e.step (in_time t e (flight_of t es ps)).items in

@@ -24,7 +24,7 @@ each_load what on of is (m ∷ ms) =
     one_load what (same_channel on m.0) m (filter (λ (one : Channel × Load). same_channel on one.0) ms) (of m) (is m.0 m.1)
     ∙ ap (λ rest. of m ++ rest) (each_load what on of is ms)
 
--- 2. What is said over a link, and told to a peer
+-- 2. What is sent over a link, and told to a peer
 
 abbrev pub message_in : Load → List Message
 message_in (Says message) = message ∷ []

@@ -12,7 +12,8 @@ use Rattle.mn_stack.specs.Reading.{entries_of}
 use Rattle.mn_ldp_wire.specs.Grammar.{framed, prefix_element, address_list, status_value, session_parameters, written_message, written}
 use Rattle.mn_vpn_nlri.specs.Grammar.{nlri_of}
 use Rattle.mn_topo.specs.declared.steps.Step.{Step}
-use Rattle.mn_topo.specs.declared.steps.Step.TheVariants.{LinkUp, LinkDown, Learn, LdpAdmin, HearLdp, BgpUp, BgpDown, HearBgp, Attach, Detach, Inject, Carry, Tick}
+use Rattle.mn_topo.specs.declared.steps.Step.TheVariants.{LinkUp, LinkDown, Learn, LdpAdmin, HearLdp, BgpUp, BgpDown, HearBgp, Attach, Detach, Inject, Carry}
+use Rattle.mn_topo.specs.declared.steps.Step.TheVariants.{Tick}
 use Rattle.mn_topo.specs.declared.steps.JournalEntry.{JournalEntry}
 use Rattle.mn_topo.specs.declared.steps.Damaged.TheVariants.{Undamaged}
 use Rattle.mn_script.specs.declared.command.Command.{Command}
@@ -68,7 +69,7 @@ abbrev pub lines_from : ℕ → List Command → List Line
 lines_from number [] = []
 lines_from number (command ∷ commands) = record { number = number; command = command } ∷ lines_from (number + 1) commands
 
--- both links come up, and the edges open their session; a table is asked for; all is learned and heard; a packet is sent, and arrives
+-- both links come up, and the edges open their session; a table is asked for; all is learned and received; a packet is sent, and arrives
 abbrev pub script : List Command
 script =
     Do (LinkUp (link_no 0)) ∷ Do (LinkUp (link_no 1)) ∷ Do (BgpUp (node_no 0) (node_no 2)) ∷ Show Ldp ∷ Drain None ∷ Do (Inject (site_no 0) 1)
@@ -115,7 +116,8 @@ a_label_that_is_given_again_has_two_lines = refl
 pub a_message_keeps_the_label_of_its_moment :
     drop 192 (take 196 (file (Said 0 Back) again)) ++ drop 426 (file (Said 0 Back) again) ≡ 0 ∷ 0 ∷ 0 ∷ 17 ∷ 0 ∷ 0 ∷ 0 ∷ 16 ∷ []
 unfolding next knowledge_of news sessions_after peerings_after held packets_after is_not_ipv4 is_malformed is_truncated has_bad_checksum good
-    checksum_for with_ttl aged in_flight bytes_flying given node_labels framed prefix_element address_list status_value session_parameters written_message written
+    checksum_for with_ttl aged in_flight bytes_flying given node_labels framed prefix_element address_list status_value session_parameters written_message
+    written
 a_message_keeps_the_label_of_its_moment = refl
 
 -- over the first link the packet goes under p's label for pe2 and pe2's label for the site, with TTL 63
@@ -154,7 +156,8 @@ pub the_middle_says_196_bytes : file (Said 0 Back) settling ≡
     5 ∷ 1 ∷ 0 ∷ 0 ∷ 8 ∷ 2 ∷ 0 ∷ 1 ∷ 32 ∷ 192 ∷ 0 ∷ 2 ∷ 3 ∷ 2 ∷ 0 ∷ 0 ∷ 4 ∷ 0 ∷ 0 ∷ 0 ∷ 16 ∷ 0 ∷ 1 ∷ 0 ∷ 34 ∷ 192 ∷ 0 ∷ 2 ∷ 2 ∷ 0 ∷ 0 ∷ 4 ∷ 0 ∷ 0 ∷
     24 ∷ 0 ∷ 0 ∷ 0 ∷ 6 ∷ 1 ∷ 0 ∷ 0 ∷ 8 ∷ 2 ∷ 0 ∷ 1 ∷ 32 ∷ 192 ∷ 0 ∷ 2 ∷ 1 ∷ 2 ∷ 0 ∷ 0 ∷ 4 ∷ 0 ∷ 0 ∷ 0 ∷ 17 ∷ []
 unfolding next knowledge_of news sessions_after peerings_after held packets_after is_not_ipv4 is_malformed is_truncated has_bad_checksum good
-    checksum_for with_ttl aged in_flight bytes_flying given node_labels framed prefix_element address_list status_value session_parameters written_message written
+    checksum_for with_ttl aged in_flight bytes_flying given node_labels framed prefix_element address_list status_value session_parameters written_message
+    written
 the_middle_says_196_bytes = refl
 
 -- pe1 tells pe2: OPEN, KEEPALIVE, and an UPDATE of its export

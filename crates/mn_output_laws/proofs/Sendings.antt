@@ -161,7 +161,8 @@ module _ (t : Network) (capture : List (List ℕ)) where
 
   quiet_step : (past : Past) (s : Step) → asked_by s ≡ [] → injected_by (with_step past s).entries ≡ injected_by past.entries
   quiet_step past s q =
-      one_more past.entries (record { tick = past.clock; step = s; damaged = Undamaged }) ∙ ap (λ r. injected_by past.entries ++ r) q ∙ append-nil (injected_by past.entries)
+      one_more past.entries (record { tick = past.clock; step = s; damaged = Undamaged }) ∙ ap (λ r. injected_by past.entries ++ r) q
+      ∙ append-nil (injected_by past.entries)
 
   arrives : (arrivals : Arrivals) (past : Past) (item : Coming) → IsQuiet item → injected_by (arrived arrivals past item).entries ≡ injected_by past.entries
   arrives News past item q = quiet_step past (delivery item) q

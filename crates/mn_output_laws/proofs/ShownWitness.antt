@@ -35,7 +35,15 @@ unfolding given labels_of next knowledge_of news sessions_after
 one_is_swapped = refl
 
 -- to site b, and once that is detached to nobody
-pub one_is_delivered : shown two_links settling 2 (frame (entry 16 true 61 ∷ [])) ≡ (Site (site_no 1), record { entries = []; packet = with_ttl packet 60; room = 3 })
+pub one_is_delivered : shown two_links settling 2 (frame (entry 16 true 61 ∷ [])) ≡ (
+  Site (site_no 1),
+  record {
+    entries = [];
+    packet =
+        with_ttl packet 60;
+    room = 3;
+  },
+)
 unfolding given labels_of next knowledge_of news sessions_after
 one_is_delivered = refl
 

@@ -34,7 +34,7 @@ use Rattle.mn_output_laws.proofs.Deliveries.{by_last, its_packet}
 use Rattle.mn_output_laws.proofs.Frames.{same_all}
 use Rattle.mn_output_laws.proofs.Loads.{each_load, is_told}
 
--- 1. What an edge tells, of loads and of all that is made
+-- 1. What an edge advertises, of loads and of all that is made
 
 same_told : (edge peer : ℕ) (made : List (Channel × Load)) → flat_map telling_in (loads_in (Routes edge peer) made) ≡ flat_map (told_on edge peer) made
 same_told edge peer made = each_load telling_in (Routes edge peer) (told_on edge peer) (is_told edge peer) made
@@ -73,7 +73,7 @@ in_drop (suc n) (y ∷ ys) x i = inr (in_drop n ys x i)
 one_telling : (a b : Telling) → Tells a ≡ Tells b → a ≡ b
 one_telling a b e = cc
 
--- what flies was told in this life, and what was told in this life has a label
+-- what flies was told in this life, and what was sent in this life has a label
 flies_labelled : (t : Network) (es : List JournalEntry) (ps : List (List ℕ)) (edge peer : ℕ) → IsLawful t → IsLawfulJournal t es ps → edge ≢ peer
     → (telling : Telling) → In (loads_on (Routes edge peer) (flight_of t es ps).items) (Tells telling) → IsLabelled t es telling
 flies_labelled t es ps edge peer lawful journal apart telling i export e =

@@ -48,7 +48,8 @@ module _ (t : Network) (es : List JournalEntry) (node : ℕ) (uses : List (ℕ �
     where
       by : (o : Option Bind) → meaning_of (given t es node) label ≡ o → use_of uses label ≡ leads t (given t es) (world_of t es) node o
       by None e = h.others label (λ thing had same. nobodys (sym e
-          ∙ is_meant (given t es node) (given_fit t es node) label thing (subst (λ n. Means (given t es node) n thing) same (has_means (given t es node) thing had))))
+          ∙ is_meant (given t es node) (given_fit t es node) label thing
+          (subst (λ n. Means (given t es node) n thing) same (has_means (given t es node) thing had))))
         where
           nobodys : {thing : Bind} → None ≡ Some thing → ⊥
           nobodys q = cc

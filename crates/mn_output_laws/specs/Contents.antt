@@ -70,7 +70,7 @@ abbrev pub pdus : Network → Labelling → ℕ → ℕ → ℕ → List Message
 pdus topology given l end id [] = []
 pdus topology given l end id (message ∷ messages) = pdu_bytes topology given l end id message ++ pdus topology given l end (id + 1) messages
 
--- a message's id is its place, from 1, among those that its end has said in the session's life; the new ones are the last
+-- a message's id is its place, from 1, among those that its end has sent in the session's life; the new ones are the last
 abbrev pub new_pdus : Network → Moment → ℕ → ℕ → List Message → List ℕ
 new_pdus topology now l end messages =
     pdus topology (labels_then topology now) l end (length ((world_then topology now).sessions.said l end) - length messages + 1) messages

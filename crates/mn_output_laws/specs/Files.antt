@@ -12,8 +12,8 @@ pub data OutputFile : Type 0 where
   Labels : OutputFile  -- each label that was given
   Deliveries : OutputFile  -- each packet that was delivered
   Frames : (l : ℕ) → OutputFile  -- each frame that a link was given
-  Said : (l : ℕ) → (dir : Dir) → OutputFile  -- what LDP said over a link in a direction
-  Told : (edge : ℕ) → (peer : ℕ) → OutputFile  -- what an edge told a peer by BGP
+  Said : (l : ℕ) → (dir : Dir) → OutputFile  -- what LDP sent over a link in a direction
+  Told : (edge : ℕ) → (peer : ℕ) → OutputFile  -- what an edge sent a peer by BGP
 
 -- the ordered pairs of different edges
 abbrev pub told_files : Network → ℕ → List OutputFile

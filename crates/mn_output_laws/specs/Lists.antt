@@ -28,7 +28,7 @@ deliveries_file topology capture entries =
 
 -- 2. LDP: RFC 5036, section 3.5
 
--- a message that an end said, and the number of its item
+-- a message that an end sent, and the number of its item
 pub record Saying : Type 0 where
   pub number : ℕ
   pub message : Message
@@ -44,7 +44,7 @@ all_said topology entries inputs l end = flat_map (λ item. saying_in item.numbe
 abbrev pub messages_in : List Saying → List Message
 messages_in sayings = map (λ saying. saying.message) sayings
 
--- the PDU of what was said, with its id, by the labels of the moment at which it was said
+-- the PDU of what was sent, with its id, by the labels of the moment at which it was sent
 abbrev pub said_pdu : Network → (ℕ → Labelling) → ℕ → ℕ → ℕ × Saying → List ℕ
 said_pdu topology labels l end said = pdu_bytes topology (labels said.1.number) l end said.0 said.1.message
 
@@ -73,7 +73,7 @@ abbrev pub telling_in : Load → List Telling
 telling_in (Tells telling) = telling ∷ []
 telling_in load = []
 
--- all that an edge tells a peer, in all lives of the session, in order
+-- all that an edge sends a peer, in all lives of the session, in order
 abbrev pub all_told : Network → List JournalEntry → List (List ℕ) → ℕ → ℕ → List Telling
 all_told topology entries inputs edge peer = flat_map telling_in (loads_on (Routes edge peer) (made_by topology entries inputs))
 

@@ -25,7 +25,7 @@ abbrev pub packet_for : List (List ℕ) → show.Show → Option (List ℕ)
 packet_for capture (Frame node number) = record_of capture number
 packet_for capture table = None
 
--- a table is told as it stood after what had happened then
+-- a table is reported as it stood after what had happened then
 abbrev pub note_text : Network → List (List ℕ) → Note → List ℕ
 note_text topology capture (Refusal line cause) = refused_line line (cause_text topology.site_names cause)
 note_text topology capture (Missing line) = refused_line line (codes "NoRecord")

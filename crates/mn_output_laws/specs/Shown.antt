@@ -28,7 +28,7 @@ hex_text bytes = flat_map byte_text bytes
 
 -- 2. What is said of a frame
 
--- a rule by which bytes are no frame; want of memory is none of them
+-- a rule by which bytes are no frame; out of memory is none of them
 abbrev pub unread_name : FrameBad → List ℕ
 unread_name NoBottom = codes "NoBottom"
 unread_name Short = codes "Short"

@@ -152,7 +152,8 @@ shown_line topology world given v (Some route) = marked_line topology given v (i
 
 abbrev pub shown_lines : Network → World → Labelling → ℕ → List HeldRoute → List ℕ
 shown_lines topology world given v routes =
-    flat_map (λ prefix. shown_line topology world given v (best_for (shown_among topology world (edge_of topology v) prefix routes) prefix)) (prefixes_of routes)
+    flat_map (λ prefix. shown_line topology world given v (best_for (shown_among topology world (edge_of topology v) prefix routes) prefix))
+    (prefixes_of routes)
 
 abbrev pub held_in : Network → World → ℕ → List HeldRoute
 held_in topology world v = held topology world.config world.peerings (edge_of topology v) v

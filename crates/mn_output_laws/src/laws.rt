@@ -42,9 +42,9 @@ pub fn deliveries_are_written()
         whole topology capture entries Deliveries ≡ deliveries_file topology capture entries }
 {}
 
-/// After a lawful journal the whole of a .ldp file is the PDUs of all that its end said over the link, in order, those of an
+/// After a lawful journal the whole of a .ldp file is the PDUs of all that its end sent over the link, in order, those of an
 /// ended life too, each with its id, which in each life of the session starts with 1 (RFC 5036, section 3.5), and with the labels
-/// of the moment at which it was said: a FEC may get another one later.
+/// of the moment at which it was sent: a FEC may get another one later.
 pub fn all_lives_are_written()
     ensures { (topology : Network) (capture : List (List ℕ)) (entries : List JournalEntry) (l : ℕ) (dir : Dir) →
         IsLawful topology → IsLawfulJournal topology entries (inputs_of capture entries) → l < length topology.links →
@@ -58,7 +58,7 @@ pub fn frames_are_written()
         whole topology capture entries (Frames l) ≡ frames_file topology capture entries l }
 {}
 
-/// After a lawful journal the whole of a .bgp file is the messages of all that its edge told the peer, in order, those of an
+/// After a lawful journal the whole of a .bgp file is the messages of all that its edge sent the peer, in order, those of an
 /// ended life of the session too (RFC 4271, section 4). Their labels are those of the whole journal: an attachment's stays.
 pub fn tellings_are_written()
     ensures { (topology : Network) (capture : List (List ℕ)) (entries : List JournalEntry) (edge peer : ℕ) →

@@ -42,7 +42,7 @@ fn done(pair: &mut Pair, which: Which, step: Step, packet: &[u8]) -> Result<Play
     pair.play(which, &Command::Do(step), packet)
 }
 
-/// Site b gets a route to 10.9.0.0/16, the links and the session come up, and all is learned and heard.
+/// Site b gets a route to 10.9.0.0/16, the links and the session come up, and all is learned and received.
 fn settle(pair: &mut Pair, which: Which) -> Result<(), PairBad> {
     if let Some(prefix) = Prefix::new(0x0A09_0000, 16) {
         done(pair, which, Step::AddRoute(SiteNo(1), prefix), &[])?;

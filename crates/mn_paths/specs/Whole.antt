@@ -1,5 +1,6 @@
 -- Where the nodes of each path are kept, and that each path has its own room.
-use Rattle.std.specs.Prelude.{◌≡◌, ◌≢◌, ◌≤◌, ◌<◌, ◌+◌, ◌-◌, ◌^◌, ◌⊎◌, nat_le, ℕ, Bool, false, cond, List, length, map, take, slice_range, slice_index_or, vec_len}
+use Rattle.std.specs.Prelude.{◌≡◌, ◌≢◌, ◌≤◌, ◌<◌, ◌+◌, ◌-◌, ◌^◌, ◌⊎◌, nat_le, ℕ, Bool, false, cond, List, length, map, take, slice_range, slice_index_or}
+use Rattle.std.specs.Prelude.{vec_len}
 use Rattle.std.specs.Vec.{vec_capacity}
 use Rattle.std.specs.List.{sum_by}
 use Rattle.mn_base.specs.declared.numbers.NodeNo.{NodeNo}

@@ -128,7 +128,7 @@ packet_of RawIpv4 bytes = bytes
 abbrev pub packets_of : List ℕ → Result (List (List ℕ)) PcapBad
 packets_of bytes = after (header_of bytes) (λ form. after (captured_of bytes) (λ captured. Ok (map (packet_of form.link) captured)))
 
--- what a function answers is what the file says, want of memory apart
+-- what a function answers is what the file says, out of memory apart
 abbrev pub Answers : Result (Vec Place Global) PcapBad → Result (List Place) PcapBad → Type 0
 Answers (Ok places) reading = reading ≡ Ok places.items
 Answers (Err NoMemory) reading = ⊤

@@ -28,7 +28,7 @@ is_no_memory (Ok done) = false
 is_no_memory (Err bad.NoMemory) = true
 is_no_memory (Err (bad.Refused rule place)) = false
 
--- a feed was answered with want of memory
+-- a feed ran out of memory
 abbrev pub is_lost : Scan → Bool
 is_lost scan = is_no_memory (standing scan)
 
@@ -49,7 +49,7 @@ abbrev pub lasting : Result (List Place) PcapBad → Option PcapBad
 lasting (Ok places) = None
 lasting (Err bad) = if lasts bad then Some bad else None
 
--- such a refusal, and otherwise none, want of memory apart
+-- such a refusal, and otherwise none, out of memory apart
 abbrev pub Tells : Result (Unit {0}) PcapBad → Option PcapBad → Type 0
 Tells result (Some bad) = result ≡ Err bad
 Tells result None = (result ≡ Ok tt) ⊎ (result ≡ Err bad.NoMemory)

@@ -17,12 +17,12 @@ const MOST: u64 = 1 << 63;
 /// Reads a capture that comes in pieces, and keeps only the places of its records.
 ///
 /// A contract speaks of the bytes that it was fed (`IsFed`), all pieces joined, and of whether a feed
-/// was answered with want of memory (`is_lost`).
+/// ran out of memory (`is_lost`).
 #[derive(Drop)]
 pub struct Scan {
     cursor: Cursor,
     places: Vec<Place>,
-    /// Whether a place wasn't kept for want of memory.
+    /// Whether a place wasn't kept because memory ran out.
     lost: bool,
 }
 
@@ -42,7 +42,7 @@ impl Scan {
     }
 
     /// Takes the next piece, and refuses what no further piece mends: of the bytes so far, taken as a
-    /// whole file, each refusal of `records` but `CutShort`. `NoMemory` comes for want of memory, and
+    /// whole file, each refusal of `records` but `CutShort`. `NoMemory` comes where memory runs out, and
     /// where the bytes reach 2^63. After either, each later answer is the same.
     pub fn feed(&mut self, piece: &[u8]) -> Result<(), PcapBad>
         ensures fed { (bytes : List ℕ) → IsFed self.old bytes → IsFed self.new (bytes ++ piece.now) }

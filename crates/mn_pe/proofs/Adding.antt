@@ -116,7 +116,8 @@ module _ (v : ℕ) (p : AddressBlock) (site : ℕ) where
 
     present_later : (w : VrfState) → In e.vrfs w → (x : Static) → IsPresent e w x → IsPresent more (later w) x
     present_later w i x q = elim (eqb_tells w.number v) [
-      | inl h ↦ subst (λ u. IsPresent more u x) (sym (told_there v (with_static new_static) w h.1)) (q.0, in_with static_before new_static w.statics x q.1 (free w i h.1 x q.1), q.2)
+      | inl h ↦ subst (λ u. IsPresent more u x) (sym (told_there v (with_static new_static) w h.1))
+          (q.0, in_with static_before new_static w.statics x q.1 (free w i h.1 x q.1), q.2)
       | inr h ↦ subst (λ u. IsPresent more u x) (sym (told_else v (with_static new_static) w h.1)) (q.0, q.1, q.2)
     ]
 

@@ -1,4 +1,4 @@
--- Where nothing is attached or heard, a VRF is to hold nothing.
+-- Where nothing is attached or received, a VRF is to hold nothing.
 use Rattle.std.proofs.Common.{ℕ, zero, suc, ◌≡◌, inl, inr, List, [], ◌∷◌, map, refl, sym, ◌∙◌, ap, subst, Option, Some, None}
 use Rattle.std.specs.Prelude.{slice_index_or}
 use Rattle.std.specs.List.{AllByRecursion}

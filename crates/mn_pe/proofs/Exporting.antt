@@ -185,7 +185,12 @@ module _ (v : ℕ) (t : Rt) (e : Edge) (order : InOrder e) (told_vrf : VrfState)
 
   like : (on : Bool) (u : VrfState) → IsLike v u (new_of on u)
   like on u = elim (eqb_tells u.number v) [
-    | inl h ↦ subst (IsLike v u) (sym (told_there v (with_exports (target_set t on)) u h.1)) (record { number = refl; statics = refl; others = λ d. absurd (d h.1) })
+    | inl h ↦ subst (IsLike v u) (sym (told_there v (with_exports (target_set t on)) u h.1)) (record {
+      number = refl;
+      statics = refl;
+      others =
+          λ d. absurd (d h.1);
+    })
     | inr d ↦ subst (IsLike v u) (sym (told_else v (with_exports (target_set t on)) u d.1)) (record { number = refl; statics = refl; others = λ d. refl })
   ]
 

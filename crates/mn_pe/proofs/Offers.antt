@@ -1,4 +1,4 @@
--- As a route is heard, each VRF of the edge holds it in its place, or holds nothing there: no other place changes.
+-- As a route is received, each VRF of the edge holds it in its place, or holds nothing there: no other place changes.
 use Rattle.std.proofs.Common.{ℕ, zero, suc, ◌≡◌, ◌≢◌, ◌<◌, ◌⊎◌, inl, inr, Bool, true, false, cond, List, [], ◌∷◌, ◌++◌, map, filter, length, refl, arith}
 use Rattle.std.proofs.Common.{sym, ◌∙◌, ap, subst}
 use Rattle.std.specs.Prelude.{◌==◌, ◌||◌, nat_lt, slice_set, slice_index_or}
@@ -51,7 +51,8 @@ module _ (raw new : List (AddressBlock × Source)) (x : AddressBlock × Source) 
 
   pub goes_out : ((z : AddressBlock × Source) → In new z → In raw z × AreApart z x) → in_order new ≡ without_one route_before x (in_order raw)
   goes_out only =
-      without_is route_before route_order x (in_order raw) (in_order new) (order_up raw) (order_up new) (λ z i h. order_keeps new one_new z (there z (from_order raw z i) h))
+      without_is route_before route_order x (in_order raw) (in_order new) (order_up raw) (order_up new)
+      (λ z i h. order_keeps new one_new z (there z (from_order raw z i) h))
       (λ z i. let j = only z (from_order new z i) in (order_keeps raw one z j.0, j.1))
 
 -- 2. One peer's routes
@@ -73,7 +74,7 @@ far_of edge q route = (route.prefix, far_over (slice_index_or edge.loopbacks q 0
 pub neither_less : (m n : ℕ) → (nat_lt m n || nat_lt n m) ≡ false → m ≡ n
 neither_less m n h = grind (arith, nat_tests, h)
 
--- places of heard routes, and of held ones
+-- places of received routes, and of held ones
 pub place_apart : (edge : Edge) (q : ℕ) (g h : Heard) → AreApart (far_of edge q g) (far_of edge q h) → (heard_before g h || heard_before h g) ≡ true
 place_apart edge q g h apart = go (heard_before g h || heard_before h g) refl
   where

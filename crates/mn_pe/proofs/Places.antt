@@ -221,7 +221,8 @@ pub as_many : (old now new : List Holding) (to : ℕ) (h : Holding) → new ≡ 
 as_many old now new to h made same = ap length made ∙ set_length now to h ∙ same
 
 -- What a VRF holds is taken out, changed by what the VRF at a place was told, and held again.
-module _ (change : VrfState → List (AddressBlock × Source) → List (AddressBlock × Source)) (old : List Holding) (at to : ℕ) (d first bare other again last : Holding)
+module _ (change : VrfState → List (AddressBlock × Source) →
+    List (AddressBlock × Source)) (old : List Holding) (at to : ℕ) (d first bare other again last : Holding)
     (there : at < length old) (here : to < length old) (first_is : first ≡ slice_index_or old to first) (bare_is : bare ≡ record first { held = [] })
     (other_is : other ≡ slice_index_or (slice_set old to bare) at other) (again_is : again ≡ slice_index_or (slice_set old to bare) to again) where
   abbrev one : Holding

@@ -39,7 +39,7 @@ by_addresses a b x y d = go (first_by a b (nat_lt x y) || first_by b a (nat_lt y
     go true f = f
     go false f = absurd (d (first_neither a b _ _ f).0)
 
--- of one peer, as their places among what was heard
+-- of one peer, as their places among what was received
 pub by_places : (edge : Edge) (q : ℕ) (g h : Heard) → (heard_before g h || heard_before h g) ≡ true → AreApart (far_of edge q g) (far_of edge q h)
 by_places edge q g h apart = go (route_before (far_of edge q g) (far_of edge q h) || route_before (far_of edge q h) (far_of edge q g)) refl
   where

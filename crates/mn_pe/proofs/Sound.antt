@@ -222,7 +222,7 @@ edge_now new old sites labels loopbacks hs q one two same =
     ∙ ap (λ (xs : List (List Heard)). record { vrfs = map (λ (h : Holding). h.vrf) old; sites = sites; labels = labels; loopbacks = loopbacks; heard = xs })
     (set_twice hs q one two)
 
--- an UPDATE is heard, by what was found and made on the way
+-- an UPDATE is received, by what was found and made on the way
 pub record Found (holdings : List Holding) (hs : List (List Heard)) (lb q : ℕ) (says : Says) (at_first at_last one two : List Heard)
     (given taken : List Holding) : Type 0 where
   pub first_is : at_first ≡ slice_index_or hs q at_first

@@ -205,7 +205,7 @@ to_vrfs t labels number imports (u ∷ us) z n = elim n.1 [
       (near_routes t labels number imports us) z (to_vrfs t labels number imports us z (n.0, j, n.2, n.3, n.4))
 ]
 
--- one that was heard of a peer
+-- one that was received from a peer
 abbrev pub IsFarAlone : Rt → ℕ → ℕ → List Rt → List Heard → AddressBlock × Source → Type 0
 IsFarAlone t loopback peer imports rs z =
     (r : Heard) × In rs r × (meet_alone t r.targets imports ≡ true) × (far_route loopback peer r.rd r.prefix r.label ≡ z)

@@ -1,4 +1,4 @@
--- What wasn't heard of a peer isn't held, so nothing has to be given up.
+-- What wasn't received from a peer isn't held, so nothing has to be given up.
 use Rattle.std.proofs.Common.{ℕ, ◌≡◌, ◌<◌, ◌^◌, Bool, true, false, cond, List, [], ◌∷◌, map, refl, sym, ◌∙◌, ap, subst}
 use Rattle.std.specs.Prelude.{◌||◌, not}
 use Rattle.std.specs.List.{AllByRecursion}
@@ -37,7 +37,8 @@ any_label : (p : AddressBlock) (loopback rd peer label : ℕ) (xs : List (Addres
     without_one route_before (p, far_over loopback rd peer label) xs ≡ without_one route_before (p, far_over loopback rd peer 0) xs
 any_label p loopback rd peer label [] = refl
 any_label p loopback rd peer label ((q, s) ∷ xs) =
-    ap (λ b. cond b ((q, s) ∷ without_one route_before (p, far_over loopback rd peer label) xs) (without_one route_before (p, far_over loopback rd peer label) xs))
+    ap (λ b. cond b ((q, s) ∷ without_one route_before (p, far_over loopback rd peer label) xs)
+    (without_one route_before (p, far_over loopback rd peer label) xs))
     (by s)
     ∙ ap (λ l. cond (route_before (q, s) (p, far_over loopback rd peer 0) || route_before (p, far_over loopback rd peer 0) (q, s)) ((q, s) ∷ l) l)
     (any_label p loopback rd peer label xs)
@@ -118,11 +119,13 @@ module _ (hs : List Holding) (heard : List Heard) (loopback q : ℕ) (is : AreOf
         let old = heard_of_peer is.edge q in
         let stays : without_heard rd p old ≡ old =
         without_none heard_before (place_of rd p) old (subst (λ xs. has_heard rd p xs ≡ false) (sym is.heard_is) none) in
-        let sound = subst (λ e. IsSound e (map (giving (far_route loopback q rd p 0)) hs)) (ap (now is.edge q is.below) stays ∙ still is.edge q is.below) (gone rd p) in
+        let sound = subst (λ e. IsSound e (map (giving (far_route loopback q rd p 0)) hs)) (ap (now is.edge q is.below) stays
+        ∙ still is.edge q is.below) (gone rd p) in
         both_hold is.edge (far_route loopback q rd p 0) hs is.sound.held sound.held
 
     pub unheard-given : map (giving (far_route loopback q rd p 0)) hs ≡ hs
     unheard-given = give_nothing (far_route loopback q rd p 0) hs not_held
 
-    pub unheard-taken : (label : ℕ) (ts : List Rt) → map (offering (far_route loopback q rd p label) ts) hs ≡ map (taking (far_route loopback q rd p label) ts) hs
+    pub unheard-taken : (label : ℕ) (ts : List Rt) →
+        map (offering (far_route loopback q rd p label) ts) hs ≡ map (taking (far_route loopback q rd p label) ts) hs
     unheard-taken label ts = offer_all p loopback rd.0 q label ts hs not_held

@@ -1,5 +1,6 @@
 -- A list that is changed from the front on.
-use Rattle.std.proofs.Common.{ℕ, zero, suc, ◌≡◌, ◌<◌, ◌+◌, ◌≤◌, List, [], ◌∷◌, ◌++◌, map, take, drop, length, get_or, refl, arith, ap, ◌∙◌, sym, subst, append_assoc, append-nil, Bool, true, false, filter}
+use Rattle.std.proofs.Common.{ℕ, zero, suc, ◌≡◌, ◌<◌, ◌+◌, ◌≤◌, List, [], ◌∷◌, ◌++◌, map, take, drop, length, get_or, refl, arith, ap, ◌∙◌, sym, subst}
+use Rattle.std.proofs.Common.{append_assoc, append-nil, Bool, true, false, filter}
 use Rattle.std.specs.List.{flat_map}
 use Rattle.std.specs.Prelude.{slice_set, slice_index_or}
 use Rattle.mn_base.proofs.Bools.{none_below as none}
@@ -23,7 +24,8 @@ drop_past (x ∷ xs) zero h = absurd (none (length xs) (omega (arith, h)))
 drop_past (x ∷ xs) (suc i) h = drop_past xs i (omega (arith, h))
 
 -- those up to a place, and one more
-took_more : {A B : Type 0} (f : A → B) (xs : List A) (i : ℕ) (x : A) → i < length xs → x ≡ get_or xs i x → map f (take i xs) ++ f x ∷ [] ≡ map f (take (suc i) xs)
+took_more : {A B : Type 0} (f : A → B) (xs : List A) (i : ℕ) (x : A) → i < length xs → x ≡ get_or xs i x →
+    map f (take i xs) ++ f x ∷ [] ≡ map f (take (suc i) xs)
 took_more f [] i x h is = absurd (none i h)
 took_more f (y ∷ xs) zero x h is = ap (λ z. f z ∷ []) is
 took_more f (y ∷ xs) (suc i) x h is = ap (λ zs. f y ∷ zs) (took_more f xs i x (omega (arith, h)) is)

@@ -12,7 +12,7 @@ pub record Edge : Type 0 where
   pub sites : List VrfNo  -- by site, its VRF
   pub labels : List (Option ℕ)  -- by site, the label of its present attachment at this edge
   pub loopbacks : List ℕ  -- by node
-  pub heard : List (List Heard)  -- by node, what was heard of it in the session's present life
+  pub heard : List (List Heard)  -- by node, what was received from it in the session's present life
 
 -- the VRF of a site
 abbrev pub vrf_of_site : Edge → ℕ → ℕ
@@ -35,14 +35,14 @@ after_reached targets heard [] = heard
 after_reached targets heard (route ∷ routes) =
     after_reached targets (with_heard (record { rd = route.rd; prefix = route.prefix; label = route.label; targets = targets }) heard) routes
 
--- as an UPDATE of a peer is heard
+-- as an UPDATE of a peer is received
 abbrev pub heard_after : List Heard → Says → List Heard
 heard_after heard says = after_reached says.targets (after_withdrawn heard says.withdrawn) says.reached
 
 abbrev pub after_update : Edge → ℕ → Says → Edge
 after_update edge peer says = record edge { heard = slice_set edge.heard peer (heard_after (heard_of_peer edge peer) says) }
 
--- as a message of a peer is heard: an UPDATE, or another, which says no routes
+-- as a message of a peer is received: an UPDATE, or another, which says no routes
 abbrev pub after_message : Edge → ℕ → Option Says → Edge
 after_message edge peer None = edge
 after_message edge peer (Some says) = after_update edge peer says

@@ -12,7 +12,7 @@ use Rattle.mn_vrf.specs.Routes.{route_before}
 use Rattle.mn_vrf.specs.Vrf.{Static, VrfState}
 use Rattle.mn_pe.specs.Edge.{Edge, heard_of_peer}
 
--- a route that the edge tells its peers
+-- a route that the edge advertises to its peers
 pub record Exported : Type 0 where
   pub vrf : ℕ
   pub rd : Rd

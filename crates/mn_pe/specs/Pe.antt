@@ -44,7 +44,7 @@ AllHold edge holdings = AllByRecursion (λ (holding : Holding). holding.held ≡
 abbrev pub AreAtHome : List VrfNo → VrfState → Type 0
 AreAtHome sites vrf = AllByRecursion (λ (static : Static). (slice_index_or sites static.site (record { 0 = 0 })).0 ≡ vrf.number) vrf.statics
 
--- the edge's lists stand in their orders, what was heard has labels, and no two nodes have one loopback
+-- the edge's lists stand in their orders, what was received has labels, and no two nodes have one loopback
 pub record InOrder (edge : Edge) : Type 0 where
   pub few : length edge.heard ≤ 65536  -- nodes are numbered by two bytes
   pub statics : AllByRecursion (λ (vrf : VrfState). Ascends static_before vrf.statics) edge.vrfs
@@ -78,7 +78,7 @@ giving route holding = record holding { held = without_one route_before route ho
 abbrev pub far_route : ℕ → ℕ → Rd → AddressBlock → ℕ → AddressBlock × Source
 far_route loopback peer rd prefix label = (prefix, far_over loopback rd.0 peer label)
 
--- these are an edge's holdings, and what it heard of a peer of this loopback
+-- these are an edge's holdings, and what it received from a peer of this loopback
 pub record AreOfEdge (holdings : List Holding) (heard : List Heard) (loopback peer : ℕ) : Type 0 where
   pub edge : Edge
   pub below : peer < length edge.heard
@@ -99,7 +99,7 @@ after_taking loopback peer targets holdings [] = holdings
 after_taking loopback peer targets holdings (route ∷ routes) =
     after_taking loopback peer targets (map (taking (far_route loopback peer route.rd route.prefix route.label) targets) holdings) routes
 
--- as all that was heard of a peer is forgotten
+-- as all that was received from a peer is forgotten
 abbrev pub after_forgetting : ℕ → ℕ → List Holding → List Heard → List Holding
 after_forgetting loopback peer holdings [] = holdings
 after_forgetting loopback peer holdings (route ∷ routes) =
@@ -131,7 +131,7 @@ pub record IsAt (v : ℕ) (holdings : List Holding) (at : ℕ) : Type 0 where
   pub there : at < length holdings
   pub is : (d : Holding) → (slice_index_or holdings at d).vrf.number ≡ v
 
--- a refusal is for want of memory
+-- a refusal is because memory ran out
 abbrev pub is_want : VrfBad → Bool
 is_want NoMemory = true
 is_want _ = false

@@ -6,5 +6,6 @@ pub use Rattle.mn_bgp_wire.specs.Grammar.{IsBgp}
 pub use Rattle.mn_bgp_wire.specs.Says.{Says}
 pub use Rattle.mn_bgp_wire.specs.declared.message.BgpMessage.TheVariants.{Update}
 pub use Rattle.mn_vrf.specs.Routes.{found_among, is_open, sources_of}
-pub use Rattle.mn_vrf.specs.Vrf.{VrfState, with_static, without_static, with_imports, with_exports, add_refused, del_refused, set_refused, refusal_of, Holding, heads, IsHeldAt}
+pub use Rattle.mn_vrf.specs.Vrf.{VrfState, with_static, without_static, with_imports, with_exports, add_refused, del_refused, set_refused, refusal_of, Holding}
+pub use Rattle.mn_vrf.specs.Vrf.{heads, IsHeldAt}
 pub use Rattle.mn_frame_laws.specs.Given.{Labelling}

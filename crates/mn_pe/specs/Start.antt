@@ -1,4 +1,4 @@
--- An edge at the start: what the topology says of it, no site attached, and nothing heard.
+-- An edge at the start: what the topology says of it, no site attached, and nothing received.
 use Rattle.std.specs.Prelude.{ℕ, ◌≡◌, ◌+◌, ◌==◌, true, List, [], ◌∷◌, ◌++◌, map, None, if◌then◌else◌}
 use Rattle.mn_base.specs.declared.numbers.Rt.{Rt}
 use Rattle.mn_base.specs.Ordered.{with_one}

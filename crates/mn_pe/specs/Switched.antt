@@ -47,7 +47,7 @@ after_vrfs on target labels number imports held (vrf ∷ vrfs) =
     after_vrfs on target labels number imports
     (if not (vrf.number == number) && meet_alone target vrf.exports imports then after_statics on vrf.number labels held vrf.statics else held) vrfs
 
--- those heard of a peer, and of all peers
+-- those received from a peer, and of all peers
 abbrev pub after_heard : Bool → Rt → ℕ → ℕ → List Rt → List (AddressBlock × Source) → List Heard → List (AddressBlock × Source)
 after_heard on target loopback peer imports held [] = held
 after_heard on target loopback peer imports held (route ∷ routes) =

@@ -8,7 +8,7 @@ use mn_base::{Rt, SiteNo, VrfNo};
 use mn_prefix::Prefix;
 use mn_vrf::{Vrf, VrfBad};
 
-/// Whether it is want of memory.
+/// Whether it means out of memory.
 pub(crate) fn is_want(bad: VrfBad) -> bool
     ensures { result ≡ is_want bad }
 {

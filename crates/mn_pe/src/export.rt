@@ -1,4 +1,4 @@
-// What an edge tells its peers of its own routes.
+// What an edge advertises to its peers of its own routes.
 ghost use Rattle.std.specs.Prelude.{◌≡◌, ◌++◌, ◌==◌, ℕ, [], filter, map, drop, length, OnOk, IfOk};
 ghost use Rattle.std.specs.List.{flat_map};
 ghost use Rattle.mn_vrf.specs.Vrf.{VrfState, Static, static_of};
@@ -13,7 +13,7 @@ use mn_vrf::{StaticRoute, Vrf};
 use std::alloc::{AllocError, Global};
 use std::marker::Model;
 
-/// A route that an edge tells its peers (RFC 4364, section 4.3.2).
+/// A route that an edge advertises to its peers (RFC 4364, section 4.3.2).
 #[derive(Debug, Drop)]
 pub struct Export {
     vrf: VrfNo,
@@ -83,7 +83,7 @@ impl Export {
     }
 }
 
-/// A static over a site that has this label, as it is told.
+/// A static over a site that has this label, as it is advertised.
 fn told_as(alloc: Global, vrf: &Vrf, route: &StaticRoute, label: u32) -> Result<Export, AllocError>
     ensures { IfOk result (λ export. export ≡ record { vrf = vrf.now.vrf.number; rd = vrf.now.vrf.rd; prefix = route.now.prefix; label = label; site = route.now.site; targets = vrf.now.vrf.exports }) }
 {
@@ -221,7 +221,7 @@ pub(crate) fn exports_over_in(
     Ok(out)
 }
 
-/// A static as it is told, if it is.
+/// A static as it is advertised, if it is.
 fn told_if(
     alloc: Global,
     vrf: &Vrf,

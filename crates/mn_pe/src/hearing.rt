@@ -1,4 +1,4 @@
-// What a peer told, taken into the VRFs or out of them.
+// What a peer advertised, taken into the VRFs or out of them.
 ghost use Rattle.std.specs.Prelude.{◌≡◌, ◌<◌, ◌^◌, map, take, drop, ◌++◌, length, OnOk};
 ghost use Rattle.mn_pe.specs.Edge.{after_withdrawn, after_reached};
 ghost use Rattle.mn_pe.specs.Held.{far_over};
@@ -94,7 +94,7 @@ fn give_in_all(vrfs: &mut Vec<Vrf>, prefix: Prefix, source: Source)
     }
 }
 
-/// A peer's route is withdrawn. If it wasn't heard, no VRF holds it.
+/// A peer's route is withdrawn. If it wasn't received, no VRF holds it.
 fn hear_one_withdrawn(
     vrfs: &mut Vec<Vrf>,
     heard: &mut RibIn,
@@ -130,7 +130,7 @@ pub(crate) fn hear_withdrawn(
     }
 }
 
-/// A peer's route is announced. If it wasn't heard before, no VRF holds anything in its place.
+/// A peer's route is announced. If it wasn't received before, no VRF holds anything in its place.
 fn hear_one_reached(
     vrfs: &mut Vec<Vrf>,
     heard: &mut RibIn,

@@ -52,7 +52,7 @@ impl Model for Pe {
 }
 
 impl Pe {
-    /// The edge of a node as the topology has it: no site attached, nothing heard.
+    /// The edge of a node as the topology has it: no site attached, nothing received.
     pub fn new(alloc: Global, topology: &Topology, node: NodeNo) -> Result<Pe, NoMemory>
         ensures { IfOk result (λ pe. pe ≡ record { edge = edge_at_start topology.now node.0; failed = false }) }
     {
@@ -62,7 +62,7 @@ impl Pe {
         Ok(pe)
     }
 
-    /// Where nothing is attached or heard, VRFs hold nothing.
+    /// Where nothing is attached or received, VRFs hold nothing.
     fn laid(alloc: Global, topology: &Topology, node: NodeNo) -> Result<Pe, AllocError>
         ensures { IfOk result (λ pe. pe ≡ record { edge = edge_at_start topology.now node.0; failed = false }) }
     {
@@ -83,7 +83,7 @@ impl Pe {
         })
     }
 
-    /// Hears the routes of a peer's UPDATE, whose labels have 20 bits: those that are withdrawn go first.
+    /// Receives the routes of a peer's UPDATE, whose labels have 20 bits: those that are withdrawn go first.
     pub fn hear(&mut self, peer: NodeNo, loopback: u32, update: &Update) -> Result<(), NoMemory>
         requires address { loopback ≡ slice_index_or self.old.edge.loopbacks peer.0 0 }
         requires labels { AreLabelled update.now.reached }
@@ -120,7 +120,7 @@ impl Pe {
         Ok(())
     }
 
-    /// Forgets all that was heard of a peer.
+    /// Forgets all that was received from a peer.
     pub fn forget(&mut self, peer: NodeNo) -> Result<(), NoMemory>
         ensures ok { OnOk result (self.new ≡ record { edge = after_forget self.old.edge peer.0; failed = false }) }
         ensures err { OnErr result (self.new.failed ≡ true) }

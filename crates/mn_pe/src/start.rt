@@ -144,7 +144,7 @@ pub(crate) fn loopbacks_of(alloc: Global, nodes: &[Node]) -> Result<Vec<u32>, Al
     Ok(out)
 }
 
-/// Nothing heard of any node.
+/// Nothing received from any node.
 pub(crate) fn nothing_heard(alloc: Global, loopbacks: &[u32]) -> Result<Vec<RibIn>, AllocError>
     ensures { IfOk result (λ out. out.items ≡ map (λ (loopback : ℕ). []) loopbacks.now) }
 {

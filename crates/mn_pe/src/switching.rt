@@ -107,7 +107,7 @@ fn turn_near(
     Ok(())
 }
 
-/// Those heard of a peer.
+/// Those received from a peer.
 fn turn_far(
     held: &mut Routes,
     loopback: u32,
@@ -128,7 +128,7 @@ fn turn_far(
     Ok(())
 }
 
-/// Those heard of all peers.
+/// Those received from all peers.
 fn turn_heard(
     held: &mut Routes,
     loopbacks: &[u32],

@@ -224,7 +224,8 @@ stays_then {files} {write_faults} {a} {b} {f} {g} {h} {result} one other = recor
   names = other.names ∙ one.names;
   places = other.places ∙ one.places;
   framed = framed_then a.names b.names (files f) (files g) (files h) one.names one.framed other.framed;
-  writes = writes_then a.names b.names (files f) (files g) (write_faults f) (write_faults g) (write_faults h) result one.names one.framed one.writes other.writes;
+  writes = writes_then a.names b.names (files f) (files g) (write_faults f) (write_faults g) (write_faults h) result one.names one.framed one.writes
+      other.writes;
   reads = other.reads ∙ one.reads;
 }
 
@@ -236,12 +237,14 @@ stays_out {files} {write_faults} {a} {f} {g} {e} {result} from one = record {
   names = one.names;
   places = one.places;
   framed = one.framed;
-  writes = counted_out (Lacking a.names (files f)) (Lacking a.names (files f)) (write_faults f) (write_faults f) (write_faults g) e result from refl (λ lacking. lacking) one.writes;
+  writes = counted_out (Lacking a.names (files f)) (Lacking a.names (files f)) (write_faults f) (write_faults f) (write_faults g) e result from refl
+      (λ lacking. lacking) one.writes;
   reads = one.reads;
 }
 
 -- among files that are seen by their fields
-pub stays_seen : {Kept T : Type 0} {files : Kept → Option Files} {write_faults read_faults : Kept → Option ℕ} (names : List (List ℕ)) {a b : BooksNow} {f g : Kept}
+pub stays_seen : {Kept T : Type 0} {files : Kept → Option Files} {write_faults read_faults : Kept →
+    Option ℕ} (names : List (List ℕ)) {a b : BooksNow} {f g : Kept}
     {result : Result T DeviceBad} → names ≡ a.names → b.names ≡ a.names → b.places ≡ a.places → Framed names (files f) (files g) →
     CountedUnless (Lacking names (files f)) (write_faults f) (write_faults g) result → read_faults g ≡ read_faults f →
     Stays files write_faults read_faults a b f g result

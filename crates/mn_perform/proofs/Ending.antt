@@ -216,7 +216,8 @@ same_fault : (a b : Fault) → ◌≡◌ {A = Result Ended Fault} (Err a) (Err b
 same_fault a b e = cc
 
 -- what failed was a call on the sink, or a write
-pub sink_reads_none : (old new : Option ℕ) (why : Fault) → SinkBlamed {T = Unit {0}} old new (Err why) → ◌≡◌ {A = Result Ended Fault} (Err why) (Err fault.Read) → ⊥
+pub sink_reads_none : (old new : Option ℕ) (why : Fault) → SinkBlamed {T = Unit {0}} old new (Err why) →
+    ◌≡◌ {A = Result Ended Fault} (Err why) (Err fault.Read) → ⊥
 sink_reads_none old new fault.Read h e = h
 sink_reads_none old new fault.Write h e = let same : fault.Write ≡ fault.Read = same_fault fault.Write fault.Read e in cc
 sink_reads_none old new fault.NoMemory h e = let same : fault.NoMemory ≡ fault.Read = same_fault fault.NoMemory fault.Read e in cc

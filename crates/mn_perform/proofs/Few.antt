@@ -41,7 +41,11 @@ few_files t lawful =
     all (length frames) (length said) (length told) (length (edges t)) (length t.links) (length (frames ++ (said ++ told))) (length (said ++ told))
     (length-append frames (said ++ told)) (length-append said told)
     (let n = length-map (links_of (wiring_of t)) (λ l. Frames l) in omega (arith, n, length-range_with_len 0 (length t.links)))
-    (let n = each (λ l. Said l Forth ∷ Said l Back ∷ []) 2 (λ l. omega arith) (links_of (wiring_of t)) in omega (arith, n, length-range_with_len 0 (length t.links)))
+    (let n = each (λ l. Said l Forth ∷ Said l Back ∷ []) 2 (λ l. omega arith) (links_of (wiring_of t)) in omega (
+      arith,
+      n,
+      length-range_with_len 0 (length t.links),
+    ))
     (each (told_files t) 256 (λ edge. few_told t edge lawful.few_nodes) (edges t)) (few_edges t lawful.few_nodes) lawful.few_links
   where
     all : (a b c e l x y : ℕ) → x ≡ a + y → y ≡ b + c → a ≤ l → b ≤ 2 * l → c ≤ 256 * e → e ≤ 256 → l ≤ 1024 → suc (suc (suc x)) ≤ 100000

@@ -231,7 +231,8 @@ module _ (t : Network) (all : List (List ℕ)) (begun : Option (List ℕ)) (run 
   abbrev showing : Line
   showing = record { number = number; command = Show table }
 
-  says : notes_text t all (with_line t all run showing) ≡ notes_text t all run ++ table_text net.topology net.journal (inputs_of all net.journal) (packet_for all table) table
+  says : notes_text t all (with_line t all run showing) ≡ notes_text t all run ++ table_text net.topology net.journal (inputs_of all net.journal)
+      (packet_for all table) table
   says =
       flat_map-append (note_text t all) run.notes (Table table run.past ∷ [])
       ∙ ap (λ l. notes_text t all run ++ l)
@@ -239,7 +240,8 @@ module _ (t : Network) (all : List (List ℕ)) (begun : Option (List ℕ)) (run 
       ∙ ap (λ e. table_text t e (inputs_of all e) (packet_for all table) table) (sym keeps.journal)
       ∙ ap (λ n. table_text n net.journal (inputs_of all net.journal) (packet_for all table) table) (sym keeps.topology_is))
 
-  pub table_put : Puts (table_text net.topology net.journal (inputs_of all net.journal) (packet_for all table) table) desk.page desk_new.page written written_new
+  pub table_put : Puts (table_text net.topology net.journal (inputs_of all net.journal) (packet_for all table) table) desk.page desk_new.page written
+      written_new
       → desk_new.sendings ≡ desk.sendings → desk_new.refused ≡ desk.refused
       → Went t all begun (with_line t all run showing) net books desk_new files written_new (Ok ended.All)
   table_put puts sendings refused = (
@@ -258,7 +260,8 @@ module _ (t : Network) (all : List (List ℕ)) (begun : Option (List ℕ)) (run 
     running,
   )
 
-  pub table_cut : (fault : Fault) → PutsPart (table_text net.topology net.journal (inputs_of all net.journal) (packet_for all table) table) desk.page written written_new
+  pub table_cut : (fault : Fault) →
+      PutsPart (table_text net.topology net.journal (inputs_of all net.journal) (packet_for all table) table) desk.page written written_new
       → Went t all begun (with_line t all run showing) net books desk_new files written_new (Err fault)
   table_cut fault part = record {
     begins = begins_on _ _ _ _ (subst (λ e. HoldsOn books.names (contents_at t all e) books.held files) keeps.journal keeps.holds);

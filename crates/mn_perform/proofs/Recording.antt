@@ -98,7 +98,8 @@ step_begins {files} {new} {after} net all capture told stays holding records = �
 -- what is told and held where no file changed
 pub record Unmoved (books : BooksNow) (capture : CaptureView) (before after : Option Files) : Type 0 where
   pub packets : told_packets after books.names capture ≡ told_packets before books.names capture
-  pub holding : (topology : Network) (journal : List JournalEntry) → Holding books capture before topology journal → Holding books capture after topology journal
+  pub holding : (topology : Network) (journal : List JournalEntry) → Holding books capture before topology journal →
+      Holding books capture after topology journal
   pub goes_on : GoesOn books books capture capture before after
 
 pub unmoved : (books : BooksNow) (capture : CaptureView) (before after : Option Files) → after ≡ before → Unmoved books capture before after

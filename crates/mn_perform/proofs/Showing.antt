@@ -11,7 +11,8 @@ pub none_put : (text page : List ℕ) (written : Option (List ℕ)) → PutsPart
 none_put text page written = λ before so_far on. part_of_more before so_far text written (part_of before so_far page written on)
 
 -- after calls on the shelf that found no fault, only the sink is to blame
-pub only_sink : {T : Type 0} (unread unwritten : Type 0) (reads reads_new writes writes_new sink sink_new : Option ℕ) (result : Result T Fault) → reads_new ≡ reads →
+pub only_sink : {T : Type 0} (unread unwritten : Type 0) (reads reads_new writes writes_new sink sink_new : Option ℕ) (result : Result T Fault) →
+    reads_new ≡ reads →
     writes_new ≡ writes → SinkBlamed sink sink_new result → Blamed unread unwritten (reads, writes, sink) (reads_new, writes_new, sink_new) result
 only_sink unread unwritten reads reads_new writes writes_new sink sink_new (Ok x) r w h = (r, w, h)
 only_sink unread unwritten reads reads_new writes writes_new sink sink_new (Err Read) r w h = absurd h

@@ -49,7 +49,8 @@ none_last (x ∷ y ∷ more) h =
 
 -- what the items of a step add, by the file's number
 abbrev pub items_in : NetNow → List (List ℕ) → JournalEntry → Done → ℕ → List ℕ
-items_in net all entry made = by_number net.topology (items_part net.topology net.journal (inputs_of all net.journal) entry.tick made.first (made.end - made.first))
+items_in net all entry made = by_number net.topology (items_part net.topology net.journal (inputs_of all net.journal) entry.tick made.first
+    (made.end - made.first))
 
 -- with what it delivered
 abbrev pub behind_line : NetNow → List (List ℕ) → JournalEntry → Done → ℕ → List ℕ
@@ -99,7 +100,8 @@ contents_grow net all entry done k lawful stands is_made last within =
 -- the three calls record the step
 pub step_recorded : {E : Type 0} (net : NetNow) (all : List (List ℕ)) (entry : JournalEntry) (done : Done) {topology : Network} {a d : BooksNow}
     {f g : Option Files} {result : Result (Unit {0}) E} → topology ≡ net.topology → IsLawful topology → StandsFor net (inputs_of all net.journal) →
-    IsMade net all done → slice_get net.journal (length net.journal - 1) ≡ Some entry → IsFor d net.topology → Puts (parts_of net all entry done) a d f g result →
+    IsMade net all done → slice_get net.journal (length net.journal - 1) ≡ Some entry → IsFor d net.topology →
+    Puts (parts_of net all entry done) a d f g result →
     RecordsStep net all a d f g result
 step_recorded net all entry done {d = d} {g = g} {result = result} same laws stands is_made last is puts = record {
   records = ok_then result _ _ puts.adds (λ adds holds.

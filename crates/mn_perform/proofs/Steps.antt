@@ -217,7 +217,7 @@ frames_told t all now l known =
     (append-nil (frame_record t (given t (journal_then now)) now.entry.tick l load)
     ∙ sym (frame_part t (journal_then now) now.entry.tick (place_then t all now front load) l load is_on)))
 
--- what an edge tells a peer
+-- what an edge sends a peer
 tellings_told : (t : Network) (all : List (List ℕ)) (now : Moment) (edge peer : ℕ) → IsKnown t all now →
     made_part t all now (file.Told edge peer) ≡ adds t all (file.Told edge peer) now
 tellings_told t all now edge peer known =
@@ -265,7 +265,7 @@ count_said t tick number l end (_ ∷ loads) h = absurd h.0
 on_both : (on : Channel) (xs ys : List Item) → length (items_on on (xs ++ ys)) ≡ length (items_on on xs) + length (items_on on ys)
 on_both on xs ys = ap length (filter-append (λ item. same_channel on item.on) xs ys) ∙ length-append (items_on on xs) (items_on on ys)
 
--- what an end has said and the other end hasn't heard flies: what is left of before, and what the step says
+-- what an end has sent and the other end hasn't received flies: what is left of before, and what the step says
 unheard : (t : Network) (all : List (List ℕ)) (now : Moment) (l end : ℕ) → IsKnown t all now → l < length t.links → is_end (wiring_of t) l end ≡ true →
     length (items_on (on.Messages l end) (left_then t all now)) + length (flat_map (said_on l end) (made t all now))
     ≡ length ((world_then t now).sessions.said l end) - (world_then t now).sessions.heard l (across (wiring_of t) l end)
@@ -385,7 +385,8 @@ of_message t all now l end dir m speaker front rest message known sends split h 
 said_part : (t : Network) (all : List (List ℕ)) (now : Moment) (l : ℕ) (dir : Dir) (front rest : List (Channel × Load)) (load : Channel × Load) →
     IsKnown t all now →
     front ++ load ∷ rest ≡ made t all now → IsOfChannel t load.0 load.1 →
-    pdus t (labels_then t now) l (sender (wiring_of t) l dir) (first_id t all now l (sender (wiring_of t) l dir) + length (flat_map (said_on l (sender (wiring_of t) l dir)) front))
+    pdus t (labels_then t now) l (sender (wiring_of t) l dir)
+    (first_id t all now l (sender (wiring_of t) l dir) + length (flat_map (said_on l (sender (wiring_of t) l dir)) front))
     (said_on l (sender (wiring_of t) l dir) load)
     ≡ load_part t (journal_then now) now.entry.tick (place_then t all now front load) load (Said l dir)
 said_part t all now l dir front rest (on.Notices m node, Notice) known split h = refl

@@ -91,6 +91,7 @@ MayRecordLast net all old new before after =
     BeginsOn new.names (contents_at net.topology all net.journal) after
 
 -- both, by what a call answered
-pub record RecordsStep {T E : Type 0} (net : NetNow) (all : List (List ℕ)) (old new : BooksNow) (before after : Option Files) (result : Result T E) : Type 0 where
+pub record RecordsStep {T E : Type 0} (net : NetNow) (all : List (List ℕ)) (old new : BooksNow) (before after : Option Files)
+    (result : Result T E) : Type 0 where
   pub records : OnOk result (RecordsLast net all old new before after)
   pub may : OnErr result (MayRecordLast net all old new before after)

@@ -176,7 +176,7 @@ impl Books {
         })
     }
 
-    /// Puts the labels that were given, and ends the files. A network that has wanted memory is answered by want of memory.
+    /// Puts the labels that were given, and ends the files. A network that has run out of memory is answered by that.
     pub fn close<S: Shelf>(&mut self, shelf: &mut S, net: &Net) -> Result<(), DeviceBad>
         requires files { IsFor self.old net.now.topology }
         ensures whole { OnOk result ((base : Files) (all : List (List ℕ)) → Framed self.old.names (Some base) (S.files shelf.old) →

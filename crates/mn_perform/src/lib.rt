@@ -7,8 +7,8 @@
 //!  a line --play--> step --done--> journal.txt     the step's line
 //!                                  delivered.pcap  the packet that it delivered
 //!                                  A+B.pcap        each frame that it sent (RFC 3032, section 4.3)
-//!                                  A+B.ldp         each PDU that it said (RFC 5036, section 3.1)
-//!                                  A+B.bgp         each message that it told (RFC 4271, section 4.1)
+//!                                  A+B.ldp         each PDU that it sent (RFC 5036, section 3.1)
+//!                                  A+B.bgp         each message that it sent (RFC 4271, section 4.1)
 //! ```
 //!
 //! Nothing is kept of a step once it is written but bytes that wait for their files: 64 KiB at most, or 1 MiB over more than 64 files.
@@ -18,7 +18,7 @@
 //! - `show`: a table, with the packet of the record that it names
 //! - `desk`: what is kept for the report
 //! - `ended`: how a run ends
-//! - `total`, `memory`: a run over a capture in memory, of which only the total is told
+//! - `total`, `memory`: a run over a capture in memory, of which only the total is reported
 //!
 //! The files:
 //!

@@ -172,7 +172,7 @@ pub fn record_line<S: Shelf>(
     // The journal grows by exactly what the line's course says, or by a first part of it.
     ensures course { ForSome (told_packets (S.files shelf.old) books.old.names capture.now) (λ all.
         Takes (played net.old.topology all (past_of net.old) command.now) net.new result) }
-    // Files and net go together afterwards; after a fault or want of memory each file has a first part.
+    // Files and net go together afterwards; after a fault, or running out of memory, each file has a first part.
     ensures after { ForSome (told_packets (S.files shelf.old) books.old.names capture.now) (λ all. RecordedAfter all books.new net.new (S.files shelf.new) result) }
 {
     record_on(

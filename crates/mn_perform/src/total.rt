@@ -148,7 +148,7 @@ fn tell<O: Sink>(
 }
 
 /// Plays the lines of a script on the network of a topology, over a capture in memory. No file is written, and no
-/// table, no refused line and no packet is told: what is put, at the end, is a heading and the total, or that the
+/// table, no refused line and no packet is reported: what is put, at the end, is a heading and the total, or that the
 /// journal was full.
 ///
 /// After an error a first part of that was put.

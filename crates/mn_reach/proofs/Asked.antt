@@ -22,7 +22,8 @@ use Rattle.mn_reach.specs.Reaching.{Reaching, failure_of, is_between}
 use Rattle.mn_reach.specs.Spared.{is_whole, is_spared}
 
 -- where no session was ended, none of an edge with a candidate's was
-pub none_ended : (r : Reaching) (h : ℕ) (cs : List Candidate) → r.ended ≡ [] → list_all (λ (c : Candidate). not (is_session_off (failure_of r) h c.route.edge.0)) cs ≡ true
+pub none_ended : (r : Reaching) (h : ℕ) (cs : List Candidate) → r.ended ≡ [] →
+    list_all (λ (c : Candidate). not (is_session_off (failure_of r) h c.route.edge.0)) cs ≡ true
 none_ended r h [] e = refl
 none_ended r h (c ∷ cs) e = and_on _ _ (ap not (never (nat_lt h c.route.edge.0))) (none_ended r h cs e)
   where
@@ -30,7 +31,8 @@ none_ended r h (c ∷ cs) e = and_on _ _ (ap not (never (nat_lt h c.route.edge.0
     never true = ap (list_any (is_between h c.route.edge.0)) e
     never false = ap (list_any (is_between c.route.edge.0 h)) e
 
-module _ (t : Network) (r : Reaching) (of : IsOf t r.plan) (k : ℕ) (there : k < length r.plan.pairs) (prospect : Prospect) (is_prospect : prospect ≡ get_or r.plan.prospects k prospect) where
+module _ (t : Network) (r : Reaching) (of : IsOf t r.plan) (k : ℕ) (there : k < length r.plan.pairs) (prospect : Prospect)
+    (is_prospect : prospect ≡ get_or r.plan.prospects k prospect) where
   at_prospect : prospect ≡ prospect_at r.plan k
   at_prospect = is_prospect ∙ get_or_default r.plan.prospects k prospect no_prospect (omega (arith, there, of.each))
 
@@ -41,7 +43,8 @@ module _ (t : Network) (r : Reaching) (of : IsOf t r.plan) (k : ℕ) (there : k 
       e ∙ ap (λ ls. list_all (λ (l : LinkNo). is_whole r l.0) ls) (is ∙ ap (λ (p : Prospect). p.links) at_prospect)
       ∙ sym (list_all-map (is_whole r) (λ (l : LinkNo). l.0) (prospect_at r.plan k).links) ∙ ap (list_all (is_whole r)) (of.planned k there).links
 
-  module _ (pair : Pair) (is_pair : pair ≡ get_or r.plan.pairs k pair) (home : ℕ) (is_home : home ≡ home_of t pair.site.0) (cs : List Candidate) (is_cs : cs ≡ prospect.candidates) where
+  module _ (pair : Pair) (is_pair : pair ≡ get_or r.plan.pairs k pair) (home : ℕ) (is_home : home ≡ home_of t pair.site.0) (cs : List Candidate)
+      (is_cs : cs ≡ prospect.candidates) where
     home_is : home ≡ home_of t (pair_at r.plan k).site.0
     home_is = is_home ∙ ap (λ (p : Pair). home_of t p.site.0) (is_pair ∙ get_or_default r.plan.pairs k pair no_pair there)
 
@@ -55,7 +58,8 @@ module _ (t : Network) (r : Reaching) (of : IsOf t r.plan) (k : ℕ) (there : k 
         ∙ ap (λ h. ends_towards t (config_under t (failure_of r)) h ttl (chosen t (config_under t (failure_of r)) h (map held_in cs))) home_is
         ∙ ap (λ xs. ends_towards t (config_under t (failure_of r)) (home_of t (pair_at r.plan k).site.0) ttl
         (chosen t (config_under t (failure_of r)) (home_of t (pair_at r.plan k).site.0) (map held_in xs))) cs_are
-        ∙ sym (by_the_chosen t (failure_of r) no_failure (pair_at r.plan k).site.0 ttl (pair_at r.plan k).address (map held_in (prospect_at r.plan k).candidates)
+        ∙ sym (by_the_chosen t (failure_of r) no_failure (pair_at r.plan k).site.0 ttl (pair_at r.plan k).address
+        (map held_in (prospect_at r.plan k).candidates)
         of.lawful (of.planned k there).candidates)
 
     -- its links are whole, and so its sessions decide

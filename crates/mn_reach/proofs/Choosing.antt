@@ -12,7 +12,8 @@ first_passing p cs = first_of (filter p (map held_in cs))
 
 module _ (p : HeldRoute → Bool) (cs : List Candidate) (i : ℕ) where
   next : (c : Candidate) → i < length cs → get_or cs i c ≡ c →
-      first_passing p (drop i cs) ≡ first_of (cond (p (held_in c)) (held_in c ∷ filter p (map held_in (drop (i + 1) cs))) (filter p (map held_in (drop (i + 1) cs))))
+      first_passing p (drop i cs) ≡ first_of (cond (p (held_in c)) (held_in c ∷ filter p (map held_in (drop (i + 1) cs)))
+      (filter p (map held_in (drop (i + 1) cs))))
   next c h is = at_drop_more (first_passing p) cs i c h ∙ ap (λ x. first_passing p (x ∷ drop (i + 1) cs)) is
 
   pub found : (c : Candidate) → i < length cs → get_or cs i c ≡ c → p (held_in c) ≡ true → first_passing p (drop i cs) ≡ Some (held_in c)
@@ -36,6 +37,7 @@ both p q (r ∷ rs) = by (p r) ∙ ap (λ ys. cond (p r) (cond (q r) (r ∷ ys) 
     by true = refl
     by false = refl
 
-    back : (b : Bool) → cond b (cond (q r) (r ∷ filter q (filter p rs)) (filter q (filter p rs))) (filter q (filter p rs)) ≡ filter q (cond b (r ∷ filter p rs) (filter p rs))
+    back : (b : Bool) → cond b (cond (q r) (r ∷ filter q (filter p rs)) (filter q (filter p rs))) (filter q (filter p rs)) ≡ filter q
+        (cond b (r ∷ filter p rs) (filter p rs))
     back true = refl
     back false = refl

@@ -1,5 +1,6 @@
 -- Where packets end, by the path that was found.
-use Rattle.std.proofs.Common.{ℕ, ◌≡◌, ◌-◌, ◌<◌, ◌≤◌, ◌⊎◌, inl, inr, Bool, true, false, cond, List, [], ◌∷◌, map, length, get_or, take, refl, arith, sym, ◌∙◌, ap}
+use Rattle.std.proofs.Common.{ℕ, ◌≡◌, ◌-◌, ◌<◌, ◌≤◌, ◌⊎◌, inl, inr, Bool, true, false, cond, List, [], ◌∷◌, map, length, get_or, take, refl, arith, sym, ◌∙◌}
+use Rattle.std.proofs.Common.{ap}
 use Rattle.std.proofs.Common.{Option, Some, None}
 use Rattle.std.specs.Prelude.{nat_lt, unwrap_or}
 use Rattle.std.specs.List.{list_all}
@@ -26,11 +27,15 @@ falls_on route ttl path kept node least there is e =
     let front : numbers_of kept ≡ take ttl (numbers_of path) = ap numbers_of e ∙ sym (take-map (λ (n : NodeNo). n.0) ttl path) in
     ap (λ ns. Falls rule.TtlExpired node.0 ns) front
     ∙ ap (λ n. Falls rule.TtlExpired n (take ttl (numbers_of path))) (sym place)
-    ∙ sym (ends (nat_lt (length (numbers_of path)) ttl) (not_less (length (numbers_of path)) ttl (let q = length-map path (λ (n : NodeNo). n.0) in omega (arith, q, there))))
+    ∙ sym (ends (nat_lt (length (numbers_of path)) ttl)
+    (not_less (length (numbers_of path)) ttl (let q = length-map path (λ (n : NodeNo). n.0) in omega (arith, q, there))))
   where
-    ends : (b : Bool) → b ≡ false → cond b (Arrives route.site (ttl - length (numbers_of path)) (numbers_of path)) (Falls rule.TtlExpired (get_or (numbers_of path) (ttl - 1) 0) (take ttl (numbers_of path)))
+    ends : (b : Bool) → b ≡ false →
+        cond b (Arrives route.site (ttl - length (numbers_of path)) (numbers_of path))
+        (Falls rule.TtlExpired (get_or (numbers_of path) (ttl - 1) 0) (take ttl (numbers_of path)))
         ≡ Falls rule.TtlExpired (get_or (numbers_of path) (ttl - 1) 0) (take ttl (numbers_of path))
-    ends b e = ap (λ c. cond c (Arrives route.site (ttl - length (numbers_of path)) (numbers_of path)) (Falls rule.TtlExpired (get_or (numbers_of path) (ttl - 1) 0) (take ttl (numbers_of path)))) e
+    ends b e = ap (λ c. cond c (Arrives route.site (ttl - length (numbers_of path)) (numbers_of path))
+        (Falls rule.TtlExpired (get_or (numbers_of path) (ttl - 1) 0) (take ttl (numbers_of path)))) e
 
 -- 2. A label switched path has its first node
 
@@ -52,7 +57,8 @@ numbered_again : (ns : List ℕ) → numbers_of (map numbered ns) ≡ ns
 numbered_again [] = refl
 numbered_again (n ∷ ns) = ap (λ xs. n ∷ xs) (numbered_again ns)
 
-module _ (home ttl : ℕ) (route : HeldRoute) (found : Option (List ℕ)) (is : IsPath home found) (path : List NodeNo) (put : path ≡ map numbered (unwrap_or found [])) where
+module _ (home ttl : ℕ) (route : HeldRoute) (found : Option (List ℕ)) (is : IsPath home found) (path : List NodeNo)
+    (put : path ≡ map numbered (unwrap_or found [])) where
   -- none was found
   pub no_path : path ≡ [] → Falls rule.NoLsp home (home ∷ []) ≡ ends_over home ttl route found
   no_path empty = elim is [

@@ -1,5 +1,6 @@
 -- What is found of a topology and pairs, step by step.
-use Rattle.std.proofs.Common.{ℕ, zero, suc, ◌≡◌, ◌+◌, ◌<◌, Bool, true, false, cond, List, [], ◌∷◌, ◌++◌, map, filter, length, get_or, take, refl, arith, sym, ◌∙◌, ap, subst}
+use Rattle.std.proofs.Common.{ℕ, zero, suc, ◌≡◌, ◌+◌, ◌<◌, Bool, true, false, cond, List, [], ◌∷◌, ◌++◌, map, filter, length, get_or, take, refl, arith, sym}
+use Rattle.std.proofs.Common.{◌∙◌, ap, subst}
 use Rattle.std.proofs.Common.{Some, None}
 use Rattle.std.specs.Prelude.{◌==◌, ◌||◌, All, nat_lt, unwrap_or, position, if◌then◌else◌}
 use Rattle.std.specs.List.{Contains, flat_map, range_with_len, position_or_len}
@@ -171,8 +172,10 @@ map_twice : (cs : List Candidate) → map held_in cs ≡ map held_as (map (λ (c
 map_twice [] = refl
 map_twice (c ∷ cs) = ap (λ rs. held_in c ∷ rs) (map_twice cs)
 
-pub is_for : (t : Network) (ways : Switched) (home : ℕ) (pair : Pair) (es : List NodeNo) (routes found : List Route) (cs : List Candidate) (links : List LinkNo) → Ledgers → IsLawful t
-    → home ≡ home_of t pair.site.0 → IsFresh t ways → numbers_of es ≡ edges t → pair.site.0 < length t.sites → map held_as routes ≡ routes_for t (vrf_of t pair.site.0)
+pub is_for : (t : Network) (ways : Switched) (home : ℕ) (pair : Pair) (es : List NodeNo) (routes found : List Route) (cs : List Candidate)
+    (links : List LinkNo) → Ledgers → IsLawful t
+    → home ≡ home_of t pair.site.0 → IsFresh t ways → numbers_of es ≡ edges t → pair.site.0 < length t.sites →
+    map held_as routes ≡ routes_for t (vrf_of t pair.site.0)
     → AreFor pair.address (map held_as routes) (map held_as found) → map (λ (c : Candidate). c.route) cs ≡ found → All (IsPlaced (numbers_of es)) cs
     → ((wiring : Wiring) → IsOver wiring ways → map (λ (l : LinkNo). l.0) links
     ≡ flat_map (λ (c : Candidate). links_on (unwrap_or (way wiring ways.up home (switched.edge_at ways c.place)) [])) cs)
@@ -186,19 +189,22 @@ is_for t ways home pair es routes found cs links law lawful is_home fresh e site
   links = goes (wiring_of t) (record { nodes = sym fresh.nodes; ends = sym fresh.ends }) ∙ same_flat_map _ (links_towards t (home_of t pair.site.0)) cs same;
 }
   where
-    same : (c : Candidate) → In cs c → links_on (unwrap_or (way (wiring_of t) ways.up home (switched.edge_at ways c.place)) []) ≡ links_towards t (home_of t pair.site.0) c
+    same : (c : Candidate) → In cs c →
+        links_on (unwrap_or (way (wiring_of t) ways.up home (switched.edge_at ways c.place)) []) ≡ links_towards t (home_of t pair.site.0) c
     same c i =
         let p = All-contains (IsPlaced (numbers_of es)) cs c placed (contained_in cs c i) in
         ap (λ n. links_on (unwrap_or (way (wiring_of t) ways.up n (switched.edge_at ways c.place)) [])) is_home
         ∙ ap (λ view. links_on (unwrap_or (way (wiring_of t) view (home_of t pair.site.0) (switched.edge_at ways c.place)) [])) fresh.up
-        ∙ ap (λ n. links_on (unwrap_or (way (wiring_of t) (all_up t) (home_of t pair.site.0) n) [])) (ap (λ xs. get_or xs c.place 0) (fresh.edges ∙ sym e) ∙ p.edge)
+        ∙ ap (λ n. links_on (unwrap_or (way (wiring_of t) (all_up t) (home_of t pair.site.0) n) [])) (ap (λ xs. get_or xs c.place 0) (fresh.edges ∙ sym e)
+        ∙ p.edge)
 
 -- 4. Pair by pair
 
 pub none_found : (t : Network) (pairs : List Pair) → AreFound t pairs 0 []
 none_found t pairs = record { each = refl; at = λ k h. absurd (none_below k h) }
 
-pub one_found : (t : Network) (pairs : List Pair) (i : ℕ) (pair : Pair) (found new : List Prospect) (one : Prospect) → i < length pairs → get_or pairs i pair ≡ pair
+pub one_found : (t : Network) (pairs : List Pair) (i : ℕ) (pair : Pair) (found new : List Prospect) (one : Prospect) → i < length pairs →
+    get_or pairs i pair ≡ pair
     → AreFound t pairs i found → IsFor t (edges t) pair one → new ≡ found ++ one ∷ [] → AreFound t pairs (i + 1) new
 one_found t pairs i pair found new one h is so_far good e = subst (AreFound t pairs (i + 1)) (sym e) (record {
   each = length_push found one ∙ ap (λ n. n + 1) so_far.each;
@@ -212,7 +218,8 @@ one_found t pairs i pair found new one h is so_far good e = subst (AreFound t pa
     by : (k : ℕ) (b : Bool) → nat_lt k i ≡ b → k < i + 1 → IsFor t (edges t) (get_or pairs k no_pair) (get_or (found ++ one ∷ []) k no_prospect)
     by k true f g =
         let below = less_tells k i f in
-        subst (IsFor t (edges t) (get_or pairs k no_pair)) (sym (get_or_append_left found (one ∷ []) no_prospect k (subst (λ n. k < n) (sym so_far.each) below)))
+        subst (IsFor t (edges t) (get_or pairs k no_pair))
+        (sym (get_or_append_left found (one ∷ []) no_prospect k (subst (λ n. k < n) (sym so_far.each) below)))
         (so_far.at k below)
     by k false f g =
         let past = not_less_tells k i f in

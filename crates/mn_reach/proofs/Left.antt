@@ -58,7 +58,8 @@ seen ways pairs prospects up ldp ended ends = record {
   failed = ways.failed;
 }
 
-pub agrees : (r : Reaching) (ways : Switched) (pairs : List Pair) (prospects : List Prospect) (up ldp : List Bool) (ended : List (NodeNo × NodeNo)) (ends : Bool)
+pub agrees : (r : Reaching) (ways : Switched) (pairs : List Pair) (prospects : List Prospect) (up ldp : List Bool) (ended : List (NodeNo × NodeNo))
+    (ends : Bool)
     → r ≡ seen ways pairs prospects up ldp ended ends → IsKept ways up ldp → Agrees r ways
 agrees r ways pairs prospects up ldp ended ends e kept = subst (λ s. Agrees s ways) (sym e) (record {
   nodes = refl;
@@ -142,7 +143,8 @@ module _ (t : Network) (r : Reaching) (of : IsOf t r.plan) where
           ∙ ap (λ b. not b && (not r.ends || links_lead t (failure_of r) home c.route.edge.0)) (sym is ∙ ended)
           ∙ ap (λ b. not b || links_lead t (failure_of r) home c.route.edge.0) ends)
 
-      pub reached_is : Paths → is_some (option_map (λ (ns : List ℕ). length ns) (label_path (wiring_of t) ways.up ways.ldp home (edge_at ways c.place))) ≡ is_reached t now home (held_in c)
+      pub reached_is : Paths → is_some (option_map (λ (ns : List ℕ). length ns) (label_path (wiring_of t) ways.up ways.ldp home (edge_at ways c.place)))
+          ≡ is_reached t now home (held_in c)
       reached_is law = counted (label_path (wiring_of t) ways.up ways.ldp home (edge_at ways c.place)) ∙ ap (λ (o : Option (List ℕ)). is_some o) (path_is law)
         where
           counted : (o : Option (List ℕ)) → is_some (option_map (λ (ns : List ℕ). length ns) o) ≡ is_some o

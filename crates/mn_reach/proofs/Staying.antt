@@ -80,7 +80,8 @@ module _ (t : Network) (before after : Config) (home : ℕ) (rs : List HeldRoute
       by : (b : Bool) (o : Option HeldRoute) → first_of (filter (is_reached t before home) (filter (is_told before home) rs)) ≡ o →
           chosen_by b o (first_of (filter (is_told before home) rs)) ≡ Some r → In rs r
       by true (Some q) e h = told_in r
-          (in_filter (is_reached t before home) (filter (is_told before home) rs) r (first_in (filter (is_reached t before home) (filter (is_told before home) rs)) r (e ∙ h))).0
+          (in_filter (is_reached t before home) (filter (is_told before home) rs) r
+          (first_in (filter (is_reached t before home) (filter (is_told before home) rs)) r (e ∙ h))).0
       by true None e h = told_in r (first_in (filter (is_told before home) rs) r h)
       by false (Some q) e h = told_in r (first_in (filter (is_told before home) rs) r h)
       by false None e h = told_in r (first_in (filter (is_told before home) rs) r h)
@@ -138,9 +139,11 @@ module _ (t : Network) (r : Reaching) (of : IsOf t r.plan) (law : Spares) (k : �
   is_spared_path : (c : Candidate) → In cs c → IsSparedPath t was is home c.route.edge.0
   is_spared_path c i = record {
     no_more = λ l h g. refl;
-    up = λ k d h. let w = and_parts (is_up r.up (get_or (links c) k d)) (is_up r.ldp (get_or (links c) k d)) (whole c i (get_or (links c) k d) (Contains-get_or (links c) k d h)) in
+    up = λ k d h. let w = and_parts (is_up r.up (get_or (links c) k d)) (is_up r.ldp (get_or (links c) k d))
+        (whole c i (get_or (links c) k d) (Contains-get_or (links c) k d h)) in
         on (is_up r.up (get_or (links c) k d)) w.0;
-    ldp = λ k d h. let w = and_parts (is_up r.up (get_or (links c) k d)) (is_up r.ldp (get_or (links c) k d)) (whole c i (get_or (links c) k d) (Contains-get_or (links c) k d h)) in
+    ldp = λ k d h. let w = and_parts (is_up r.up (get_or (links c) k d)) (is_up r.ldp (get_or (links c) k d))
+        (whole c i (get_or (links c) k d) (Contains-get_or (links c) k d h)) in
         on (is_up r.ldp (get_or (links c) k d)) w.1;
   }
 
@@ -157,11 +160,13 @@ module _ (t : Network) (r : Reaching) (of : IsOf t r.plan) (law : Spares) (k : �
   sessions_same : (c : Candidate) → In cs c → have_session t (failure_of r) home c.route.edge.0 ≡ have_session t (nothing_gone r.ends) home c.route.edge.0
   sessions_same c i =
       ap (λ b. not b && (not r.ends || links_lead t (failure_of r) home c.route.edge.0))
-      (off (is_session_off (failure_of r) home c.route.edge.0) (all_so (λ (x : Candidate). not (is_session_off (failure_of r) home x.route.edge.0)) cs c parts.1 i)
+      (off (is_session_off (failure_of r) home c.route.edge.0)
+      (all_so (λ (x : Candidate). not (is_session_off (failure_of r) home x.route.edge.0)) cs c parts.1 i)
       ∙ sym (never_off home c.route.edge.0))
       ∙ ap (λ (o : Option ℕ). not (is_session_off (nothing_gone r.ends) home c.route.edge.0) && (not r.ends || is_some o)) (stays c i).same_cost
 
-  told_as : (f : Failure) (c : Candidate) → In cs c → is_told (config_under t f) home (held_in c) ≡ ((c.route.edge.0 == home) || have_session t f home c.route.edge.0)
+  told_as : (f : Failure) (c : Candidate) → In cs c →
+      is_told (config_under t f) home (held_in c) ≡ ((c.route.edge.0 == home) || have_session t f home c.route.edge.0)
   told_as f c i = (left t f of.lawful).told home (held_in c) home_below (edge_below c i)
 
   told_alike : (c : Candidate) → In cs c → is_told is home (held_in c) ≡ is_told was home (held_in c)

@@ -70,7 +70,8 @@ numbers_of nodes = map (λ node. node.0) nodes
 
 -- what was found of a pair of the topology
 pub record IsFor (topology : Network) (edges : List ℕ) (pair : Pair) (prospect : Prospect) : Type 0 where
-  pub candidates : AreCandidates topology (config_under topology no_failure) (home_of topology pair.site.0) (vrf_of topology pair.site.0) pair.address (map held_in prospect.candidates)
+  pub candidates : AreCandidates topology (config_under topology no_failure) (home_of topology pair.site.0) (vrf_of topology pair.site.0) pair.address
+      (map held_in prospect.candidates)
   pub placed : All (IsPlaced edges) prospect.candidates
   pub links : map (λ l. l.0) prospect.links ≡ links_between topology (home_of topology pair.site.0) prospect.candidates
 

@@ -41,7 +41,7 @@ impl Reach {
         }
     }
 
-    /// Whether an edge is told of a candidate: it is its own, or one of an edge with which it has a session.
+    /// Whether an edge knows of a candidate: it is its own, or one of an edge with which it has a session.
     fn is_told(&self, home: NodeNo, candidate: Candidate) -> bool
         requires sound { self.now.failed ≡ false }
         requires here { home.0 < self.now.plan.nodes }
@@ -65,7 +65,7 @@ impl Reach {
         self.ways.length(home, candidate.place).is_some()
     }
 
-    /// The first of the candidates of which the edge is told.
+    /// The first of the candidates of which the edge knows.
     fn first_told(&self, home: NodeNo, candidates: &[Candidate]) -> Option<Candidate>
         requires sound { self.now.failed ≡ false }
         requires here { home.0 < self.now.plan.nodes }
@@ -100,7 +100,7 @@ impl Reach {
         None
     }
 
-    /// The candidate by which packets go: where next hops resolve, the first that is reached, if one is; else the first of which the edge is told.
+    /// The candidate by which packets go: where next hops resolve, the first that is reached, if one is; else the first of which the edge knows.
     fn chosen(&self, resolve: bool, home: NodeNo, candidates: &[Candidate]) -> Option<Candidate>
         requires sound { self.now.failed ≡ false }
         requires here { home.0 < self.now.plan.nodes }

@@ -81,7 +81,7 @@ impl Reach {
 
     /// Makes a link up or down.
     ///
-    /// An `Err` is want of memory: it is then of no use.
+    /// An `Err` means out of memory: it is then of no use.
     pub fn set_up(&mut self, link: LinkNo, up: bool) -> Result<(), AllocError>
         requires sound { self.old.failed ≡ false }
         requires there { link.0 < length self.old.plan.links }

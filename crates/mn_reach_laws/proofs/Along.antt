@@ -230,7 +230,8 @@ module _ (t : Network) (w : World) (lawful : IsLawful t) (turn : IsInTurn t w) (
       onward then apart g =
           let some = next-of n r.edge g.hop below apart g.is_next in
           let near = nearer t (links_up t w) n r.edge d g.hop lawful below apart g.is_next least in
-          let can : usable t w.config w.views w.sessions n r.edge ≡ Some g.hop = usable-is t w lawful turn rest odd says fuel d n r.edge f below inside apart least
+          let can : usable t w.config w.views w.sessions n r.edge ≡ Some g.hop =
+          usable-is t w lawful turn rest odd says fuel d n r.edge f below inside apart least
           ∙ ap (λ o. cond (is_some o) (next (wiring_of t) (links_up t w) n r.edge) None) is ∙ g.is_next in
           hops r m n path g.hop apart can some.0
           ∙ then g.hop.0 near.rest g.later (less near.is_less f) (hop-below t (links_up t w) lawful r.edge n g.hop some) (near.is_least, g.rest_is)
@@ -297,7 +298,8 @@ module _ (t : Network) (w : World) (lawful : IsLawful t) (turn : IsInTurn t w) (
           let g = goes-on d home r.edge nodes apart is in
           let some = next-of home r.edge g.hop below apart g.is_next in
           let near = nearer t (links_up t w) home r.edge d g.hop lawful below apart g.is_next least in
-          let can : usable t w.config w.views w.sessions home r.edge ≡ Some g.hop = usable-is t w lawful turn rest odd says d d home r.edge (omega arith) below inside
+          let can : usable t w.config w.views w.sessions home r.edge ≡ Some g.hop =
+          usable-is t w lawful turn rest odd says d d home r.edge (omega arith) below inside
           apart least ∙ ap (λ o. cond (is_some o) (next (wiring_of t) (links_up t w) home r.edge) None) is ∙ g.is_next in
           ap (fate_by_hop t w home (suc (suc m)) r) can
           ∙ ap (λ k. fate_at t w r k (across (wiring_of t) g.hop.1 home) (home ∷ across (wiring_of t) g.hop.1 home ∷ [])) (less_two m)

@@ -196,10 +196,12 @@ module _ (t : Network) (c : Config) (edge v address : ℕ) (cs : List HeldRoute)
   reached_best : best (filter (is_reached t c edge) (routes_at_rest t c edge v)) address ≡ first_of (filter (is_reached t c edge) (filter (is_told c edge) cs))
   reached_best =
       first-best (filter (is_reached t c edge) (routes_at_rest t c edge v)) (filter (is_reached t c edge) (filter (is_told c edge) cs)) address
-      (ordered-filter (is_reached t c edge) (filter (is_told c edge) cs) (ordered-filter (is_told c edge) cs are.ordered)) (names true) reached_there reached_back
+      (ordered-filter (is_reached t c edge) (filter (is_told c edge) cs) (ordered-filter (is_told c edge) cs are.ordered))
+      (names true) reached_there reached_back
 
   by_first : (us : List HeldRoute) → filter (is_reached t c edge) (filter (is_told c edge) cs) ≡ us
-      → best (only_if (list_any (covers address) (filter (is_reached t c edge) (routes_at_rest t c edge v))) (is_reached t c edge) (routes_at_rest t c edge v)) address
+      → best (only_if (list_any (covers address) (filter (is_reached t c edge) (routes_at_rest t c edge v))) (is_reached t c edge) (routes_at_rest t c edge v))
+      address
       ≡ chosen_by true (first_of us) (first_of (filter (is_told c edge) cs))
   by_first [] e =
       ap (λ b. best (only_if b (is_reached t c edge) (routes_at_rest t c edge v)) address)
@@ -221,7 +223,8 @@ module _ (t : Network) (c : Config) (edge v address : ℕ) (cs : List HeldRoute)
   chosen_is_best = by_resolve t.resolve
     where
       by_resolve : (b : Bool)
-          → best (only_if (b && list_any (covers address) (filter (is_reached t c edge) (routes_at_rest t c edge v))) (is_reached t c edge) (routes_at_rest t c edge v)) address
+          → best (only_if (b && list_any (covers address) (filter (is_reached t c edge) (routes_at_rest t c edge v))) (is_reached t c edge)
+          (routes_at_rest t c edge v)) address
           ≡ chosen_by b (first_of (filter (is_reached t c edge) (filter (is_told c edge) cs))) (first_of (filter (is_told c edge) cs))
       by_resolve false = all_best
       by_resolve true = by_first (filter (is_reached t c edge) (filter (is_told c edge) cs)) refl

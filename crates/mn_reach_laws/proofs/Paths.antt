@@ -37,7 +37,7 @@ view-is t w node rest odd below =
 up-is : (t : Network) (w : World) (l : ℕ) → l < length t.links → is_up (links_up t w) l ≡ w.config.is_up l
 up-is t w l h = get_or-map-range_with_len w.config.is_up 0 (length t.links) l l false h (omega arith)
 
--- 2. Where all is heard, both ends of a living session are OPERATIONAL
+-- 2. Where all is received, both ends of a living session are OPERATIONAL
 
 said-so-far : (active : Bool) (k : ℕ) (xs : List Message) → IsTalk active k xs
     → ((k ≡ 0) × (length xs < 2) × (active ≡ true → length xs ≡ 1) × (active ≡ false → length xs ≡ 0))
@@ -177,7 +177,10 @@ module _ (t : Network) (w : World) (lawful : IsLawful t) (turn : IsInTurn t w) (
           let mapped : is_mapped false p (hearing (known_before t w n) hop.1).messages
           ≡ offers (wiring_of t) (known_before t w hop.0) hop.0 p = ap (is_mapped false p) all ∙ says hop.1 y p next.1.there other.0 inside
           ∙ ap (λ b. b && offers (wiring_of t) (known_before t w y) y p) far_on ∙ ap (λ j. offers (wiring_of t) (known_before t w j) j p) (sym next.0) in
-          ap (λ b. elim (b && is_mapped false p (hearing (known_before t w n) hop.1).messages) as (λ _. Option (ℕ × ℕ)) [ true ↦ Some hop | false ↦ None ]) near_on
+          ap (λ b. elim (b && is_mapped false p (hearing (known_before t w n) hop.1).messages) as (λ _. Option (ℕ × ℕ)) [
+            | true ↦ Some hop
+            | false ↦ None
+          ]) near_on
           ∙ ap (λ b. elim b as (λ _. Option (ℕ × ℕ)) [ true ↦ Some hop | false ↦ None ]) mapped
 
   hop-below : (n p : ℕ) (hop : ℕ × ℕ) → IsNext (wiring_of t) (links_up t w) n p (Some hop) → hop.0 < length t.loopbacks

@@ -161,10 +161,12 @@ module _ (t : Network) (es : List JournalEntry) (ps : List (List ℕ)) (lawful :
         (λ c. contained_in (only_if b p hs) r (only_there (covers address) q p rs hs back agree_back b r (in_contained (only_if b q rs) r c))),
       ))
       (names_one (only_if b p hs) address (λ a i. held_formed t (world_of t es).config (world_of t es).peerings edge v a k.forms k.told (of_held a i))
-      (λ a c i j source prefix. one_held t (world_of t es).config (world_of t es).peerings edge v a c lawful (loopbacks_apart t lawful) k.statics k.told (of_held a i) (of_held c j)
+      (λ a c i j source prefix. one_held t (world_of t es).config (world_of t es).peerings edge v a c lawful (loopbacks_apart t lawful) k.statics k.told
+      (of_held a i) (of_held c j)
       source prefix))
       (names_one (only_if b q rs) address (λ a i. held_formed t (world_of t es).config (world_of t es).peerings edge v a k.forms k.told (of_given a i))
-      (λ a c i j source prefix. one_held t (world_of t es).config (world_of t es).peerings edge v a c lawful (loopbacks_apart t lawful) k.statics k.told (of_given a i) (of_given c j)
+      (λ a c i j source prefix. one_held t (world_of t es).config (world_of t es).peerings edge v a c lawful (loopbacks_apart t lawful) k.statics k.told
+      (of_given a i) (of_given c j)
       source prefix))
       ∙ ap (λ any. best (only_if (t.resolve && any) q rs) address)
       (both_none (list_any (covers address) (filter p hs)) (list_any (covers address) (filter q rs))
@@ -184,7 +186,8 @@ module _ (t : Network) (es : List JournalEntry) (ps : List (List ℕ)) (lawful :
       by_best ttl two (Some r) is =
           let among : In (routes_at_rest t (world_of t es).config (home_of t s) (vrf_of t s)) r = in_those _
           (is_reached t (world_of t es).config (home_of t s)) (routes_at_rest t (world_of t es).config (home_of t s) (vrf_of t s)) r
-          (best-in t (world_of t es) turn rest tell (taking_part t (world_of t es).config (home_of t s) (vrf_of t s) (destination_of bytes)) (destination_of bytes) r is) in
+          (best-in t (world_of t es) turn rest tell (taking_part t (world_of t es).config (home_of t s) (vrf_of t s) (destination_of bytes))
+          (destination_of bytes) r is) in
           let behind = route-attached t (world_of t es) turn rest tell (home_of t s) (vrf_of t s) r home_edge among in
           subst (λ n. fate_by_route t (world_of t es) (home_of t s) n (Some r) ≡ ends_towards t (world_of t es).config (home_of t s) n (Some r)) (sym two.1)
           (towards t (world_of t es) lawful turn rest odd says (home_of t s) two.0 r

@@ -1,6 +1,6 @@
 //! Networks at rest: what becomes of a packet there is a function of what is configured.
 //!
-//! A network is at rest where every change of a link is learned, and all that was said and told in a session that lives is heard. LDP
+//! A network is at rest where every change of a link is learned, and all that was sent by LDP and by BGP in a session that lives is received. LDP
 //! may be off on a link that is up, and edges may have no BGP session. Then each packet's verdict, path and TTL are those of
 //! `verdict_at_rest`, which looks at links, switches, sessions, targets, statics and attachments alone: whatever happened before, in
 //! whatever order, and however packets are carried.

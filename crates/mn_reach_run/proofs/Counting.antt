@@ -68,7 +68,8 @@ plus_none a =
     rw (failures, verdicts, lost, moved) refl
 
 -- with one task more
-pub sums_more : (topology : Network) (tasks : List Task) (task : Task) → sums_in topology (tasks ++ task ∷ []) ≡ plus (sums_in topology tasks) (sums_of topology task)
+pub sums_more : (topology : Network) (tasks : List Task) (task : Task) →
+    sums_in topology (tasks ++ task ∷ []) ≡ plus (sums_in topology tasks) (sums_of topology task)
 sums_more topology tasks task =
     sums_append topology tasks (task ∷ []) ∙ ap (plus (sums_in topology tasks)) (plus_none (sums_of topology task))
 

@@ -21,12 +21,14 @@ use Rattle.mn_reach_run.specs.Answer.{told, reach_done}
 use Rattle.mn_reach_run.specs.Headline.{AreRead, AreFailuresTold, IsReachTold}
 
 pub reach_told : (topology : Network) (name : List ℕ) (failures : Option (List ℕ)) (files : Files) (before : List ℕ) (written : Option (List ℕ)) (o : Outcome) →
-    option_map topology_of (file files name) ≡ Some (Ok topology) → AreFailuresTold topology failures files before written o → IsReachTold name failures files before written o
+    option_map topology_of (file files name) ≡ Some (Ok topology) → AreFailuresTold topology failures files before written o →
+    IsReachTold name failures files before written o
 reach_told topology name failures files before written Done read kept = record { topology = topology; topology_read = read; tells = kept }
 reach_told topology name failures files before written _ read kept = tt
 
 -- pairs are too many, or their report stands
-pub failures_told : (topology : Network) (failures : Option (List ℕ)) (lines : List FailureLine) (files : Files) (before : List ℕ) (written : Option (List ℕ)) (o : Outcome) →
+pub failures_told : (topology : Network) (failures : Option (List ℕ)) (lines : List FailureLine) (files : Files) (before : List ℕ) (written : Option (List ℕ))
+    (o : Outcome) →
     AreRead topology failures files lines → ((ends : Bool) (parts : List Part) → AllComeToTheirFates topology (failure_under topology ends parts)) →
     TextIs (Some (reach_done topology lines)) before written o → OutcomeIs (Some (reach_done topology lines)) o →
     AreFailuresTold topology failures files before written o
@@ -52,7 +54,8 @@ writes_none topology lines = by (nat_lt most_pairs (length (pairs_of topology)))
     by false = refl
 
 -- pairs are few, or too many
-pub few_told : (topology : Network) (lines : List FailureLine) (n : ℕ) → n ≡ length (pairs_of topology) → n ≤ most_pairs → told topology lines ≡ reach_done topology lines
+pub few_told : (topology : Network) (lines : List FailureLine) (n : ℕ) → n ≡ length (pairs_of topology) → n ≤ most_pairs →
+    told topology lines ≡ reach_done topology lines
 few_told topology lines n is few =
     sym (ap (λ b. if b then refusal_of (TooLarge Pairs most_pairs) else told topology lines)
     (ap (nat_lt most_pairs) (sym is) ∙ not_less most_pairs n few))

@@ -53,13 +53,15 @@ module _ (topology : Network) (settings : Settings) (parts : List Part) (reachin
   pub under_none : fate_under topology (nothing_gone reaching.ends) (pair_at reaching.plan k).site.0 settings.ttl (pair_at reaching.plan k).address
       ≡ fate_of topology settings [] (pair_at reaching.plan k)
   under_none =
-      alike (nothing_gone reaching.ends) (failure_under topology settings.ends []) (pair_at reaching.plan k).site.0 settings.ttl (pair_at reaching.plan k).address
+      alike (nothing_gone reaching.ends) (failure_under topology settings.ends []) (pair_at reaching.plan k).site.0 settings.ttl
+      (pair_at reaching.plan k).address
       ready.of.lawful (record { links = λ l there. refl; ldp = λ l there. refl; sessions = λ edge peer less one other. refl; ends = failed.ending })
       (site_there topology reaching ready k below)
 
 -- 2. What was found with nothing failed, by its place
 
-pub found_at : {X : Type 0} {Y : Type 0} (f : X → Y) {Z : Type 0} (g : Z → Y) (xs : List X) (zs : List Z) (k : ℕ) (x : X) (z : Z) → map f xs ≡ map g zs → k < length zs →
+pub found_at : {X : Type 0} {Y : Type 0} (f : X → Y) {Z : Type 0} (g : Z → Y) (xs : List X) (zs : List Z) (k : ℕ) (x : X) (z : Z) → map f xs ≡ map g zs →
+    k < length zs →
     x ≡ get_or xs k x → z ≡ get_or zs k z → f x ≡ g z
 found_at f g xs zs k x z same below is_x is_z =
     let each : length xs ≡ length zs = sym (length-map xs f) ∙ ap length same ∙ length-map zs g in

@@ -1,5 +1,6 @@
 -- What is known of each pair, and what is told of it.
-use Rattle.std.proofs.Common.{◌≡◌, ◌<◌, ◌≤◌, ◌+◌, ℕ, Bool, true, false, List, [], ◌∷◌, ◌++◌, length, get_or, take, map, refl, ap, sym, ◌∙◌, arith, subst, Some, None, Result, Ok, Err, OnOk, cond}
+use Rattle.std.proofs.Common.{◌≡◌, ◌<◌, ◌≤◌, ◌+◌, ℕ, Bool, true, false, List, [], ◌∷◌, ◌++◌, length, get_or, take, map, refl, ap, sym, ◌∙◌, arith, subst, Some}
+use Rattle.std.proofs.Common.{None, Result, Ok, Err, OnOk, cond}
 use Rattle.std.specs.Prelude.{if◌then◌else◌, codes}
 use Rattle.std.specs.List.{flat_map}
 use Rattle.std.proofs.lemmas.List.Filters.{length-filter_more}
@@ -59,7 +60,8 @@ module _ (topology : Network) (settings : Settings) (parts : List Part) (found :
 
   -- the line of one
   pub pair_row : (k : ℕ) (pair : Pair) (verdict : Verdict) → k < length (pairs_of topology) → pair ≡ get_or found.reach.plan.pairs k pair →
-      verdict ≡ get_or found.whole.items k verdict → pair_line topology pair (fate_as verdict) ≡ pair_told topology settings (get_or (pairs_of topology) k no_pair)
+      verdict ≡ get_or found.whole.items k verdict →
+      pair_line topology pair (fate_as verdict) ≡ pair_told topology settings (get_or (pairs_of topology) k no_pair)
   pair_row k pair verdict below is found_is =
       ap (pair_line topology pair) (whole_is k verdict below found_is)
       ∙ ap (λ p. pair_line topology p (fate_of topology settings [] (pair_at found.reach.plan k))) (pair_there topology found.reach known.ready k pair below is)
@@ -109,9 +111,11 @@ pub nothing_flat : {X : Type 0} (f : X → List ℕ) (xs : List X) → ((x : X) 
 nothing_flat f [] none = refl
 nothing_flat f (x ∷ xs) none = ap (λ ys. ys ++ flat_map f xs) (none x) ∙ nothing_flat f xs none
 
-pub no_lines : (topology : Network) (settings : Settings) (count : ℕ) (parts : List Part) → settings.counts ≡ true → told_changes topology settings count parts ≡ []
+pub no_lines : (topology : Network) (settings : Settings) (count : ℕ) (parts : List Part) → settings.counts ≡ true →
+    told_changes topology settings count parts ≡ []
 no_lines topology settings count parts is =
-    nothing_flat (told_change topology settings count parts) (pairs_of topology) (λ pair. ap (λ b. if b then [] else change_at topology settings count parts pair) is)
+    nothing_flat (told_change topology settings count parts) (pairs_of topology)
+    (λ pair. ap (λ b. if b then [] else change_at topology settings count parts pair) is)
 
 pub all_lines : (topology : Network) (settings : Settings) (count : ℕ) (parts : List Part) → settings.counts ≡ false →
     told_changes topology settings count parts ≡ flat_map (change_at topology settings count parts) (pairs_of topology)
@@ -141,7 +145,8 @@ line_is topology reaching ready k below pair is count change fate =
 -- 6. The text of a failure, by its pieces
 
 pub by_counts : (topology : Network) (settings : Settings) (count line : ℕ) (parts : List Part) (changes : Changes) → settings.counts ≡ true →
-    AreCounted topology settings parts (pairs_of topology) changes → head_text topology count line parts (Some changes) ≡ under_text topology settings count line parts
+    AreCounted topology settings parts (pairs_of topology) changes →
+    head_text topology count line parts (Some changes) ≡ under_text topology settings count line parts
 by_counts topology settings count line parts changes is counted =
     ap (λ n. failure_text topology count line parts ++ changes_count_text n changes.moved) counted.lost
     ∙ ap (λ n. failure_text topology count line parts ++ changes_count_text (lost_among topology settings parts (pairs_of topology)) n) counted.moved
@@ -180,7 +185,8 @@ module _ (topology : Network) (settings : Settings) (parts : List Part) (found :
 
   -- its verdict was found
   module _ (verdict whole : Verdict) (change : Change)
-      (is : fate_as verdict ≡ fate_under topology (failure_of found.reach) (pair_at found.reach.plan k).site.0 settings.ttl (pair_at found.reach.plan k).address)
+      (is : fate_as verdict ≡ fate_under topology (failure_of found.reach) (pair_at found.reach.plan k).site.0 settings.ttl
+      (pair_at found.reach.plan k).address)
       (was : whole ≡ get_or found.whole.items k whole) (changed : change ≡ change_between (fate_as whole) (fate_as verdict)) where
     now_is : fate_as verdict ≡ fate_of topology settings parts (pair_at found.reach.plan k)
     now_is = is ∙ under_parts topology settings parts found.reach known.ready known.failed k below alike
@@ -198,7 +204,8 @@ module _ (topology : Network) (settings : Settings) (parts : List Part) (found :
 
 -- 8. One pair more, with nothing failed
 
-pub whole_more : (topology : Network) (settings : Settings) (k : ℕ) (verdicts more : List Verdict) (verdict : Verdict) (pair : Pair) → k < length (pairs_of topology) →
+pub whole_more : (topology : Network) (settings : Settings) (k : ℕ) (verdicts more : List Verdict) (verdict : Verdict) (pair : Pair) →
+    k < length (pairs_of topology) →
     pair ≡ get_or (pairs_of topology) k no_pair → map fate_as verdicts ≡ map (fate_of topology settings []) (take k (pairs_of topology)) →
     more ≡ verdicts ++ verdict ∷ [] → fate_as verdict ≡ fate_of topology settings [] pair →
     map fate_as more ≡ map (fate_of topology settings []) (take (k + 1) (pairs_of topology))
@@ -222,8 +229,10 @@ known_so topology settings parts more old new known plan whole failed = record {
 
 -- 10. One failure more
 
-pub sums_next : (topology : Network) (settings : Settings) (line : ℕ) (parts : List Part) (sums exact : Sums) (next : Sums) (more : Sums) → sums ≡ capped exact →
+pub sums_next : (topology : Network) (settings : Settings) (line : ℕ) (parts : List Part) (sums exact : Sums) (next : Sums) (more : Sums) →
+    sums ≡ capped exact →
     more.verdicts ≡ length (pairs_of topology) → AreCounted topology settings parts (pairs_of topology) (record { lost = more.lost; moved = more.moved }) →
     next ≡ capped (plus sums more) → more.failures ≡ 1 → next ≡ capped (plus exact (sums_of topology (Under settings (exact.failures + 1) line parts)))
 sums_next topology settings line parts sums exact next more is verdicts counted next_is one =
-    next_is ∙ ap (λ s. capped (plus s more)) is ∙ capped_plus exact more ∙ ap (λ s. capped (plus exact s)) (rw (one, verdicts, counted.lost, counted.moved) refl)
+    next_is ∙ ap (λ s. capped (plus s more)) is ∙ capped_plus exact more
+    ∙ ap (λ s. capped (plus exact s)) (rw (one, verdicts, counted.lost, counted.moved) refl)

@@ -1,5 +1,6 @@
 -- Lines that are played one behind the other.
-use Rattle.std.proofs.Common.{◌≡◌, ◌+◌, ◌<◌, ◌≤◌, ℕ, suc, Bool, true, false, List, [], ◌∷◌, ◌++◌, length, get_or, drop, refl, ap, sym, ◌∙◌, arith, subst, append_assoc, drop-cons, Ok, Err}
+use Rattle.std.proofs.Common.{◌≡◌, ◌+◌, ◌<◌, ◌≤◌, ℕ, suc, Bool, true, false, List, [], ◌∷◌, ◌++◌, length, get_or, drop, refl, ap, sym, ◌∙◌, arith, subst}
+use Rattle.std.proofs.Common.{append_assoc, drop-cons, Ok, Err}
 use Rattle.std.proofs.lemmas.List.{drop_all}
 use Rattle.std.specs.Prelude.{not, if◌then◌else◌, nat_le}
 use Rattle.mn_base.proofs.Bools.{and_left, and_right, at_most_tells}
@@ -17,7 +18,8 @@ use Rattle.mn_reach_run.specs.declared.found.Found.{Found}
 use Rattle.mn_reach_run.specs.declared.settings.Settings.{Settings}
 use Rattle.mn_reach_run.specs.declared.sums.Sums.{Sums}
 use Rattle.mn_reach_run.specs.declared.play.Manner.{Manner}
-use Rattle.mn_reach_run.specs.Report.{Task, Whole, Stage, is_setting, settings_after, whole_if_new, numbered, tasks_of_line, stage_after, tasks_from, tasks_of, sums_in, capped, no_sums, whole_text}
+use Rattle.mn_reach_run.specs.Report.{Task, Whole, Stage, is_setting, settings_after, whole_if_new, numbered, tasks_of_line, stage_after, tasks_from, tasks_of}
+use Rattle.mn_reach_run.specs.Report.{sums_in, capped, no_sums, whole_text}
 use Rattle.mn_reach_run.specs.Playing.{HaveFailed, IsReady, Now, now_at, Goes, Plays, Sweeps, IsKnown}
 use Rattle.mn_reach_run.specs.Lasting.{first_manner, stage_of, manner_after, Lasts, IsAt}
 use Rattle.mn_reach_run.proofs.Counting.{failures_append, numbered_failures, plus_none}
@@ -56,7 +58,8 @@ no_failures topology stage = by stage.is_told
 
 module _ (topology : Network) (manner : Manner) (line : FailureLine) where
   -- it says how is told
-  pub setting_played : (now : Now) → is_setting line.command ≡ true → Plays topology (λ number. tasks_of_line topology (stage_of manner number) line) now now (Ok tt)
+  pub setting_played : (now : Now) → is_setting line.command ≡ true →
+      Plays topology (λ number. tasks_of_line topology (stage_of manner number) line) now now (Ok tt)
   setting_played now is =
       plays_as topology (λ number. []) (λ number. tasks_of_line topology (stage_of manner number) line) now now (Ok tt)
       (λ number. sym (ap (λ b. if b then [] else whole_if_new (stage_of manner number)
@@ -64,10 +67,12 @@ module _ (topology : Network) (manner : Manner) (line : FailureLine) where
 
   -- or it stands for failures
   of_failures : (number : ℕ) → is_setting line.command ≡ false →
-      whole_if_new (stage_of manner number) ++ numbered manner.settings (number + (sums_in topology (whole_if_new (stage_of manner number))).failures) line.number
+      whole_if_new (stage_of manner number) ++ numbered manner.settings (number + (sums_in topology (whole_if_new (stage_of manner number))).failures)
+      line.number
       (failures_of topology line.command) ≡ tasks_of_line topology (stage_of manner number) line
   of_failures number is =
-      let none : number + (sums_in topology (whole_if_new (stage_of manner number))).failures ≡ number = omega (arith, no_failures topology (stage_of manner number)) in
+      let none : number + (sums_in topology (whole_if_new (stage_of manner number))).failures ≡ number =
+      omega (arith, no_failures topology (stage_of manner number)) in
       ap (λ n. whole_if_new (stage_of manner number) ++ numbered manner.settings n line.number (failures_of topology line.command)) none
       ∙ sym (ap (λ b. if b then [] else whole_if_new (stage_of manner number)
       ++ numbered manner.settings number line.number (failures_of topology line.command)) is)
@@ -78,7 +83,8 @@ module _ (topology : Network) (manner : Manner) (line : FailureLine) where
       Plays topology (λ number. tasks_of_line topology (stage_of manner number) line) s u r
   failures_played s t u r is whole sweeps =
       plays_as topology
-      (λ number. whole_if_new (stage_of manner number) ++ numbered manner.settings (number + (sums_in topology (whole_if_new (stage_of manner number))).failures)
+      (λ number. whole_if_new (stage_of manner number) ++ numbered manner.settings
+      (number + (sums_in topology (whole_if_new (stage_of manner number))).failures)
       line.number (failures_of topology line.command)) (λ number. tasks_of_line topology (stage_of manner number) line) s u r (λ number. of_failures number is)
       (plays_then topology (λ number. whole_if_new (stage_of manner number))
       (λ number. numbered manner.settings number line.number (failures_of topology line.command)) s t u r whole sweeps)
@@ -88,17 +94,20 @@ module _ (topology : Network) (manner : Manner) (line : FailureLine) where
       Plays topology (λ number. tasks_of_line topology (stage_of manner number) line) s t r
   whole_cut s t e r from is whole =
       plays_as topology
-      (λ number. whole_if_new (stage_of manner number) ++ numbered manner.settings (number + (sums_in topology (whole_if_new (stage_of manner number))).failures)
+      (λ number. whole_if_new (stage_of manner number) ++ numbered manner.settings
+      (number + (sums_in topology (whole_if_new (stage_of manner number))).failures)
       line.number (failures_of topology line.command)) (λ number. tasks_of_line topology (stage_of manner number) line) s t r (λ number. of_failures number is)
       (plays_cut topology (λ number. whole_if_new (stage_of manner number))
       (λ number. numbered manner.settings (number + (sums_in topology (whole_if_new (stage_of manner number))).failures) line.number
       (failures_of topology line.command)) s t e r from whole)
 
   -- so many failures were told
-  pub line_failures : (number : ℕ) → (sums_in topology (tasks_of_line topology (stage_of manner number) line)).failures ≡ length (failures_of topology line.command)
+  pub line_failures : (number : ℕ) →
+      (sums_in topology (tasks_of_line topology (stage_of manner number) line)).failures ≡ length (failures_of topology line.command)
   line_failures number = by line.command
     where
-      all : (failures : List (List Part)) → (sums_in topology (whole_if_new (stage_of manner number) ++ numbered manner.settings number line.number failures)).failures ≡ length failures
+      all : (failures : List (List Part)) →
+          (sums_in topology (whole_if_new (stage_of manner number) ++ numbered manner.settings number line.number failures)).failures ≡ length failures
       all failures =
           let both = failures_append topology (whole_if_new (stage_of manner number)) (numbered manner.settings number line.number failures) in
           let none = no_failures topology (stage_of manner number) in
@@ -179,7 +188,8 @@ module _ (topology : Network) (lines : List FailureLine) (i : ℕ) (manner : Man
   line_done after later plays lasts = record {
     tasks = at.tasks ++ tasks_of_line topology (stage_of manner number) line;
     after = plays at.tasks start at.after;
-    left = ap (λ n. (at.tasks ++ tasks_of_line topology (stage_of manner number) line) ++ tasks_from topology (stage_of (manner_after manner line) n) (drop (i + 1) lines))
+    left = ap (λ n. (at.tasks ++ tasks_of_line topology (stage_of manner number) line) ++ tasks_from topology (stage_of (manner_after manner line) n)
+        (drop (i + 1) lines))
         (failures_append topology at.tasks (tasks_of_line topology (stage_of manner number) line)
         ∙ ap (λ n. number + n) (line_failures topology manner line number))
         ∙ append_assoc at.tasks (tasks_of_line topology (stage_of manner number) line) rest ∙ goes_on;

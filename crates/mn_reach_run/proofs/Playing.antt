@@ -17,7 +17,8 @@ use Rattle.mn_reach_run.proofs.Counting.{failures_append, sums_more}
 pub text_append : (topology : Network) (xs ys : List Task) → tasks_text topology (xs ++ ys) ≡ tasks_text topology xs ++ tasks_text topology ys
 text_append topology xs ys = flat_map-append (task_text topology) xs ys
 
-pub goes_as : (topology : Network) (xs ys : List Task) (start : Stand) (now : Now) (r : Answer) → xs ≡ ys → Goes topology xs start now r → Goes topology ys start now r
+pub goes_as : (topology : Network) (xs ys : List Task) (start : Stand) (now : Now) (r : Answer) → xs ≡ ys → Goes topology xs start now r →
+    Goes topology ys start now r
 goes_as topology xs ys start now r is goes = subst (λ tasks. Goes topology tasks start now r) is goes
 
 -- 1. By cases on what is answered
@@ -41,7 +42,8 @@ goes_cut topology xs ys start now e r from this =
 pub plays_none : (topology : Network) (now : Now) → Plays topology (λ number. []) now now (Ok tt)
 plays_none topology now tasks start after = subst (λ these. IsAfter topology these start now) (sym (append-nil tasks)) after
 
-pub plays_then : (topology : Network) (first second : ℕ → List Task) (s t u : Now) (r : Answer) → Plays topology first s t (Ok tt) → Plays topology second t u r →
+pub plays_then : (topology : Network) (first second : ℕ → List Task) (s t u : Now) (r : Answer) → Plays topology first s t (Ok tt) →
+    Plays topology second t u r →
     Plays topology (λ number. first number ++ second (number + (sums_in topology (first number)).failures)) s u r
 plays_then topology first second s t u r one two tasks start after =
     let k : ℕ = (sums_in topology tasks).failures in
@@ -51,7 +53,8 @@ plays_then topology first second s t u r one two tasks start after =
     (ap (λ n. so_far ++ second n) many ∙ append_assoc tasks (first k) (second (k + (sums_in topology (first k)).failures)))
     (two so_far start (one tasks start after))
 
-pub plays_cut : (topology : Network) (first second : ℕ → List Task) (s t : Now) (e : DeviceBad) (r : Answer) → IsErrOnly r e → Plays topology first s t (Err e) →
+pub plays_cut : (topology : Network) (first second : ℕ → List Task) (s t : Now) (e : DeviceBad) (r : Answer) → IsErrOnly r e →
+    Plays topology first s t (Err e) →
     Plays topology (λ number. first number ++ second number) s t r
 plays_cut topology first second s t e r from one tasks start after =
     let k : ℕ = (sums_in topology tasks).failures in
@@ -59,7 +62,8 @@ plays_cut topology first second s t e r from one tasks start after =
     (goes_cut topology (tasks ++ first k) (second k) start t e r from (one tasks start after))
 
 -- by what is the same of each number
-pub plays_as : (topology : Network) (first second : ℕ → List Task) (s t : Now) (r : Answer) → ((number : ℕ) → first number ≡ second number) → Plays topology first s t r →
+pub plays_as : (topology : Network) (first second : ℕ → List Task) (s t : Now) (r : Answer) → ((number : ℕ) → first number ≡ second number) →
+    Plays topology first s t r →
     Plays topology second s t r
 plays_as topology first second s t r same one tasks start after =
     let k : ℕ = (sums_in topology tasks).failures in
@@ -113,10 +117,12 @@ want_behind a s t told = record {
 }
 
 -- the text so far is cut, whatever follows
-pub cut_before : (a b whole : List ℕ) (s t : Stand) (e : DeviceBad) → Tells {T = Unit {0}} a s t (Err e) → a ++ b ≡ whole → Tells {T = Unit {0}} whole s t (Err e)
+pub cut_before : (a b whole : List ℕ) (s t : Stand) (e : DeviceBad) → Tells {T = Unit {0}} a s t (Err e) → a ++ b ≡ whole →
+    Tells {T = Unit {0}} whole s t (Err e)
 cut_before a b whole s t e this is = tells_as (a ++ b) whole s t (Err e) (tells_first a b s t e (Err e) (refl, refl) this) is
 
-text_more : (topology : Network) (tasks : List Task) (task : Task) → tasks_text topology (tasks ++ task ∷ []) ≡ tasks_text topology tasks ++ task_text topology task
+text_more : (topology : Network) (tasks : List Task) (task : Task) →
+    tasks_text topology (tasks ++ task ∷ []) ≡ tasks_text topology tasks ++ task_text topology task
 text_more topology tasks task =
     text_append topology tasks (task ∷ []) ∙ ap (λ t. tasks_text topology tasks ++ t) (append-nil (task_text topology task))
 

@@ -1,5 +1,6 @@
 -- Failures that are played one behind the other.
-use Rattle.std.proofs.Common.{◌≡◌, ◌+◌, ◌-◌, ◌<◌, ◌≤◌, ℕ, List, [], ◌∷◌, ◌++◌, length, get_or, take, drop, refl, ap, sym, ◌∙◌, subst, append-nil, arith, Ok, Err, map}
+use Rattle.std.proofs.Common.{◌≡◌, ◌+◌, ◌-◌, ◌<◌, ◌≤◌, ℕ, List, [], ◌∷◌, ◌++◌, length, get_or, take, drop, refl, ap, sym, ◌∙◌, subst, append-nil, arith, Ok}
+use Rattle.std.proofs.Common.{Err, map}
 use Rattle.std.specs.List.{flat_map, range_with_len}
 use Rattle.std.proofs.lemmas.List.{take_all, take_more, take-append-drop}
 use Rattle.std.proofs.lemmas.List.FromFn.{length-range_with_len, get_or-range_with_len}
@@ -21,10 +22,12 @@ module _ (topology : Network) (settings : Settings) (line : ℕ) where
   pub sweeps_none : (now : Now) → Sweeps topology settings line [] now now (Ok tt)
   sweeps_none now = plays_none topology now
 
-  pub sweeps_as : (xs ys : List (List Part)) (s t : Now) (r : Answer) → xs ≡ ys → Sweeps topology settings line xs s t r → Sweeps topology settings line ys s t r
+  pub sweeps_as : (xs ys : List (List Part)) (s t : Now) (r : Answer) → xs ≡ ys → Sweeps topology settings line xs s t r →
+      Sweeps topology settings line ys s t r
   sweeps_as xs ys s t r is sweeps = subst (λ these. Sweeps topology settings line these s t r) is sweeps
 
-  pub sweeps_then : (xs ys : List (List Part)) (s t u : Now) (r : Answer) → Sweeps topology settings line xs s t (Ok tt) → Sweeps topology settings line ys t u r →
+  pub sweeps_then : (xs ys : List (List Part)) (s t u : Now) (r : Answer) → Sweeps topology settings line xs s t (Ok tt) →
+      Sweeps topology settings line ys t u r →
       Sweeps topology settings line (xs ++ ys) s u r
   sweeps_then xs ys s t u r one two =
       plays_as topology
@@ -41,7 +44,8 @@ module _ (topology : Network) (settings : Settings) (line : ℕ) where
   pub sweeps_want : (xs : List (List Part)) (now : Now) → Sweeps topology settings line xs now now (Err NoMemory)
   sweeps_want xs now = plays_want topology (λ number. numbered settings number line xs) now
 
-  pub sweeps_want_behind : (xs : List (List Part)) (s t : Now) → Sweeps topology settings line xs s t (Ok tt) → Sweeps topology settings line xs s t (Err NoMemory)
+  pub sweeps_want_behind : (xs : List (List Part)) (s t : Now) → Sweeps topology settings line xs s t (Ok tt) →
+      Sweeps topology settings line xs s t (Err NoMemory)
   sweeps_want_behind xs s t one = plays_want_behind topology (λ number. numbered settings number line xs) s t one
 
   pub sweeps_cut : (xs ys : List (List Part)) (s t : Now) (e : DeviceBad) (r : Answer) → IsErrOnly r e → Sweeps topology settings line xs s t (Err e) →
@@ -63,7 +67,8 @@ module _ {X : Type 0} (f : X → List (List Part)) (xs : List X) where
   rest_of i = sym (flat_map-append f (take i xs) (drop i xs)) ∙ ap (flat_map f) (take-append-drop i xs)
 
   module _ (topology : Network) (settings : Settings) (line : ℕ) (i : ℕ) (d : X) (s t u : Now) where
-    pub sweeps_next : i < length xs → Sweeps topology settings line (flat_map f (take i xs)) s t (Ok tt) → Sweeps topology settings line (f (get_or xs i d)) t u (Ok tt) →
+    pub sweeps_next : i < length xs → Sweeps topology settings line (flat_map f (take i xs)) s t (Ok tt) →
+        Sweeps topology settings line (f (get_or xs i d)) t u (Ok tt) →
         Sweeps topology settings line (flat_map f (take (i + 1) xs)) s u (Ok tt)
     sweeps_next below before this =
         sweeps_as topology settings line (flat_map f (take i xs) ++ f (get_or xs i d)) (flat_map f (take (i + 1) xs)) s u (Ok tt) (sym (more_of i d below))

@@ -28,7 +28,8 @@ pub set_one : (xs : List Bool) (l : ℕ) (on : Bool) → l < length xs → AreSe
 set_one xs l on below = record { each = length-set xs l on; at = λ k there. one_at xs l on below k (l == k) refl }
 
 -- a link was made up or down
-pub set_up_one : (old new : Reaching) (l : ℕ) (on : Bool) → l < length old.up → new ≡ record old { up = set old.up l on } → AreSet (λ k. l == k) on old.up new.up
+pub set_up_one : (old new : Reaching) (l : ℕ) (on : Bool) → l < length old.up → new ≡ record old { up = set old.up l on } →
+    AreSet (λ k. l == k) on old.up new.up
 set_up_one old new l on below is = subst (AreSet (λ k. l == k) on old.up) (sym (ap (λ (r : Reaching). r.up) is)) (set_one old.up l on below)
 
 both : (p q on was : Bool) → (if q then on else (if p then on else was)) ≡ (if p || q then on else was)
@@ -143,12 +144,14 @@ mended topology ends front parts old new apart some failed ending up ldp none = 
       (some.up l below ∙ ap not (list_any-append (takes_down topology l) front parts));
   ldp = λ l below.
       ldp.at l (subst (λ n. l < n) (sym some.ldp_each) below)
-      ∙ if_on (is_ldp_off front l) (is_ldp_off parts l) (is_up old.ldp l) (apart.ldp l) (some.ldp l below ∙ ap not (list_any-append (switches_off l) front parts));
+      ∙ if_on (is_ldp_off front l) (is_ldp_off parts l) (is_up old.ldp l) (apart.ldp l) (some.ldp l below
+      ∙ ap not (list_any-append (switches_off l) front parts));
   sessions = λ one other. ap (list_any (is_between one other)) none ∙ sym (apart.sessions one other);
 }
 
 -- sessions end between edges that no links join, or stay from now on
-pub ending_so : (topology : Network) (was ends : Bool) (parts : List Part) (old new : Reaching) → HaveFailed topology was parts old → new ≡ record old { ends = ends } →
+pub ending_so : (topology : Network) (was ends : Bool) (parts : List Part) (old new : Reaching) → HaveFailed topology was parts old →
+    new ≡ record old { ends = ends } →
     HaveFailed topology ends parts new
 ending_so topology was ends parts old new h is =
     subst (HaveFailed topology ends parts) (sym is)
@@ -156,7 +159,8 @@ ending_so topology was ends parts old new h is =
 
 -- what failed first has failed, and more fails; where the ends of sessions are those of the settings
 pub failed_too : (topology : Network) (ends : Bool) (front more : List Part) (old new : Reaching) → HaveFailed topology ends front old →
-    ((first : List Part) → HaveFailed topology old.ends first old → HaveFailed topology old.ends (first ++ more) new) → HaveFailed topology ends (front ++ more) new
+    ((first : List Part) → HaveFailed topology old.ends first old → HaveFailed topology old.ends (first ++ more) new) →
+    HaveFailed topology ends (front ++ more) new
 failed_too topology ends front more old new h fails =
     subst (λ e. HaveFailed topology e (front ++ more) new) h.ending (fails front (subst (λ e. HaveFailed topology e front old) (sym h.ending) h))
 

@@ -63,7 +63,8 @@ parts_text topology (part ∷ parts) = part_text topology part ++ more_parts_tex
 
 -- failure N line L and its parts
 abbrev pub failure_text : Network → ℕ → ℕ → List Part → List ℕ
-failure_text topology number line parts = text (codes "failure " ∷ count_text number ∷ codes " line " ∷ decimal line ∷ codes " " ∷ []) ++ parts_text topology parts
+failure_text topology number line parts =
+    text (codes "failure " ∷ count_text number ∷ codes " line " ∷ decimal line ∷ codes " " ∷ []) ++ parts_text topology parts
 
 -- how many pairs it changes, and the end of the line
 abbrev pub changes_count_text : ℕ → ℕ → List ℕ

@@ -167,7 +167,7 @@ pub fn reach<S: Shelf, O: Sink>(
     shelf: &mut S,
     out: &mut O,
 ) -> Outcome
-    // The outcome and the text are the answer's; a fault or running out of memory may come in its place, and then a first part of the text stands.
+    // The outcome and the text are the answer's; a fault, or running out of memory, may come in its place, and then a first part of the text stands.
     ensures answers { ForSome (S.files shelf.old) (λ files.
         Answers (reach_answer topology.now (name_of failures.entry) files) files (S.files shelf.new) (O.written out.old) (O.written out.new) result) }
     // Where all was done, the text is the report of the file's failures over the topology, and each verdict in it is the ledger's on every

@@ -47,7 +47,7 @@ pub(crate) fn bytes_at(
     word_at(alloc, call, k)
 }
 
-/// Some bytes behind what is said of them.
+/// Some bytes behind what is stated of them.
 fn with_text(alloc: Global, mut said: String, bytes: &[u8]) -> Answer {
     if !bytes.is_empty() {
         said.push(' ')?;

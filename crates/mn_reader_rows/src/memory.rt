@@ -87,7 +87,7 @@ fn write_behind(alloc: Global, shelf: &mut MemShelf) -> Answer {
     shown(alloc, &append_all(shelf, &pieces))
 }
 
-/// A byte that is pushed, or want of memory as a fault of a device.
+/// A byte that is pushed, or out of memory as a fault of a device.
 fn push(list: &mut Vec<u8>) -> Result<(), DeviceBad> {
     list.push(1)?;
     Ok(())

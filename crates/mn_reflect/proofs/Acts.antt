@@ -108,7 +108,16 @@ module _ (rs : List ℕ) (steps : List Step) (now : ReflectNow) (is : IsRun now.
     may_hear_it : MayHearNext now a.0 b.0
     may_hear_it =
         let x = two a b may in
-        record { two = x; can = record { labels = l; word = word; next = next_so; may = may_hear rs steps now is b.0 x.second (are_ones rs steps now is a.0 b.0 may).1 } }
+        record {
+          two = x;
+          can = record {
+            labels = l;
+            word = word;
+            next = next_so;
+            may =
+                may_hear rs steps now is b.0 x.second (are_ones rs steps now is a.0 b.0 may).1;
+          };
+        }
 
   word_there : (a b : NodeNo) → refusal t w (step.HearBgp a b) ≡ None → (word : Word) × (first_word a.0 b.0 w.flying ≡ Some word)
   word_there a b none = some_word (first_word a.0 b.0 w.flying) (free t w (step.HearBgp a b) none).there
@@ -282,7 +291,8 @@ module _ (t : Network) (rs : List ℕ) (steps : List Step) (now : ReflectNow) (i
   On n = IsRun n rs steps now → takes n rs s ≡ true → refusal n (world_of n rs steps) s ≡ None →
       IsRun n rs (steps ++ s ∷ []) (finished (acted (labels_of n steps) (word_heard (world_of n rs steps) s) s now))
 
-  pub goes_further : (new : ReflectNow) → new ≡ finished (acted (labels_of t steps) (word_heard (world_of t rs steps) s) s now) → IsRun t rs (steps ++ s ∷ []) new
+  pub goes_further : (new : ReflectNow) → new ≡ finished (acted (labels_of t steps) (word_heard (world_of t rs steps) s) s now) →
+      IsRun t rs (steps ++ s ∷ []) new
   goes_further new so =
       subst (IsRun t rs (steps ++ s ∷ [])) (sym so)
       (subst On is.stands.0.topology_is (λ run takes_it refuses_not. run_on rs steps now run s takes_it refuses_not) is taken none)

@@ -21,7 +21,8 @@ acts_as labels word now new s one r is h = subst (λ x. OnOk r (new ≡ acted la
 pub hears_as : {A E : Type 0} (labels : Labels) (word : Option Word) (now new : ReflectNow) (s : Step) (a b : NodeNo) (r : Result A E) →
     s ≡ step.HearBgp a b → IsHeardIn labels now s word → ((v : Word) → IsNext labels now a.0 b.0 v → OnOk r (new ≡ word_heard labels a.0 b.0 v now)) →
     OnOk r (new ≡ acted labels word s now)
-hears_as labels word now new s a b r is heard h = acts_as labels word now new s (step.HearBgp a b) r is (by word (subst (λ x. IsHeardIn labels now x word) is heard))
+hears_as labels word now new s a b r is heard h =
+    acts_as labels word now new s (step.HearBgp a b) r is (by word (subst (λ x. IsHeardIn labels now x word) is heard))
   where
     by : (o : Option Word) → IsHeardIn labels now (step.HearBgp a b) o → OnOk r (new ≡ acted labels o (step.HearBgp a b) now)
     by None i = absurd i

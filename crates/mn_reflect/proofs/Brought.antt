@@ -95,7 +95,8 @@ one_is_said t said key (Some route) h announces withdraws =
     announces _ (ap (λ (s : Says). s.reached) says.0)
 
 -- what is kept of it
-pub heard_so : (t : Network) (said : SaysReflected) (r : VpnRoute) (key : Key) (mention : Option Heard) (is : IsAnnounced t said r key mention) (offered : Heard) →
+pub heard_so : (t : Network) (said : SaysReflected) (r : VpnRoute) (key : Key) (mention : Option Heard) (is : IsAnnounced t said r key mention)
+    (offered : Heard) →
     offered ≡ record { vrf = is.route.vrf; prefix = r.prefix; label = r.label; targets = said.update.targets; clusters = said.clusters } → offered ≡ is.route
 heard_so t said r key mention is offered e =
     e ∙ ap (λ (x : VpnRoute). let h : Heard =
@@ -103,8 +104,9 @@ heard_so t said r key mention is offered e =
     ∙ ap (λ ts. let h : Heard = record is.route { targets = ts; clusters = said.clusters } in h) is.targets
     ∙ ap (λ cs. let h : Heard = record is.route { clusters = cs } in h) is.clusters
 
--- and then the node has heard it
-pub takes_it : (t : Network) (said : SaysReflected) (r : VpnRoute) (key : Key) (mention : Option Heard) (is : IsAnnounced t said r key mention) (offered : Heard)
+-- and then the node has received it
+pub takes_it : (t : Network) (said : SaysReflected) (r : VpnRoute) (key : Key) (mention : Option Heard) (is : IsAnnounced t said r key mention)
+    (offered : Heard)
     (node peer : ℕ) (old new : ReflectNow) → offered ≡ is.route → new ≡ route_heard node peer (key_of_heard offered) (Some offered) old →
     new ≡ route_heard node peer key mention old
 takes_it t said r key mention is offered node peer old new same h =

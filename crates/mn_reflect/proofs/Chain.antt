@@ -30,7 +30,8 @@ module _ (so none : Bool) (static : Option Refused) (rest : List (Option Refused
       by false false None e f g = cc
       by false false (Some cause) e f g = g
 
-  pub is_later : so ≡ false → none ≡ false → None ≡ option_map bad_of static → option_map bad_of (first_cause rest) ≡ option_map bad_of (tried so none static rest)
+  pub is_later : so ≡ false → none ≡ false → None ≡ option_map bad_of static →
+      option_map bad_of (first_cause rest) ≡ option_map bad_of (tried so none static rest)
   is_later a b c = by so none static a b c
     where
       by : (s n : Bool) (o : Option Refused) → s ≡ false → n ≡ false → None ≡ option_map bad_of o →

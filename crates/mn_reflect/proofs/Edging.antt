@@ -77,8 +77,9 @@ news_are : (t : Network) (node : ℕ) (peers : List NodeNo) (comes : Bool) (expo
 news_are t node peers comes exports [] went h = ap (λ b. edge_news t node peers b exports) h.0 ∙ ap (edge_news t node peers false) h.1
 news_are t node peers comes exports (export ∷ come) went h = ap (λ b. edge_news t node peers b exports) h.0 ∙ ap (edge_news t node peers true) h.1
 
--- what it tells can be said
-pub either_sayable : (comes : Bool) (exports come went : List Exported) → AreNews comes exports come went → AreSayable come → AreSayable went → AreSayable exports
+-- what it tells can be sent
+pub either_sayable : (comes : Bool) (exports come went : List Exported) → AreNews comes exports come went → AreSayable come → AreSayable went →
+    AreSayable exports
 either_sayable comes exports [] went h came gone = subst AreSayable (sym h.1) gone
 either_sayable comes exports (export ∷ come) went h came gone = subst AreSayable (sym h.1) came
 

@@ -89,7 +89,7 @@ pub if_none : (o : Option Refused) (P : Refused → Type 0) → o ≡ None → I
 if_none None P e = tt
 if_none (Some why) P e = absurd (let clash : Some why ≡ None → ⊥ = (λ h. cc) in clash e)
 
--- none of them is want of memory
+-- none of them is out of memory
 abbrev IsCause : Option Refused → Type 0
 IsCause None = Unit {0}
 IsCause (Some why) = bad_of why ≢ bad.NoMemory
@@ -159,7 +159,7 @@ module _ (now : ReflectNow) (s : Step) (may : MayStep now s) where
   pub few_done : now.done ≤ 4000000
   few_done = subst (λ n. n ≤ 4000000) (sym may.is.stands.1) may.few
 
--- something is heard, or nothing is to be
+-- something is received, or nothing is to be
 some_heard : (now : ReflectNow) (s : Step) → MayAct now s → (l : Labels) × (word : Option Word) × IsHeardIn l now s word
 some_heard now (step.HearBgp a b) may = (may.can.labels, Some may.can.word, may.can.next)
 some_heard now (step.BgpUp a b) may = ((λ site attachment. 0), None, tt)

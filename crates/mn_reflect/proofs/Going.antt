@@ -1,5 +1,6 @@
 -- What the code of a step makes is what the step makes of what is kept.
-use Rattle.std.proofs.Common.{[], ℕ, zero, suc, ◌≡◌, ◌+◌, ◌<◌, ◌≢◌, ◌⊎◌, inl, inr, Bool, true, false, List, ◌∷◌, ◌++◌, length, refl, sym, ap, ◌∙◌, Option, Some, None}
+use Rattle.std.proofs.Common.{[], ℕ, zero, suc, ◌≡◌, ◌+◌, ◌<◌, ◌≢◌, ◌⊎◌, inl, inr, Bool, true, false, List, ◌∷◌, ◌++◌, length, refl, sym, ap, ◌∙◌, Option, Some}
+use Rattle.std.proofs.Common.{None}
 use Rattle.std.proofs.Common.{append_assoc, append-nil}
 use Rattle.std.specs.Prelude.{not, filter, slice_get, slice_set, slice_index_or, option_map, if◌then◌else◌}
 use Rattle.std.proofs.lemmas.List.{get_or-set_same, get_or-set_other}
@@ -141,7 +142,7 @@ module _ (rs : List ℕ) (labels : Labels) (word : Option Word) (now : ReflectNo
       refl refl (append_assoc (filter (λ letter. not (mail.is_between a.0 b.0 letter)) now.mail.letters) (open_letter now.topology a.0 b.0 ∷ [])
       (open_letter now.topology b.0 a.0 ∷ []))
 
--- 5. A message is heard
+-- 5. A message is received
 
 module _ (rs : List ℕ) (labels : Labels) (now : ReflectNow) (a b : NodeNo) (placed : IsPlaced now b.0) where
   hears_open : Goes now.topology rs labels (Some Open) now (finished (word_heard labels a.0 b.0 Open now)) (step.HearBgp a b)
@@ -152,7 +153,7 @@ module _ (rs : List ℕ) (labels : Labels) (now : ReflectNow) (a b : NodeNo) (pl
   hears_keep = goes_as rs labels (Some KeepAlive) now (step.HearBgp a b) _ _
       (unchanged now b.0 placed) refl refl
 
-  -- what is kept before anything is said, and what is said then
+  -- what is kept before anything is sent, and what is sent then
   abbrev left : ReflectNow
   left = taken a.0 b.0 now
 
@@ -160,7 +161,8 @@ module _ (rs : List ℕ) (labels : Labels) (now : ReflectNow) (a b : NodeNo) (pl
       Goes now.topology rs labels (Some (Announce offer)) now (finished (word_heard labels a.0 b.0 (Announce offer) now)) (step.HearBgp a b)
   hears_announced offer = goes_as rs labels (Some (Announce offer)) now (step.HearBgp a b) _ _
       (edges_turned (kept b.0 a.0 (key_of offer) (Some (route_in labels offer)) left) b.0
-      (decide_all now.topology now.reflectors (row_at (kept b.0 a.0 (key_of offer) (Some (route_in labels offer)) left).heard b.0) b.0 (key_of offer ∷ [])) placed)
+      (decide_all now.topology now.reflectors (row_at (kept b.0 a.0 (key_of offer) (Some (route_in labels offer)) left).heard b.0) b.0 (key_of offer ∷ []))
+      placed)
       (nodes_if (is_reflector now.reflectors b.0) _ left.mail) (letters_if (is_reflector now.reflectors b.0) _ left.mail)
 
   hears_withdrawn : (key : Key) →
@@ -214,14 +216,16 @@ module _ (rs : List ℕ) (labels : Labels) (word : Option Word) (now : ReflectNo
   abbrev is_b : Bool
   is_b = is_reflector now.reflectors b.0
 
-  letters_end : two.mail.letters ≡ cut_off.mail.letters ++ ((if is_a then news_a (row_at two.heard a.0) else []) ++ (if is_b then news_b (row_at now.heard b.0) else []))
+  letters_end : two.mail.letters
+      ≡ cut_off.mail.letters ++ ((if is_a then news_a (row_at two.heard a.0) else []) ++ (if is_b then news_b (row_at now.heard b.0) else []))
   letters_end =
       letters_if is_b (news_b (row_at (set_at a.0 b.0 [] now.heard) b.0)) one.mail
       ∙ ap (λ letters. letters ++ (if is_b then news_b (row_at (set_at a.0 b.0 [] now.heard) b.0) else []))
       (letters_if is_a (news_a (row_at (set_at a.0 b.0 [] now.heard) a.0)) cut_off.mail)
       ∙ append_assoc cut_off.mail.letters (if is_a then news_a (row_at (set_at a.0 b.0 [] now.heard) a.0) else [])
       (if is_b then news_b (row_at (set_at a.0 b.0 [] now.heard) b.0) else [])
-      ∙ ap (λ (row : Row). cut_off.mail.letters ++ ((if is_a then news_a row else []) ++ (if is_b then news_b (row_at (set_at a.0 b.0 [] now.heard) b.0) else [])))
+      ∙ ap (λ (row : Row). cut_off.mail.letters
+      ++ ((if is_a then news_a row else []) ++ (if is_b then news_b (row_at (set_at a.0 b.0 [] now.heard) b.0) else [])))
       (sym row_a)
       ∙ ap (λ (row : Row). cut_off.mail.letters ++ ((if is_a then news_a (row_at two.heard a.0) else []) ++ (if is_b then news_b row else []))) row_b
 

@@ -43,10 +43,12 @@ module _ {R : Type 0} (f : R → List (Option BgpSession)) (rows : List R) (i j 
 
 module _ (t : Network) (node peer : ℕ) where
   takes_open : answer_in (end_in t node peer (state_of_word Open)) (messages.Opening 4 t.asn 0 (loopback t peer) true) ≡ Ok (reply_of Open)
-  takes_open = ap (λ b. let r : Result BgpReply BgpBad = if (t.asn == t.asn) && (b && true) then Ok (reply_of Open) else Err BadPeer in r) (same_test (loopback t peer))
+  takes_open = ap (λ b. let r : Result BgpReply BgpBad = if (t.asn == t.asn) && (b && true) then Ok (reply_of Open) else Err BadPeer in r)
+      (same_test (loopback t peer))
       ∙ ap (λ b. let r : Result BgpReply BgpBad = if b && true then Ok (reply_of Open) else Err BadPeer in r) (same_test t.asn)
 
-  pub it_takes : (message : BgpMessage) (word : Word) → IsFirst t peer message word → answer_in (end_in t node peer (state_of_word word)) message ≡ Ok (reply_of word)
+  pub it_takes : (message : BgpMessage) (word : Word) → IsFirst t peer message word →
+      answer_in (end_in t node peer (state_of_word word)) message ≡ Ok (reply_of word)
   it_takes message Open is = ap (answer_in (end_in t node peer (state_of_word Open))) is ∙ takes_open
   it_takes message KeepAlive is = ap (answer_in (end_in t node peer (state_of_word KeepAlive))) is
   it_takes message (Announce offer) is = absurd is

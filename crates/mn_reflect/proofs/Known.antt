@@ -1,4 +1,4 @@
--- The names of what a node heard are of the topology's VRFs.
+-- The names of what a node received are of the topology's VRFs.
 use Rattle.std.proofs.Common.{[], ℕ, ◌≡◌, ◌<◌, Bool, true, false, List, ◌∷◌, ◌++◌, length, map, sym, subst, ap, ◌∙◌}
 use Rattle.std.specs.Prelude.{slice_index_or, if◌then◌else◌}
 use Rattle.std.specs.List.{AllByRecursion, flat_map}
@@ -58,7 +58,7 @@ pub all_known : (t : Network) (rows : List (List Heard)) → AllByRecursion (λ 
     AllByRecursion (λ (key : Key). key.vrf < length t.vrfs) (all_names rows)
 all_known t rows h = ordered_below (length t.vrfs) (flat_map names_in rows) (rows_known t rows h)
 
--- all that is offered is said
+-- all that is offered is sent
 pub offers_by : (was now : ReflectNow) → was ≡ now → (node peer : ℕ) (rs : List ℕ) (keys : List Key) (heard : List (List Heard)) (later : Mail) →
     rs ≡ now.reflectors → keys ≡ all_names heard → heard ≡ slice_index_or now.heard node [] →
     later ≡ posted (reflector_offers was.topology rs node peer (row_in heard) keys) was.mail → (let r : ReflectNow = record was { mail = later } in r)

@@ -1,4 +1,4 @@
--- The next message that a node hears of a peer, as it is read.
+-- The next message that a node receives from a peer, as it is read.
 use Rattle.std.proofs.Common.{ℕ, ◌≡◌, List, sym, subst, ap, ◌∙◌, Option, Some, None, Result}
 use Rattle.std.specs.Prelude.{OnOk}
 use Rattle.std.proofs.lemmas.Option.{same_Some}

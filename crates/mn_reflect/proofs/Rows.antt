@@ -36,7 +36,8 @@ abbrev pub items_of : {A : Type 0} → Vec A Global → List A
 items_of row = row.items
 
 -- and what is so where it has reached a cell of that row
-pub record IsCell {A : Type 0} (table : ReflectNow → List (List A)) (was now : ReflectNow) (rows : List (Vec A Global)) (node peer i j : ℕ) (row : Vec A Global) : Type 0
+pub record IsCell {A : Type 0} (table : ReflectNow →
+    List (List A)) (was now : ReflectNow) (rows : List (Vec A Global)) (node peer i j : ℕ) (row : Vec A Global) : Type 0
   where
     pub place : j < vec_len row
     pub found : (d cell : A) → cell ≡ slice_index_or row.items j cell → cell ≡ slice_index_or (slice_index_or (table now) node []) peer d

@@ -24,7 +24,8 @@ worked : (f : ℕ → Option Edge) (nodes : List ℕ) → map (option_map (λ (p
 worked f [] = refl
 worked f (node ∷ nodes) = by (f node) (map (option_map (λ (pe : PeNow). pe.edge)) (map (λ n. option_map working (f n)) nodes)) (worked f nodes)
   where
-    by : (o : Option Edge) (rest : List (Option Edge)) → rest ≡ map f nodes → option_map (λ (pe : PeNow). pe.edge) (option_map working o) ∷ rest ≡ o ∷ map f nodes
+    by : (o : Option Edge) (rest : List (Option Edge)) → rest ≡ map f nodes →
+        option_map (λ (pe : PeNow). pe.edge) (option_map working o) ∷ rest ≡ o ∷ map f nodes
     by None rest h = ap (λ os. None ∷ os) h
     by (Some e) rest h = ap (λ os. Some e ∷ os) h
 

@@ -1,4 +1,4 @@
--- A row that is heard so, but for one peer's last mention of a route.
+-- A row that is received so, but for one peer's last mention of a route.
 use Rattle.std.proofs.Common.{ℕ, ◌≡◌, ◌<◌, false, List, [], length, sym, ap, ◌∙◌, Option, Some, None, inl, inr}
 use Rattle.std.specs.Prelude.{◌||◌, slice_index_or, if◌then◌else◌}
 use Rattle.mn_base.proofs.Bools.{two_ways}

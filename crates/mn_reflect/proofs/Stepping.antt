@@ -105,7 +105,7 @@ module _ (rs : List ℕ) (steps : List Step) (now : ReflectNow) (is : IsRun now.
     ];
   }
 
-  -- 3. What is heard
+  -- 3. What is received
 
   -- the clusters of an announcement are addresses
   abbrev pub AreAddressed : Word → Type 0

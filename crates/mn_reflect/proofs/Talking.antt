@@ -41,7 +41,8 @@ begins_so a b now one two cut said last first second f s h1 h2 h3 h4 h5 =
 abbrev pub cut_off : ℕ → ℕ → ReflectNow → ReflectNow
 cut_off a b now = cut_between a b (with_end b a None (with_end a b None now))
 
-pub cut_so : (a b : ℕ) (now one two cut : ReflectNow) → one ≡ with_end a b None now → two ≡ with_end b a None one → cut ≡ cut_between a b two → cut ≡ cut_off a b now
+pub cut_so : (a b : ℕ) (now one two cut : ReflectNow) → one ≡ with_end a b None now → two ≡ with_end b a None one → cut ≡ cut_between a b two →
+    cut ≡ cut_off a b now
 cut_so a b now one two cut h1 h2 h3 = h3 ∙ ap (cut_between a b) (h2 ∙ ap (with_end b a None) h1)
 
 -- a node that may turn still may
@@ -82,7 +83,7 @@ module _ (now : ReflectNow) (a b : ℕ) (apart : a ≢ b) where
 pub ends_so : (a b : ℕ) (now cut one last : ReflectNow) → cut ≡ cut_off a b now → one ≡ forgotten a b cut → last ≡ forgotten b a one → last ≡ ended a b now
 ends_so a b now cut one last h1 h2 h3 = h3 ∙ ap (forgotten b a) (h2 ∙ ap (forgotten a b) h1)
 
--- 3. What no UPDATE says is heard
+-- 3. What no UPDATE says is received
 
 pub hears_first : (labels : Labels) (peer node : ℕ) (now mid new last : ReflectNow) (reply : BgpReply) (message : BgpMessage) (word : Word) →
     IsFirst now.topology peer message word → mid ≡ taken peer node now →
@@ -102,10 +103,13 @@ hears_first labels peer node now mid new last reply message (Withdraw key) is m 
 pub answers_then : (labels : Labels) (peer node : ℕ) (now mid : ReflectNow) (message : BgpMessage) (word : Word) → mid ≡ taken peer node now →
     IsNext labels now peer node word → IsFirst now.topology peer message word → MayAnswer mid peer node message
 answers_then labels peer node now mid message word m next is =
-    subst (λ x. MayAnswer x peer node message) (sym m) (let a : MayAnswer (taken peer node now) peer node message = record { word = word; first = is; turn = next.turn } in a)
+    subst (λ x. MayAnswer x peer node message) (sym m)
+    (let a : MayAnswer (taken peer node now) peer node message = record { word = word; first = is; turn = next.turn } in a)
 
-pub hears_then : (peer node : ℕ) (now mid new : ReflectNow) (message : BgpMessage) (word : Word) → mid ≡ taken peer node now → IsFirst now.topology peer message word →
-    ((v : Word) → IsFirst mid.topology peer message v → new ≡ with_end node peer (Some (end_in mid.topology node peer (next_of v))) mid) → MayHear now node → MayHear new node
+pub hears_then : (peer node : ℕ) (now mid new : ReflectNow) (message : BgpMessage) (word : Word) → mid ≡ taken peer node now →
+    IsFirst now.topology peer message word →
+    ((v : Word) → IsFirst mid.topology peer message v → new ≡ with_end node peer (Some (end_in mid.topology node peer (next_of v))) mid) → MayHear now node →
+    MayHear new node
 hears_then peer node now mid new message word m is h may =
     subst (λ x. MayHear x node)
     (sym (h word (subst (λ (x : ReflectNow). IsFirst x.topology peer message word) (sym m) is)
@@ -113,7 +117,8 @@ hears_then peer node now mid new message word m is h may =
     (still_hears now peer node node (Some (end_in now.topology node peer (next_of word))) may)
 
 -- nodes stay
-pub stays_there : (peer node : ℕ) (now mid new : ReflectNow) (message : BgpMessage) (word : Word) → mid ≡ taken peer node now → IsFirst now.topology peer message word →
+pub stays_there : (peer node : ℕ) (now mid new : ReflectNow) (message : BgpMessage) (word : Word) → mid ≡ taken peer node now →
+    IsFirst now.topology peer message word →
     ((v : Word) → IsFirst mid.topology peer message v → new ≡ with_end node peer (Some (end_in mid.topology node peer (next_of v))) mid) →
     new.topology ≡ now.topology
 stays_there peer node now mid new message word m is h =

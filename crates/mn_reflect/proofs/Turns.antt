@@ -1,4 +1,4 @@
--- A node hears of a route, or forgets what a peer announced.
+-- A node learns of a route, or forgets what a peer announced.
 use Rattle.std.proofs.Common.{[], ℕ, zero, suc, ◌≡◌, ◌≢◌, ◌≤◌, ◌<◌, ◌+◌, ◌==◌, Bool, true, false, List, ◌∷◌, ◌++◌, length, refl, arith, sym, ap, subst, ◌∙◌}
 use Rattle.std.proofs.Common.{Option, Some, None, inl, inr}
 use Rattle.std.specs.Prelude.{◌||◌, cond, filter, slice_get, slice_set, slice_index_or, if◌then◌else◌}
@@ -32,7 +32,8 @@ use Rattle.mn_reflect_telling.specs.Names.{named}
 use Rattle.mn_reflect_telling.specs.Passing.{IsPassable, IfPassable}
 use Rattle.mn_reflect.specs.Shape.{IsShaped}
 use Rattle.mn_reflect_telling.specs.Telling.{posted}
-use Rattle.mn_reflect.specs.Doing.{MayTurn, IsEdgeAt, IsNamed, mentioned_in, with_row, with_letters, changed_edge, kept, decided_on, turned, route_heard, forgotten}
+use Rattle.mn_reflect.specs.Doing.{MayTurn, IsEdgeAt, IsNamed, mentioned_in, with_row, with_letters, changed_edge, kept, decided_on, turned, route_heard}
+use Rattle.mn_reflect.specs.Doing.{forgotten}
 use Rattle.mn_reflect_telling.proofs.Kept.{row_passes}
 use Rattle.mn_reflect.proofs.Shows.{kept_shows}
 use Rattle.mn_reflect.proofs.Tables.{cell_same, cell_other, row_same}
@@ -85,11 +86,13 @@ kept_passes t key (Some route) routes new h =
     all_both (IsPassable t) (filter (λ y. heard_before y route) routes) (route ∷ filter (λ y. heard_before route y) routes)
     (all_filter (IsPassable t) (λ y. heard_before y route) routes h) (new, all_filter (IsPassable t) (λ y. heard_before route y) routes h)
 
-pub shows_of : {heard : List (List Heard)} {key : Key} {peer : ℕ} {mention other : Option Heard} {row : Row} → mention ≡ other → Shows heard key peer mention row →
+pub shows_of : {heard : List (List Heard)} {key : Key} {peer : ℕ} {mention other : Option Heard} {row : Row} → mention ≡ other →
+    Shows heard key peer mention row →
     Shows heard key peer other row
 shows_of {heard = heard} {key = key} {peer = peer} {row = row} same shows = subst (λ m. Shows heard key peer m row) same shows
 
-pub shows_at : {heard other : List (List Heard)} {key : Key} {peer : ℕ} {mention : Option Heard} {row : Row} → other ≡ heard → Shows heard key peer mention row →
+pub shows_at : {heard other : List (List Heard)} {key : Key} {peer : ℕ} {mention : Option Heard} {row : Row} → other ≡ heard →
+    Shows heard key peer mention row →
     Shows other key peer mention row
 shows_at {key = key} {peer = peer} {mention = mention} {row = row} same shows = subst (λ h. Shows h key peer mention row) (sym same) shows
 
@@ -124,7 +127,8 @@ still_there now node change there =
 pub changed_twice : (now : ReflectNow) (node : ℕ) (f g : Edge → Edge) → IsEdgeAt now node →
     changed_edge node g (changed_edge node f now) ≡ changed_edge node (λ edge. g (f edge)) now
 changed_twice now node f g there =
-    ap (λ edge. let r : ReflectNow = record now { edges = slice_set (changed_edge node f now).edges node (Some (working (g edge))) } in r) (it_became now node f there)
+    ap (λ edge. let r : ReflectNow = record now { edges = slice_set (changed_edge node f now).edges node (Some (working (g edge))) } in r)
+    (it_became now node f there)
     ∙ ap (λ edges. let r : ReflectNow = record now { edges = edges } in r)
     (set-set now.edges node (Some (working (f (edge_of_node now.edges node)))) (Some (working (g (f (edge_of_node now.edges node))))))
 
@@ -137,7 +141,8 @@ not_changed now node there = ap (λ edges. let r : ReflectNow = record now { edg
 decides : (t : Network) (rs : List ℕ) (row : Row) (node : ℕ) (key : Key) (edge : Edge) → (decide t rs row node key edge).loopbacks ≡ edge.loopbacks
 decides t rs row node key edge = by (edge_of t key.vrf == node)
   where
-    by : (b : Bool) → (let e : Edge = if b then edge else after_update edge (edge_of t key.vrf) (decision_says t key (reflected_to rs row node key)) in e).loopbacks
+    by : (b : Bool) → (let e : Edge =
+        if b then edge else after_update edge (edge_of t key.vrf) (decision_says t key (reflected_to rs row node key)) in e).loopbacks
         ≡ edge.loopbacks
     by true = refl
     by false = refl
@@ -157,7 +162,8 @@ module _ (now : ReflectNow) (node : ℕ) (key : Key) where
       told ∙ ap (λ h. changed_edge node (λ edge. after_update edge h says) now) at
       ∙ ap (λ u. changed_edge node (λ edge. after_update edge (edge_of now.topology key.vrf) u) now) is
       ∙ sym (ap (λ b. changed_edge node (λ edge. if b then edge else after_update edge (edge_of now.topology key.vrf)
-      (decision_says now.topology key (reflected_to now.reflectors (row_at now.heard node) node key))) now) (other_test (edge_of now.topology key.vrf) node apart))
+      (decision_says now.topology key (reflected_to now.reflectors (row_at now.heard node) node key))) now)
+      (other_test (edge_of now.topology key.vrf) node apart))
 
 -- and on one after another
 module _ (now one : ReflectNow) (node : ℕ) (same : one ≡ record now { edges = one.edges }) (isnt : is_reflector now.reflectors node ≡ false)
@@ -197,7 +203,8 @@ module _ (now one : ReflectNow) (node : ℕ) (same : one ≡ record now { edges 
     })
 
 -- what a reflector tells, once it is in flight
-module _ (was now : ReflectNow) (same : was ≡ now) (node : ℕ) (rs : List ℕ) (peers : List NodeNo) (heard : List (List Heard)) (later : Mail) (rs_are : rs ≡ now.reflectors)
+module _ (was now : ReflectNow) (same : was ≡ now) (node : ℕ) (rs : List ℕ) (peers : List NodeNo) (heard : List (List Heard)) (later : Mail)
+    (rs_are : rs ≡ now.reflectors)
     (steady : peers ≡ steady_of now.sessions node) (heard_is : heard ≡ slice_index_or now.heard node []) where
   told_all_by : (before after : List (List Heard) → Row) (keys : List Key) →
       later ≡ posted (reflector_news was.topology rs node peers (before heard) (after heard) keys) was.mail →
@@ -224,13 +231,14 @@ module _ (was now : ReflectNow) (same : was ≡ now) (node : ℕ) (rs : List ℕ
       (row_at now.heard node) (names_in gone)) now
   told_gone_by peer gone said = told_all_by (λ h. row_with h peer gone) row_in (names_in gone) said
 
--- 4. A route is heard
+-- 4. A route is received
 
 -- as the row of a node changes, a reflector says so, and an edge decides
 module _ (node : ℕ) (keys : List Key) (was now : ReflectNow) where
   abbrev by_test : Bool → ReflectNow
   by_test b = record now {
-    mail = if b then posted (reflector_news now.topology now.reflectors node (steady_of now.sessions node) (row_at was.heard node) (row_at now.heard node) keys) now.mail
+    mail = if b then posted (reflector_news now.topology now.reflectors node (steady_of now.sessions node) (row_at was.heard node) (row_at now.heard node) keys)
+        now.mail
         else now.mail;
     edges = if b then now.edges else (changed_edge node (decide_all now.topology now.reflectors (row_at now.heard node) node keys) now).edges;
   }
@@ -244,7 +252,8 @@ module _ (node : ℕ) (keys : List Key) (was now : ReflectNow) where
       changed_edge node (decide_all now.topology now.reflectors (row_at now.heard node) node keys) now ≡ turned node keys was now
   edge_turned is = sym (ap by_test is)
 
-module _ (now : ReflectNow) (shape : IsShaped now) (node peer : ℕ) (below : node < length now.topology.loopbacks) (within : peer < length now.topology.loopbacks)
+module _ (now : ReflectNow) (shape : IsShaped now) (node peer : ℕ) (below : node < length now.topology.loopbacks)
+    (within : peer < length now.topology.loopbacks)
   where
     has_row : node < length now.heard
     has_row = subst (λ n. node < n) (sym shape.heard) below
@@ -270,14 +279,15 @@ module _ (now : ReflectNow) (shape : IsShaped now) (node peer : ℕ) (below : no
       pub may_keep : MayTurn now node → IfPassable now.topology mention → MayTurn (kept node peer key mention now) node
       may_keep may passable =
           may_still (mentioned_in key mention (row_at now.heard node peer)) may
-          (kept_passes now.topology key mention (row_at now.heard node peer) passable (row_passes now.topology (slice_index_or now.heard node []) peer may.rows))
+          (kept_passes now.topology key mention (row_at now.heard node peer) passable
+          (row_passes now.topology (slice_index_or now.heard node []) peer may.rows))
 
       pub as_told : (one : ReflectNow) → ((row : Row) → Shows (slice_index_or now.heard node []) key peer mention row →
           one ≡ with_letters (reflector_news now.topology now.reflectors node (steady_of now.sessions node) (row_at now.heard node) row (key ∷ [])) now) →
           one ≡ with_letters news now
       as_told one told = told _ (kept_shows now.heard node peer key mention its_name has_row has_cell)
 
-      -- a reflector tells its peers, and keeps it
+      -- a reflector sends to its peers, and keeps it
       pub told_and_kept : is_reflector now.reflectors node ≡ true → (one two : ReflectNow) →
           ((row : Row) → Shows (slice_index_or now.heard node []) key peer mention row →
           one ≡ with_letters (reflector_news now.topology now.reflectors node (steady_of now.sessions node) (row_at now.heard node) row (key ∷ [])) now) →
@@ -287,7 +297,8 @@ module _ (now : ReflectNow) (shape : IsShaped now) (node peer : ℕ) (below : no
           ∙ reflector_turned node (key ∷ []) now (kept node peer key mention now) is
 
       -- an edge keeps it, and decides
-      pub kept_and_decided : is_reflector now.reflectors node ≡ false → (one two : ReflectNow) → one ≡ kept node peer key mention now → two ≡ decided_on node key one →
+      pub kept_and_decided : is_reflector now.reflectors node ≡ false → (one two : ReflectNow) → one ≡ kept node peer key mention now →
+          two ≡ decided_on node key one →
           two ≡ route_heard node peer key mention now
       kept_and_decided is one two then_kept decided =
           decided ∙ ap (decided_on node key) then_kept
@@ -296,7 +307,8 @@ module _ (now : ReflectNow) (shape : IsShaped now) (node peer : ℕ) (below : no
     -- 5. All that a peer announced is forgotten
 
     -- what the reflector said of it as long as it was there
-    was_so : (other : ℕ) → row_with (slice_index_or (set_at node peer [] now.heard) node []) peer (row_at now.heard node peer) other ≡ row_at now.heard node other
+    was_so : (other : ℕ) → row_with (slice_index_or (set_at node peer [] now.heard) node []) peer (row_at now.heard node peer) other
+        ≡ row_at now.heard node other
     was_so other = elim (eqb_tells other peer) [
       | inl e ↦
           ap (λ b. if b then row_at now.heard node peer else slice_index_or (slice_index_or (set_at node peer [] now.heard) node []) other []) e.0
@@ -314,16 +326,19 @@ module _ (now : ReflectNow) (shape : IsShaped now) (node peer : ℕ) (below : no
 
     pub gone_and_told : is_reflector now.reflectors node ≡ true → (gone : List Heard) (one two : ReflectNow) → gone ≡ row_at now.heard node peer →
         one ≡ with_row node peer [] now →
-        two ≡ with_letters (reflector_news one.topology one.reflectors node (steady_of one.sessions node) (row_with (slice_index_or one.heard node []) peer gone)
+        two ≡ with_letters (reflector_news one.topology one.reflectors node (steady_of one.sessions node)
+        (row_with (slice_index_or one.heard node []) peer gone)
         (row_at one.heard node) (names_in gone)) one → two ≡ forgotten node peer now
     gone_and_told is gone one two its left told =
         told
-        ∙ ap (λ (r : ReflectNow). with_letters (reflector_news r.topology r.reflectors node (steady_of r.sessions node) (row_with (slice_index_or r.heard node []) peer gone)
+        ∙ ap (λ (r : ReflectNow). with_letters
+        (reflector_news r.topology r.reflectors node (steady_of r.sessions node) (row_with (slice_index_or r.heard node []) peer gone)
         (row_at r.heard node) (names_in gone)) r) left
         ∙ ap (λ routes. with_letters (reflector_news now.topology now.reflectors node (steady_of now.sessions node)
         (row_with (slice_index_or (set_at node peer [] now.heard) node []) peer routes) (row_at (set_at node peer [] now.heard) node) (names_in routes))
         (with_row node peer [] now)) its
-        ∙ ap (λ (row : Row). with_letters (reflector_news now.topology now.reflectors node (steady_of now.sessions node) row (row_at (set_at node peer [] now.heard) node)
+        ∙ ap (λ (row : Row). with_letters (reflector_news now.topology now.reflectors node (steady_of now.sessions node) row
+        (row_at (set_at node peer [] now.heard) node)
         gone_keys) (with_row node peer [] now)) (fun_ext was_so)
         ∙ reflector_turned node gone_keys now (with_row node peer [] now) is
 

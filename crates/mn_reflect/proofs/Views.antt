@@ -82,8 +82,9 @@ module _ {was now : ReflectNow} (same : was ≡ now) (shape : IsShaped was) (nod
       let many = ap length is ∙ (subst IsShaped same shape).ends node below in
       peers_are now.topology 0 ends (omega (arith, many))
 
-  -- what it heard can be passed on
-  pub kept_there : MayTurn now node → (t : Network) → t ≡ now.topology → (heard : List (List Heard)) → heard ≡ slice_index_or now.heard node [] → AreKept t heard
+  -- what it received can be passed on
+  pub kept_there : MayTurn now node → (t : Network) → t ≡ now.topology → (heard : List (List Heard)) → heard ≡ slice_index_or now.heard node [] →
+      AreKept t heard
   kept_there may t t_is heard is =
       subst (λ n. AreKept n heard) (sym t_is) (record {
         nodes = ap length is ∙ (subst IsShaped same shape).peers node below;

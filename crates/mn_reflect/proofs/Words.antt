@@ -1,5 +1,6 @@
--- What flies is read as it was said.
-use Rattle.std.proofs.Common.{ℕ, zero, suc, ◌≡◌, ◌≤◌, ◌<◌, ◌^◌, ◌*◌, Bool, true, false, List, [], ◌∷◌, length, refl, arith, sym, ap, ◌∙◌, subst, Option, Some, None}
+-- What flies is read as it was sent.
+use Rattle.std.proofs.Common.{ℕ, zero, suc, ◌≡◌, ◌≤◌, ◌<◌, ◌^◌, ◌*◌, Bool, true, false, List, [], ◌∷◌, length, refl, arith, sym, ap, ◌∙◌, subst, Option, Some}
+use Rattle.std.proofs.Common.{None}
 use Rattle.std.proofs.Common.{inl, inr, lit<}
 use Rattle.std.specs.Prelude.{nat_lt, slice_index_or, if◌then◌else◌}
 use Rattle.std.specs.List.{AllByRecursion, list_all}
@@ -140,7 +141,8 @@ module _ (t : Network) (lawful : IsLawful t) (rs : List ℕ) (labels : Labels) (
             else update_bytes (announced (hop_of t offer) (route_of t labels offer.export) (as_targets offer.export.targets)))
             (says_reflected (hop_of t offer) (route_of t labels offer.export) (as_targets offer.export.targets) (hop_of t offer) offer.clusters)) (sym e)
             (reflected_is_spelled (hop_of t offer) (route_of t labels offer.export) (as_targets offer.export.targets) (hop_of t offer) offer.clusters
-            (announces offer good) good.0.few (good.3 e) (more (length offer.clusters) good.0.near) (address_fits t.loopbacks (edge_of t offer.export.vrf) lawful.nodes.formed)
+            (announces offer good) good.0.few (good.3 e) (more (length offer.clusters) good.0.near)
+            (address_fits t.loopbacks (edge_of t offer.export.vrf) lawful.nodes.formed)
             good.4),
       )
         where

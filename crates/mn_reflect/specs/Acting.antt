@@ -36,7 +36,7 @@ MayAct now (step.Attach s) = MayAttach now s
 MayAct now (step.Detach s) = MayDetach now s
 MayAct now _ = Unit {0}
 
--- the word that is heard in it
+-- the word that is received in it
 abbrev pub IsHeardIn : Labels → ReflectNow → Step → Option Word → Type 0
 IsHeardIn labels now (step.HearBgp a b) None = ⊥
 IsHeardIn labels now (step.HearBgp a b) (Some word) = IsNext labels now a.0 b.0 word

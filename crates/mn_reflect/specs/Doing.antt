@@ -1,5 +1,6 @@
 -- What each part of a step makes of what is kept.
-use Rattle.std.specs.Prelude.{◌≡◌, ◌<◌, ◌≤◌, ◌^◌, ℕ, true, false, List, [], ◌∷◌, length, slice_get, slice_set, slice_index_or, if◌then◌else◌, Option, Some, None}
+use Rattle.std.specs.Prelude.{◌≡◌, ◌<◌, ◌≤◌, ◌^◌, ℕ, true, false, List, [], ◌∷◌, length, slice_get, slice_set, slice_index_or, if◌then◌else◌, Option, Some}
+use Rattle.std.specs.Prelude.{None}
 use Rattle.std.specs.List.{AllByRecursion}
 use Rattle.mn_states.specs.declared.states.BgpState.{BgpState}
 use Rattle.mn_states.specs.declared.states.BgpState.TheVariants.{OpenSent, OpenConfirm, Established}
@@ -52,15 +53,15 @@ changed_edge node change now = record now { edges = slice_set now.edges node (So
 abbrev pub IsEdgeAt : ReflectNow → ℕ → Type 0
 IsEdgeAt now node = slice_get now.edges node ≡ Some (Some (working (edge_of_node now.edges node)))
 
--- 2. A node hears or forgets routes
+-- 2. A node receives or forgets routes
 
--- what the node heard can be passed on, and an edge is there, works and knows the addresses of all nodes
+-- what the node received can be passed on, and an edge is there, works and knows the addresses of all nodes
 pub record MayTurn (now : ReflectNow) (node : ℕ) : Type 0 where
   pub rows : AllByRecursion (λ routes. AllByRecursion (IsPassable now.topology) routes) (slice_index_or now.heard node [])
   pub edge : is_reflector now.reflectors node ≡ false → IsEdgeAt now node
   pub addresses : is_reflector now.reflectors node ≡ false → (edge_of_node now.edges node).loopbacks ≡ now.topology.loopbacks
 
--- what is said of a route is of its name
+-- what is sent of a route is of its name
 abbrev pub IsNamed : Key → Option Heard → Type 0
 IsNamed key None = Unit {0}
 IsNamed key (Some route) = (route.vrf ≡ key.vrf) × (route.prefix ≡ key.prefix)
@@ -77,7 +78,7 @@ kept node peer key mention now = with_row node peer (mentioned_in key mention (r
 abbrev pub decided_on : ℕ → Key → ReflectNow → ReflectNow
 decided_on node key now = changed_edge node (decide now.topology now.reflectors (row_at now.heard node) node key) now
 
--- what a reflector says and an edge decides as its row of what it heard becomes another
+-- what a reflector says and an edge decides as its row of what it received becomes another
 abbrev pub turned : ℕ → List Key → ReflectNow → ReflectNow → ReflectNow
 turned node keys was now = record now {
   mail = if is_reflector now.reflectors node
@@ -106,7 +107,7 @@ begun a b now =
 abbrev pub ended : ℕ → ℕ → ReflectNow → ReflectNow
 ended a b now = forgotten b a (forgotten a b (cut_between a b (with_end b a None (with_end a b None now))))
 
--- the next message that a node hears of a peer, and what is known of it
+-- the next message that a node receives from a peer, and what is known of it
 
 abbrev pub state_of_word : Word → BgpState
 state_of_word Open = OpenSent
@@ -122,7 +123,7 @@ abbrev pub mention_of : Labels → Word → Option Heard
 mention_of labels (Announce offer) = Some (route_in labels offer)
 mention_of labels _ = None
 
--- a route that is said is of one of the topology's VRFs, and can be passed on; none but a reflector says clusters, which are addresses
+-- a route that is sent is of one of the topology's VRFs, and can be passed on; none but a reflector says clusters, which are addresses
 abbrev pub IsGoodWord : Network → List ℕ → Labels → ℕ → Word → Type 0
 IsGoodWord topology reflectors labels from (Announce offer) =
     IsPassable topology (route_in labels offer) × IsPrefix offer.export.prefix.address offer.export.prefix.length
@@ -173,7 +174,7 @@ pub record IsSaying (topology : Network) (said : SaysReflected) (key : Key) (men
   pub passable : IfPassable topology mention
   pub says : SaysOf topology said key mention
 
--- a message that is no UPDATE, as the word that is heard then
+-- a message that is no UPDATE, as the word that is received then
 abbrev pub IsFirst : Network → ℕ → BgpMessage → Word → Type 0
 IsFirst topology peer message Open = message ≡ messages.Opening 4 topology.asn 0 (loopback topology peer) true
 IsFirst topology peer message KeepAlive = message ≡ messages.KeepAlive

@@ -1,4 +1,4 @@
-//! The steps of one edge, which tells its peers of its exports that come or go.
+//! The steps of one edge, which advertises its exports to its peers, or withdraws them.
 ghost use Rattle.std.specs.Prelude.{◌≡◌, ◌<◌, ◌↔◌, IsOk, None, Ok, true, length, slice_index_or, IfOk, OnOk};
 ghost use Rattle.mn_reflect.specs.Prelude.{edge_of, home_of, VrfState, add_refused, del_refused, set_refused, refusal_of, vrf_of_site, after_attach, after_detach, found_in, exports_at, exports_over, export_of, AreSayable, AreNews, those_of, edge_of_node};
 ghost use Rattle.mn_reflect.specs.Doing.{IsEdgeAt, changed_edge};
@@ -15,7 +15,7 @@ use std::alloc::{AllocError, Global};
 /// The first label that may be given (RFC 3032, section 2.1).
 const FIRST_LABEL: u32 = 16;
 
-/// An answer of an edge that can only be for want of memory.
+/// An answer of an edge that can only be out of memory.
 fn done(answer: Result<(), VrfBad>) -> Result<(), AllocError>
     requires { refusal_of answer ≡ None }
     ensures { IsOk result ↔ IsOk answer }
@@ -27,7 +27,7 @@ fn done(answer: Result<(), VrfBad>) -> Result<(), AllocError>
     }
 }
 
-/// What an edge tells, or want of memory.
+/// What an edge advertises, or out of memory.
 fn told(answer: Result<Vec<Export>, NoMemory>) -> Result<Vec<Export>, AllocError>
     ensures told { IfOk result (λ exports. answer ≡ Ok exports) }
     ensures asked { IsOk answer → IsOk result }
@@ -81,7 +81,7 @@ fn news_of(come: Vec<Export>, gone: Vec<Export>) -> News
 }
 
 impl<'t> Reflect<'t> {
-    /// An edge tells its peers of exports that come or go.
+    /// An edge advertises exports that come and withdraws those that go.
     fn tell_peers(
         &mut self,
         edge: NodeNo,
@@ -116,7 +116,7 @@ impl<'t> Reflect<'t> {
         done(pe.import(vrf, target, on))
     }
 
-    /// A VRF exports routes with a target, or doesn't. It answers what the edge is to tell then: what the VRF exports now, or
+    /// A VRF exports routes with a target, or doesn't. It answers what the edge is to advertise then: what the VRF exports now, or
     /// where that is nothing what it did.
     fn export_on_edge(
         &mut self,
@@ -140,7 +140,7 @@ impl<'t> Reflect<'t> {
         Ok(news_of(come, gone))
     }
 
-    /// A VRF exports routes with a target, or doesn't, and its edge tells of what changes.
+    /// A VRF exports routes with a target, or doesn't, and its edge advertises what changes.
     pub(crate) fn set_export(&mut self, vrf: VrfNo, target: Rt, on: bool) -> Result<(), AllocError>
         requires { MayExport self.old vrf target on }
         ensures { OnOk result (self.new ≡ export_set vrf target on self.old) }

@@ -13,14 +13,14 @@
 //! RFC 4456, sections 6 and 8; RFC 4271, sections 3, 4 and 8.2.2; RFC 4364, sections 4.3 and 5.
 #![tactic(auto)]
 
-mod causes;
-mod changes;
+mod causes; // the causes of refusals, one by one
+mod changes; // the steps of one edge, which advertises its exports
 mod reflect;
 mod refusal;
-mod sessions;
+mod sessions; // a session begins or ends, and a message is received
 mod start;
 mod steps;
-mod turning;
+mod turning; // a node takes in a route, or forgets those of a peer
 
 pub use reflect::Reflect;
 pub use refusal::ReflectBad;

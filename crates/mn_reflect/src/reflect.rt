@@ -30,7 +30,7 @@ pub struct Reflect<'t> {
     pub(crate) edges: Vec<Option<Pe>>,
     /// By node and peer, none where no session lives.
     pub(crate) sessions: Vec<Vec<Option<BgpSession>>>,
-    /// By node and peer, what was heard.
+    /// By node and peer, what was received.
     pub(crate) heard: Vec<Vec<Offers>>,
     /// By node, how many attachments its sites have had.
     pub(crate) attachments: Vec<u32>,
@@ -39,7 +39,7 @@ pub struct Reflect<'t> {
     pub(crate) mail: Mail,
     /// How many steps were done.
     pub(crate) done: u64,
-    /// It has wanted memory, and its parts may not fit together any more.
+    /// It has run out of memory, and its parts may not fit together any more.
     pub(crate) failed: bool,
 }
 
@@ -86,7 +86,7 @@ fn hearing_of(letter: &Letter) -> Step
 }
 
 impl<'t> Reflect<'t> {
-    /// The hearing of the message that was said first of all in flight. None where none flies.
+    /// The hearing of the message that was sent first of all in flight. None where none flies.
     pub fn first(&self) -> Option<Step>
         ensures { (topology : Network) (reflectors : List ℕ) (steps : List StepOf) → IsReflect topology reflectors steps self.now →
             result ≡ first_hearing (world_of topology reflectors steps).flying }

@@ -1,4 +1,4 @@
-//! A session begins or ends, and a message is heard.
+//! A session begins or ends, and a message is received.
 ghost use Rattle.std.specs.Prelude.{◌≡◌, ◌≢◌, ◌<◌, ◌∷◌, [], ℕ, Option, Some, None, true, length, slice_index_or, IfOk, OnOk};
 ghost use Rattle.mn_reflect.specs.Prelude.{OpenSent, Labels, vrf_at, first_from_to, Key, Word, row_at, all_names, open_letter, reflector_offers, end_in};
 ghost use Rattle.mn_bgp_wire.specs.declared.message.BgpMessage.{BgpMessage as Message};
@@ -39,7 +39,7 @@ impl<'t> Reflect<'t> {
         self.mail.cut(a, b);
     }
 
-    /// An end of a session that has said OPEN.
+    /// An end of a session that has sent OPEN.
     fn opened(&self, node: NodeNo, peer: NodeNo) -> BgpSession
         requires node { node.0 < length self.now.topology.loopbacks }
         requires peer { peer.0 < length self.now.topology.loopbacks }
@@ -52,7 +52,7 @@ impl<'t> Reflect<'t> {
         )
     }
 
-    /// A node says OPEN to a peer.
+    /// A node sends OPEN to a peer.
     fn say_open(&mut self, node: NodeNo, peer: NodeNo) -> Result<(), AllocError>
         requires node { node.0 < length self.old.topology.loopbacks }
         requires peer { peer.0 < length self.old.topology.loopbacks }
@@ -66,7 +66,7 @@ impl<'t> Reflect<'t> {
         send(&mut self.mail, node, peer, bytes)
     }
 
-    /// A session of two nodes begins: each says OPEN, the first one first.
+    /// A session of two nodes begins: each sends OPEN, the first one first.
     pub(crate) fn begin(&mut self, a: NodeNo, b: NodeNo) -> Result<(), AllocError>
         requires a { a.0 < length self.old.topology.loopbacks }
         requires b { b.0 < length self.old.topology.loopbacks }
@@ -81,7 +81,7 @@ impl<'t> Reflect<'t> {
         self.say_open(b, a)
     }
 
-    /// It ends: nothing flies between them any more, and each forgets what it heard of the other.
+    /// It ends: nothing flies between them any more, and each forgets what it received from the other.
     pub(crate) fn end(&mut self, a: NodeNo, b: NodeNo) -> Result<(), AllocError>
         requires a { a.0 < length self.old.topology.loopbacks }
         requires b { b.0 < length self.old.topology.loopbacks }
@@ -174,12 +174,12 @@ impl<'t> Reflect<'t> {
         };
         match end.hear(message) {
             Ok(reply) => reply,
-            // What flies is what was said, and comes in turn.
+            // What flies is what was sent, and comes in turn.
             Err(_) => unreachable!(),
         }
     }
 
-    /// A reflector tells a peer all that it offers it.
+    /// A reflector advertises to a peer all that it offers it.
     fn tell_tables(&mut self, node: NodeNo, peer: NodeNo) -> Result<(), AllocError>
         requires node { node.0 < length self.old.topology.loopbacks }
         requires peer { peer.0 < length self.old.topology.loopbacks }
@@ -198,7 +198,7 @@ impl<'t> Reflect<'t> {
         teller.tell_all(&mut self.mail, peer, heard, &names)
     }
 
-    /// A node tells a peer with which it became Established all that it offers it.
+    /// A node advertises to a peer with which it became Established all that it offers it.
     fn tell_all(&mut self, node: NodeNo, peer: NodeNo) -> Result<(), AllocError>
         requires node { node.0 < length self.old.topology.loopbacks }
         requires peer { peer.0 < length self.old.topology.loopbacks }
@@ -225,7 +225,7 @@ impl<'t> Reflect<'t> {
         )
     }
 
-    /// It says KEEPALIVE, or tells the peer all that it offers it.
+    /// It sends KEEPALIVE, or advertises to the peer all that it offers it.
     fn answer(&mut self, node: NodeNo, peer: NodeNo, reply: BgpReply) -> Result<(), AllocError>
         requires node { node.0 < length self.old.topology.loopbacks }
         requires peer { peer.0 < length self.old.topology.loopbacks }
@@ -242,7 +242,7 @@ impl<'t> Reflect<'t> {
         Ok(())
     }
 
-    /// A node hears the next message of a peer.
+    /// A node receives the next message of a peer.
     pub(crate) fn hear_next(&mut self, peer: NodeNo, node: NodeNo) -> Result<(), AllocError>
         requires peer { peer.0 < length self.old.topology.loopbacks }
         requires node { node.0 < length self.old.topology.loopbacks }

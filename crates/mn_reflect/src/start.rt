@@ -1,4 +1,4 @@
-//! The start: no session lives, and nothing was heard.
+//! The start: no session lives, and nothing was received.
 ghost use Rattle.std.specs.Prelude.{[], IfOk};
 ghost use Rattle.mn_reflect_ledger_laws.specs.Quiet.{AreReflectors};
 ghost use Rattle.mn_reflect_telling.specs.Mentions.{numbers_of};

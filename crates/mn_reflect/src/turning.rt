@@ -1,4 +1,4 @@
-//! A node hears of a route, or forgets all that a peer announced: a reflector tells its peers, and an edge decides anew.
+//! A node learns of a route, or forgets all that a peer announced: a reflector sends to its peers, and an edge decides anew.
 ghost use Rattle.std.specs.Prelude.{◌≡◌, ◌<◌, ◌∷◌, [], false, Some, None, length, slice_index_or, option_map, IfOk, OnOk};
 ghost use Rattle.std.specs.List.{AllByRecursion};
 ghost use Rattle.mn_reflect.specs.Prelude.{loopback, after_update, AreLabelled, is_reflector, Row, row_at, reflected_to, names_in, reflector_news, steady_of, edge_of_node, decide_all, decision_says, named, IsPassable, IfPassable, Shows, row_with, key_of_heard, numbers_of, AreNodes};
@@ -39,7 +39,7 @@ impl<'t> Reflect<'t> {
         is_among(&self.reflectors, node)
     }
 
-    /// A node of this number, as it looks at what it heard.
+    /// A node of this number, as it looks at what it received.
     fn teller(&self, node: NodeNo) -> Teller<'_>
         ensures topology { result.topology.now ≡ self.now.topology }
         ensures reflectors { numbers_of result.reflectors.now ≡ self.now.reflectors }
@@ -63,7 +63,7 @@ impl<'t> Reflect<'t> {
         steady_peers(self.alloc, &self.sessions[usize::from(node.0)])
     }
 
-    /// A reflector tells its peers of a route of which a peer says this now.
+    /// A reflector advertises to its peers a route of which a peer says this now.
     fn tell_heard(
         &mut self,
         node: NodeNo,
@@ -121,7 +121,7 @@ impl<'t> Reflect<'t> {
         teller.decision(&self.heard[usize::from(edge.0)], vrf, prefix)
     }
 
-    /// An edge hears what another edge would say of a route.
+    /// An edge receives what another edge would say of a route.
     fn tell_edge(&mut self, edge: NodeNo, home: NodeNo, update: &Update) -> Result<(), AllocError>
         requires edge { edge.0 < length self.old.topology.loopbacks }
         requires home { home.0 < length self.old.topology.loopbacks }
@@ -217,7 +217,7 @@ impl<'t> Reflect<'t> {
         self.hear_route(node, peer, vrf, prefix, None)
     }
 
-    /// Takes out all that a node heard of a peer.
+    /// Takes out all that a node received from a peer.
     fn take_row(&mut self, node: NodeNo, peer: NodeNo) -> Offers
         requires node { node.0 < length self.old.topology.loopbacks }
         requires peer { peer.0 < length self.old.topology.loopbacks }

@@ -1,4 +1,4 @@
--- A drain hears no more words than lie ahead as it begins, and these are no more than its bound.
+-- A drain receives no more words than lie ahead as it begins, and these are no more than its bound.
 use Rattle.std.proofs.Common.{ℕ, zero, suc, ◌≡◌, ◌+◌, ◌*◌, ◌≤◌, inl, inr, Bool, true, false, cond, List, [], ◌∷◌, length, Option, Some, None}
 use Rattle.std.proofs.Common.{refl, arith, sym, ◌∙◌, ap}
 use Rattle.std.specs.Prelude.{◌==◌, ◌&&◌, not, is_none}
@@ -169,7 +169,8 @@ module _ (t : Network) (reflectors : List ℕ) (are : AreReflectors t reflectors
           (λ n. total (length t.loopbacks) (λ p. where_so (is_direction world.config n p) (word_weight t reflectors n p * words_ahead t world n p)))
           (λ n. (total (length t.loopbacks) (fly n) + total (length t.loopbacks) (live n) * (1 + routes t world)) * most) (λ n hn. row n),
       total-scale (length t.loopbacks) (λ n. total (length t.loopbacks) (fly n) + total (length t.loopbacks) (live n) * (1 + routes t world)) most,
-      ap (λ z. z * most) (total-add (length t.loopbacks) (λ n. total (length t.loopbacks) (fly n)) (λ n. total (length t.loopbacks) (live n) * (1 + routes t world))),
+      ap (λ z. z * most) (total-add (length t.loopbacks) (λ n. total (length t.loopbacks) (fly n))
+          (λ n. total (length t.loopbacks) (live n) * (1 + routes t world))),
       ap (λ z. (total (length t.loopbacks) (λ n. total (length t.loopbacks) (fly n)) + z) * most)
           (total-scale (length t.loopbacks) (λ n. total (length t.loopbacks) (live n)) (1 + routes t world)),
     )

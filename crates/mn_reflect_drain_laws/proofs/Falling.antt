@@ -19,7 +19,8 @@ use Rattle.mn_drain_laws.proofs.Sums.{total-below, total-add, total-but-one, tot
 use Rattle.mn_drain_laws.proofs.Scale.{suc-times}
 use Rattle.mn_reflect_ledger_laws.specs.Words.{Key, Word, in_order, change}
 use Rattle.mn_reflect_ledger_laws.specs.Picks.{ReflectWorld, is_reflector, offered, known_keys}
-use Rattle.mn_reflect_ledger_laws.specs.World.{first_word, without_first, words_to, says, heard_one, counted, unsaid, all_offers, reply, replies, is_steady, said_in, after}
+use Rattle.mn_reflect_ledger_laws.specs.World.{first_word, without_first, words_to, says, heard_one, counted, unsaid, all_offers, reply, replies, is_steady}
+use Rattle.mn_reflect_ledger_laws.specs.World.{said_in, after}
 use Rattle.mn_reflect_ledger_laws.specs.Quiet.{NamesNodes, AreReflectors}
 use Rattle.mn_reflect_ledger_laws.proofs.Saying.{words_append, says_other, to_peer, said_to}
 use Rattle.mn_reflect_ledger_laws.proofs.Offering.{IsWithin}
@@ -52,7 +53,7 @@ where_up : (on : Bool) (x y : ℕ) → (on ≡ true → x ≤ y) → where_so on
 where_up true x y h = h refl
 where_up false x y h = omega arith
 
--- 2. What is said at once, and what is still to be said
+-- 2. What is sent at once, and what is still to be sent
 
 greeting_up : (count k m : ℕ) → k ≤ m → greeting_length count k ≤ greeting_length count m
 greeting_up zero k m h = omega (arith, h)
@@ -87,7 +88,8 @@ module _ (t : Network) (reflectors : List ℕ) (are : AreReflectors t reflectors
   counts : counted world (step.HearBgp a b) ≡ heard_one world a.0 b.0 (Some word)
   counts = ap (heard_one world a.0 b.0) first
 
-  answers_by : (w : ReflectWorld) → replies t reflectors world w (step.HearBgp a b) ≡ says b.0 a.0 (reply t reflectors w b.0 a.0 (length (world.heard b.0 a.0)) (Some word))
+  answers_by : (w : ReflectWorld) →
+      replies t reflectors world w (step.HearBgp a b) ≡ says b.0 a.0 (reply t reflectors w b.0 a.0 (length (world.heard b.0 a.0)) (Some word))
   answers_by w = ap (λ o. says b.0 a.0 (reply t reflectors w b.0 a.0 (length (world.heard b.0 a.0)) o)) first
 
   fewer_routes : routes t next ≤ routes t world
@@ -151,7 +153,7 @@ module _ (t : Network) (reflectors : List ℕ) (are : AreReflectors t reflectors
     greeting_else n p (inl d),
   )
 
-  -- 3.2 What was said is heard
+  -- 3.2 What was sent is received
 
   at_peer : words_ahead t next a.0 b.0 + 1 ≤ words_ahead t world a.0 b.0
   at_peer = omega (

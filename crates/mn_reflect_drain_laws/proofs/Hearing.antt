@@ -1,5 +1,5 @@
 -- What a hearing makes a node say of routes to one peer: at most one word, since a word is of one route and what is offered of all others
--- stays. Only a reflector that hears passes a word on, and to edges alone what it heard of a reflector.
+-- stays. Only a reflector that receives passes a word on, and to edges alone what it received from a reflector.
 use Rattle.std.proofs.Common.{ℕ, ◌≡◌, ◌≢◌, ◌≤◌, ◌⊎◌, inl, inr, Bool, true, false, List, [], ◌∷◌, ◌++◌, length, Some, None, Option}
 use Rattle.std.proofs.Common.{refl, arith, sym, ◌∙◌, ap, subst, append-nil}
 use Rattle.std.specs.Prelude.{◌==◌, if◌then◌else◌, option_map}
@@ -15,7 +15,8 @@ use Rattle.mn_ledger.specs.Places.{edge_of}
 use Rattle.mn_ledger.specs.Bgp.{peers_live}
 use Rattle.mn_ledger.specs.Tables.{put_pair}
 use Rattle.mn_ledger.proofs.GoingBy.{pair_here, pair_off}
-use Rattle.mn_reflect_ledger_laws.specs.Words.{Key, Offer, Word, Open, KeepAlive, Announce, Withdraw, key_of, same_key, key_before, same_offer, mentioned, last_mention}
+use Rattle.mn_reflect_ledger_laws.specs.Words.{Key, Offer, Word, Open, KeepAlive, Announce, Withdraw, key_of, same_key, key_before, same_offer, mentioned}
+use Rattle.mn_reflect_ledger_laws.specs.Words.{last_mention}
 use Rattle.mn_reflect_ledger_laws.specs.Words.{in_order, change}
 use Rattle.mn_reflect_ledger_laws.specs.Picks.{ReflectWorld, announced_by, offered, known_keys, is_reflector, through, to_reflect, own_offer, from_edge, pick}
 use Rattle.mn_reflect_ledger_laws.specs.World.{first_word, heard_one, unsaid}
@@ -130,7 +131,7 @@ module _ (t : Network) (reflectors : List ℕ) (world : ReflectWorld) (a b : Nod
       (in_order (known_keys t reflectors world n ++ known_keys t reflectors new n))
       (order_up (known_keys t reflectors world n ++ known_keys t reflectors new n))
 
-  -- where all offers of known routes stay nothing is said
+  -- where all offers of known routes stay nothing is sent
   still : (n p : ℕ) → ((x : Key) → In (known_keys t reflectors world n ++ known_keys t reflectors new n) x →
       offered t reflectors world n p x ≡ offered t reflectors new n p x) → news_to t reflectors world new n p ≡ []
   still n p same = none_of (λ key. change key (offered t reflectors world n p key) (offered t reflectors new n p key))
@@ -158,7 +159,7 @@ module _ (t : Network) (reflectors : List ℕ) (world : ReflectWorld) (a b : Nod
       ap (λ c. if c then option_map (through t b.0) (to_reflect t reflectors w b.0 p x) else own_offer t w.config b.0 x) e
       ∙ ap (λ c. option_map (through t b.0) (if c then from_edge t w b.0 x else if edge_of t x.vrf == p then None else pick t reflectors w b.0 x)) f
 
-  -- and what was heard of a node that no route's VRF is of, as of a reflector, goes to no reflector
+  -- and what was received from a node that no route's VRF is of, as of a reflector, goes to no reflector
   pub once_still : (p : ℕ) → is_reflector reflectors b.0 ≡ true → is_reflector reflectors p ≡ true →
       ((x : Key) → In (known_keys t reflectors world b.0 ++ known_keys t reflectors new b.0) x → edge_of t x.vrf ≢ a.0) →
       news_to t reflectors world new b.0 p ≡ []

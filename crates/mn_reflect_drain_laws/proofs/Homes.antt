@@ -52,7 +52,8 @@ module _ (topology : Network) (reflectors : List ℕ) (are : AreReflectors topol
       by false j =
           let m = in_map key_of (map plain (exports_of topology world.config node)) key j in
           let e = in_map plain (exports_of topology world.config node) m.0 m.1 in
-          subst IsHome (ap key_of e.2 ∙ m.2) (edge_is_home (key_of (plain e.0)) (is_an_edge topology e.0.vrf (at_its_edge topology world.config node e.0 e.1).0))
+          subst IsHome (ap key_of e.2 ∙ m.2)
+          (edge_is_home (key_of (plain e.0)) (is_an_edge topology e.0.vrf (at_its_edge topology world.config node e.0 e.1).0))
 
   restart_keeps : (world : ReflectWorld) (a b : ℕ) → AreHome world → AreHome (restarted world a b)
   restart_keeps world a b all = record {
@@ -63,7 +64,8 @@ module _ (topology : Network) (reflectors : List ℕ) (are : AreReflectors topol
     flying = λ s x i e. all.flying s x (in_filter (λ spoken. not (is_between a b spoken)) world.flying s i).0 e;
   }
 
-  hearing_keeps : (world : ReflectWorld) (from to : ℕ) (o : Option Word) → first_word from to world.flying ≡ o → AreHome world → AreHome (heard_one world from to o)
+  hearing_keeps : (world : ReflectWorld) (from to : ℕ) (o : Option Word) → first_word from to world.flying ≡ o → AreHome world →
+      AreHome (heard_one world from to o)
   hearing_keeps world from to None e all = all
   hearing_keeps world from to (Some word) e all = record {
     heard = λ n p x i. elim (put_in world.heard to from (world.heard to from ++ word ∷ []) n p (Announce x) i) [

@@ -56,14 +56,16 @@ module _ (t : Network) where
     known_there : (reflectors : List ℕ) (node : ℕ) (key : Key) → IsNode node → In (known_keys t reflectors w node) key → In (all_keys w) key
     known_there reflectors node key h i = by (is_reflector reflectors node) i
       where
-        by : (b : Bool) → In (if b then flat_map (λ peer. keys_in (w.heard node peer)) (nodes_of (wiring_of t)) else map key_of (map plain (exports_of t w.config node))) key →
+        by : (b : Bool) → In (if b then flat_map (λ peer. keys_in (w.heard node peer)) (nodes_of (wiring_of t)) else map key_of
+            (map plain (exports_of t w.config node))) key →
             In (all_keys w) key
         by true j =
             let m = in_flat_map (λ peer. keys_in (w.heard node peer)) (nodes_of (wiring_of t)) key j in
             of_heard node m.0 key h (in_nodes m.0 m.1) m.2
         by false j = of_export node key h j
 
-  module _ (reflectors : List ℕ) (are : AreReflectors t reflectors) (w : ReflectWorld) (a b : NodeNo) (word : Word) (first : first_word a.0 b.0 w.flying ≡ Some word)
+  module _ (reflectors : List ℕ) (are : AreReflectors t reflectors) (w : ReflectWorld) (a b : NodeNo) (word : Word)
+      (first : first_word a.0 b.0 w.flying ≡ Some word)
       (names : NamesNodes t (step.HearBgp a b)) (within : IsWithin t (unsaid w (step.HearBgp a b))) where
     abbrev new : ReflectWorld
     new = unsaid w (step.HearBgp a b)
@@ -95,11 +97,12 @@ module _ (t : Network) where
           still_heard n.0 p.0 key (in_nodes n.0 n.1) (in_nodes p.0 p.1) p.2
     ]
 
-    -- and what it may offer once it has heard
+    -- and what it may offer once it has received
     pub node_knows : (node : ℕ) (key : Key) → IsNode node → In (known_keys t reflectors new node) key → In (all_keys w) key
     node_knows node key h i = by (is_reflector reflectors node) i
       where
-        by : (c : Bool) → In (if c then flat_map (λ peer. keys_in (new.heard node peer)) (nodes_of (wiring_of t)) else map key_of (map plain (exports_of t new.config node))) key →
+        by : (c : Bool) → In (if c then flat_map (λ peer. keys_in (new.heard node peer)) (nodes_of (wiring_of t)) else map key_of
+            (map plain (exports_of t new.config node))) key →
             In (all_keys w) key
         by true j =
             let m = in_flat_map (λ peer. keys_in (new.heard node peer)) (nodes_of (wiring_of t)) key j in
@@ -111,7 +114,8 @@ module _ (t : Network) where
         let m = announced_in (map (λ (spoken : Spoken). spoken.word) next.flying) key i in
         let s = in_map (λ (spoken : Spoken). spoken.word) next.flying (Announce m.0) m.1 in
         subst (In (all_keys w)) m.2 (elim (in_append new.flying (said_in t reflectors w new (step.HearBgp a b)) s.0 s.1) [
-          | inl j ↦ of_flying w s.0 m.0 (in_without t reflectors are a.0 b.0 w.flying s.0 (subst (λ fs. In fs s.0) (ap (λ o. (heard_one w a.0 b.0 o).flying) first) j)) s.2
+          | inl j ↦ of_flying w s.0 m.0 (in_without t reflectors are a.0 b.0 w.flying s.0
+              (subst (λ fs. In fs s.0) (ap (λ o. (heard_one w a.0 b.0 o).flying) first) j)) s.2
           | inr j ↦
               let is = said_is t reflectors w new (step.HearBgp a b) names s.0 m.0 j s.2 in
               subst (In (all_keys w)) (sym (subst (IsNamed is.1.0) is.1.1 (named_offer t reflectors new s.0.from s.0.to is.1.0)))
@@ -119,13 +123,14 @@ module _ (t : Network) where
         ])
 
     pub no_new_routes : routes t next ≤ routes t w
-    no_new_routes = no_more (all_keys next) (all_keys w) (λ key i. elim (in_append (exported_keys t next.config) (heard_keys t next ++ flying_keys next) key i) [
-      | inl j ↦ new_known key (in_front (exported_keys t new.config) (heard_keys t new) key j)
-      | inr j ↦ elim (in_append (heard_keys t next) (flying_keys next) key j) [
-        | inl k ↦ new_known key (in_rest (exported_keys t new.config) (heard_keys t new) key k)
-        | inr k ↦ next_flying key k
-      ]
-    ])
+    no_new_routes = no_more (all_keys next) (all_keys w)
+        (λ key i. elim (in_append (exported_keys t next.config) (heard_keys t next ++ flying_keys next) key i) [
+          | inl j ↦ new_known key (in_front (exported_keys t new.config) (heard_keys t new) key j)
+          | inr j ↦ elim (in_append (heard_keys t next) (flying_keys next) key j) [
+            | inl k ↦ new_known key (in_rest (exported_keys t new.config) (heard_keys t new) key k)
+            | inr k ↦ next_flying key k
+          ]
+        ])
 
     pub offers_few : (node : ℕ) → node < length t.loopbacks → length (in_order (known_keys t reflectors new node)) ≤ routes t w
     offers_few node h = no_more (known_keys t reflectors new node) (all_keys w) (λ key i. node_knows node key h i)

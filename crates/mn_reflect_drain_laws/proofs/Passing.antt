@@ -1,4 +1,4 @@
--- All that a hearing makes its hearer say of routes weighs less than the word that is heard.
+-- All that a hearing makes its hearer say of routes weighs less than the word that is received.
 use Rattle.std.proofs.Common.{ℕ, zero, suc, ◌≡◌, ◌≢◌, ◌+◌, ◌*◌, ◌<◌, ◌≤◌, inl, inr, Bool, true, false, cond, List, [], ◌∷◌, ◌++◌, filter, length, Some}
 use Rattle.std.proofs.Common.{refl, arith, sym, ◌∙◌, ap, subst}
 use Rattle.std.specs.Prelude.{◌==◌, ◌||◌, not}
@@ -40,7 +40,8 @@ count_from test a (suc n) =
     ∙ total-shift n (λ i. where_so (test (a + i)) 1)
 
 count_all : (test : ℕ → Bool) (n : ℕ) → total n (λ i. where_so (test i) 1) ≡ length (filter test (range_with_len 0 n))
-count_all test n = sym (count_from test 0 n ∙ total-same n (λ i. where_so (test (0 + i)) 1) (λ i. where_so (test i) 1) (λ i h. ap (λ k. where_so (test k) 1) (omega arith)))
+count_all test n = sym (count_from test 0 n
+    ∙ total-same n (λ i. where_so (test (0 + i)) 1) (λ i. where_so (test i) 1) (λ i h. ap (λ k. where_so (test k) 1) (omega arith)))
 
 either : (a b : Bool) (w : ℕ) → where_so (a || b) w ≤ where_so a w + where_so b w
 either true b w = omega arith
@@ -134,11 +135,13 @@ module _ (t : Network) (reflectors : List ℕ) (world : ReflectWorld) (a b : Nod
       (subst (λ c. total (length t.loopbacks) passed_to + 1 ≤ cond c (1 + edge_count) (length reflectors * (1 + edge_count))) (sym said)
       (omega (
         arith,
-        total-below (length t.loopbacks) passed_to at_edge (λ peer h. where_if (is_direction world.config b.0 peer) _ _ (λ on. each peer on (is_reflector reflectors peer) refl)),
+        total-below (length t.loopbacks) passed_to at_edge
+            (λ peer h. where_if (is_direction world.config b.0 peer) _ _ (λ on. each peer on (is_reflector reflectors peer) refl)),
         edges_weigh,
       )))
     where
-      elsewhere : (key : Key) → In (known_keys t reflectors world b.0 ++ known_keys t reflectors (unsaid world (step.HearBgp a b)) b.0) key → edge_of t key.vrf ≢ a.0
+      elsewhere : (key : Key) → In (known_keys t reflectors world b.0 ++ known_keys t reflectors (unsaid world (step.HearBgp a b)) b.0) key →
+          edge_of t key.vrf ≢ a.0
       elsewhere key i e = no (sym (homes key i) ∙ ap (is_reflector reflectors) e ∙ said)
 
       each : (peer : ℕ) → is_direction world.config b.0 peer ≡ true → (c : Bool) → is_reflector reflectors peer ≡ c →
@@ -147,7 +150,7 @@ module _ (t : Network) (reflectors : List ℕ) (world : ReflectWorld) (a b : Nod
           (sym (once_still t reflectors world a b word first peer here is elsewhere)) (omega arith)
       each peer on false is = to_edge peer on is
 
-  -- 2.3 By a reflector, of what an edge said: to edges and other reflectors
+  -- 2.3 By a reflector, of what an edge sent: to edges and other reflectors
 
   of_edge : is_reflector reflectors b.0 ≡ true → is_reflector reflectors a.0 ≡ false →
       total (length t.loopbacks) passed_to + 1 ≤ word_weight t reflectors a.0 b.0
@@ -187,7 +190,8 @@ module _ (t : Network) (reflectors : List ℕ) (world : ReflectWorld) (a b : Nod
           word_weight t reflectors b.0 peer * length (news peer) ≤ at_edge peer + at_other peer
       each peer on true is = omega (
         arith,
-        subst (λ c. cond c (cond (is_reflector reflectors b.0) (1 + edge_count) (length reflectors * (1 + edge_count))) 1 * length (news peer) ≤ 1 + edge_count) (sym is)
+        subst (λ c. cond c (cond (is_reflector reflectors b.0) (1 + edge_count) (length reflectors * (1 + edge_count))) 1 * length (news peer) ≤ 1 + edge_count)
+            (sym is)
             (subst (λ c. cond c (1 + edge_count) (length reflectors * (1 + edge_count)) * length (news peer) ≤ 1 + edge_count) (sym here)
             (few_weigh (1 + edge_count) (length (news peer)) (one_word t reflectors world a b word first b.0 peer))),
         ap (λ c. cond c 0 (where_so (is_reflector reflectors peer) (1 + edge_count))) (unlike peer (λ e. apart peer on (sym e))),

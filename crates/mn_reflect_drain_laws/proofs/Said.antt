@@ -41,7 +41,8 @@ module _ (topology : Network) (reflectors : List ℕ) (world new : ReflectWorld)
 
   all_are : (node peer : ℕ) (x : Offer) → In (all_offers topology reflectors new node peer) (Announce x) → IsOffered node peer x
   all_are node peer x i =
-      let m = in_flat_map (λ key. change key None (offered topology reflectors new node peer key)) (in_order (known_keys topology reflectors new node)) (Announce x) i in
+      let m = in_flat_map (λ key. change key None (offered topology reflectors new node peer key)) (in_order (known_keys topology reflectors new node))
+      (Announce x) i in
       (m.0, in_change m.0 None (offered topology reflectors new node peer m.0) x m.2)
 
   reply_is : (node peer count : ℕ) (o : Option Word) (x : Offer) → In (reply topology reflectors new node peer count o) (Announce x) → IsOffered node peer x
@@ -80,7 +81,8 @@ module _ (topology : Network) (reflectors : List ℕ) (world new : ReflectWorld)
       other : Open ≡ Announce x → ⊥
       other e = cc
 
-  replies_are : (done : Step) → NamesNodes topology done → (s : Spoken) (x : Offer) → In (replies topology reflectors world new done) s → s.word ≡ Announce x → IsSaid s x
+  replies_are : (done : Step) → NamesNodes topology done → (s : Spoken) (x : Offer) → In (replies topology reflectors world new done) s → s.word ≡ Announce x →
+      IsSaid s x
   replies_are (step.BgpUp a b) h s x i e = elim (in_append (says a.0 b.0 (Open ∷ [])) (says b.0 a.0 (Open ∷ [])) s i) [
     | inl j ↦ said_by a.0 b.0 (Open ∷ []) (omega (arith, h.0, h.1)) (λ y k. absurd (opens_none y k)) s x j e
     | inr j ↦ said_by b.0 a.0 (Open ∷ []) h.1 (λ y k. absurd (opens_none y k)) s x j e
@@ -90,7 +92,8 @@ module _ (topology : Network) (reflectors : List ℕ) (world new : ReflectWorld)
       (reply_is b.0 a.0 (length (world.heard b.0 a.0)) (first_word a.0 b.0 world.flying)) s x i e
   replies_are _ h s x i e = absurd i
 
-  news_are : (node : ℕ) → node < length topology.loopbacks → (s : Spoken) (x : Offer) → In (news topology reflectors world new node) s → s.word ≡ Announce x → IsSaid s x
+  news_are : (node : ℕ) → node < length topology.loopbacks → (s : Spoken) (x : Offer) → In (news topology reflectors world new node) s → s.word ≡ Announce x →
+      IsSaid s x
   news_are node there s x i e =
       let m = in_flat_map (λ key. flat_map (news_of topology reflectors world new node key) (nodes_of (wiring_of topology)))
       (in_order (known_keys topology reflectors world node ++ known_keys topology reflectors new node)) s i in
@@ -99,11 +102,13 @@ module _ (topology : Network) (reflectors : List ℕ) (world new : ReflectWorld)
     where
       by : (key : Key) (peer : ℕ) (b : Bool) → In (cond b (says node peer (change key (offered topology reflectors world node peer key)
           (offered topology reflectors new node peer key))) []) s → IsSaid s x
-      by key peer true j = said_by node peer (change key (offered topology reflectors world node peer key) (offered topology reflectors new node peer key)) there
+      by key peer true j = said_by node peer (change key (offered topology reflectors world node peer key) (offered topology reflectors new node peer key))
+          there
           (λ y k. (key, in_change key (offered topology reflectors world node peer key) (offered topology reflectors new node peer key) y k)) s x j e
       by key peer false j = absurd j
 
-  pub said_is : (done : Step) → NamesNodes topology done → (s : Spoken) (x : Offer) → In (said_in topology reflectors world new done) s → s.word ≡ Announce x → IsSaid s x
+  pub said_is : (done : Step) → NamesNodes topology done → (s : Spoken) (x : Offer) → In (said_in topology reflectors world new done) s → s.word ≡ Announce x →
+      IsSaid s x
   said_is done names s x i e =
       elim (in_append (replies topology reflectors world new done) (flat_map (news topology reflectors world new) (nodes_of (wiring_of topology))) s i) [
         | inl j ↦ replies_are done names s x j e

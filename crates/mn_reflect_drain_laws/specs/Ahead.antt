@@ -15,7 +15,7 @@ word_weight topology reflectors from to =
     (cond (is_reflector reflectors from) (1 + length (edges topology)) (length reflectors * (1 + length (edges topology))))
     1
 
--- the words that a peer is to hear of a node: those in flight, and what the node has still to say before it is Established and as it
+-- the words that a peer is to receive from a node: those in flight, and what the node has still to say before it is Established and as it
 -- becomes so
 abbrev pub words_ahead : Network → ReflectWorld → ℕ → ℕ → ℕ
 words_ahead topology world node peer =

@@ -1,4 +1,4 @@
--- A drain where routes are reflected: words in flight are heard, in whatever order. How many hearings it takes at most.
+-- A drain where routes are reflected: words in flight are received, in whatever order. How many hearings it takes at most.
 use Rattle.std.specs.Prelude.{◌≡◌, ◌≢◌, ◌+◌, ◌*◌, ◌==◌, ◌&&◌, ℕ, Bool, true, false, not, List, [], ◌∷◌, ◌++◌, map, length, ⊤}
 use Rattle.std.specs.List.{flat_map}
 use Rattle.mn_wiring.specs.Wiring.{nodes_of}
@@ -19,7 +19,7 @@ use Rattle.mn_reflect_ledger_laws.specs.Quiet.{NamesNodes}
 
 -- 1. Its steps
 
--- a word that flies from one node to another is heard
+-- a word that flies from one node to another is received
 abbrev pub IsHearing : Network → ReflectWorld → Step → Type 0
 IsHearing topology world (step.HearBgp a b) = NamesNodes topology (step.HearBgp a b) × (is_empty world (step.HearBgp a b) ≡ false)
 IsHearing topology world _ = ⊥
@@ -52,7 +52,7 @@ directions topology config = over_directions topology config (λ node peer. 1)
 abbrev pub exported_keys : Network → Config → List Key
 exported_keys topology config = flat_map (λ node. map key_of (map plain (exports_of topology config node))) (nodes_of (wiring_of topology))
 
--- of those that nodes have heard announced in sessions as they are
+-- of those that nodes have received announced in sessions as they are
 abbrev pub heard_keys : Network → ReflectWorld → List Key
 heard_keys topology world =
     flat_map (λ node. flat_map (λ peer. keys_in (world.heard node peer)) (nodes_of (wiring_of topology))) (nodes_of (wiring_of topology))

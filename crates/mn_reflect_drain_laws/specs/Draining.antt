@@ -1,4 +1,4 @@
--- A drain of the network of two edges and two reflectors: it meets what the law of drains asks, hears 25 words where the bound is 192, and leads
+-- A drain of the network of two edges and two reflectors: it meets what the law of drains asks, receives 25 words where the bound is 192, and leads
 -- to where none flies.
 --
 --   site a --- pe1 0 --- r1 1 ------ pe2 3 --- site b
@@ -15,7 +15,7 @@ use Rattle.mn_reflect_ledger_laws.specs.TwoReflectors.{two_reflectors, by_both}
 use Rattle.mn_reflect_world_laws.specs.Steps.{first_hearing}
 use Rattle.mn_reflect_drain_laws.specs.Drain.{ArePeers, IsDrain, drain_bound}
 
--- the hearings of so many words, each time of the one that was said first of all
+-- the hearings of so many words, each time of the one that was sent first of all
 abbrev pub hearing_and : Option Step → List Step → List Step
 hearing_and None hearings = []
 hearing_and (Some hearing) hearings = hearing ∷ hearings
@@ -37,7 +37,7 @@ begun = world_of two_reflectors by_both beginning
 abbrev pub hearings : List Step
 hearings = first_hearings 25 two_reflectors by_both begun
 
--- each premise of the law of drains, how many words this drain hears, and how many it might
+-- each premise of the law of drains, how many words this drain receives, and how many it might
 pub record TwoReflectorsDrain : Type 0 where
   pub reflected : AreReflected two_reflectors beginning
   pub reflectors : AreReflectors two_reflectors by_both

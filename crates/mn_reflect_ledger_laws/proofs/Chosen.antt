@@ -86,7 +86,7 @@ module _ (world : ReflectWorld) (node : ℕ) (key : Key) where
   one_says target (peer ∷ peers) h one i e =
       by (announced_by world node peer key) refl (h peer (inl refl)) (λ j. one_says target peers (λ x k. h x (inr k)) one j e) (rest target refl)
     where
-      -- where nothing is to be said, nothing is
+      -- where nothing is to be sent, nothing is
       rest : (t : Option Export) → target ≡ t → t ≡ None → export_of (first_announced world node key peers) ≡ target
       rest t q n = ap export_of (none_says peers (λ x k. elim (h x (inr k)) [ inl g ↦ g | inr g ↦ nothing (announced_by world node x key) (g ∙ q ∙ n) ]))
           ∙ sym n ∙ sym q

@@ -66,7 +66,8 @@ home_of : (nodes : ℕ) (vrfs : List VrfDef) (v : ℕ) (d : VrfDef) → list_all
     (slice_index_or vrfs v d).node.0 < nodes
 home_of nodes [] v d all h = absurd (omega (arith, h))
 home_of nodes (vrf ∷ vrfs) zero d all h =
-    less_tells vrf.node.0 nodes (and_left (nat_lt vrf.node.0 nodes) (has_rd_form vrf.rd.0) (and_left (is_vrf_of nodes vrf) (list_all (is_vrf_of nodes) vrfs) all))
+    less_tells vrf.node.0 nodes (and_left (nat_lt vrf.node.0 nodes) (has_rd_form vrf.rd.0)
+    (and_left (is_vrf_of nodes vrf) (list_all (is_vrf_of nodes) vrfs) all))
 home_of nodes (vrf ∷ vrfs) (suc v) d all h =
     home_of nodes vrfs v d (and_right (is_vrf_of nodes vrf) (list_all (is_vrf_of nodes) vrfs) all) (omega (arith, h))
 
@@ -108,7 +109,7 @@ module _ (topology : Network) (reflectors : List ℕ) (world : ReflectWorld) (wi
       ≡ option_map (λ offer. offer.export) (own_offer topology world.config (edge_of topology key.vrf) key)
   agrees key h d = has edge key is_one (contained_in (edges topology) (edge_of topology key.vrf) (edge_is_in topology lawful key.vrf h)) d
 
-  -- 3. What is heard is exported
+  -- 3. What is received is exported
 
   some_export : (o : Option Offer) (export : Export) → option_map (λ offer. offer.export) o ≡ Some export → (x : Offer) × (o ≡ Some x) × (x.export ≡ export)
   some_export None export h = absurd (none_some h)
@@ -160,7 +161,7 @@ module _ (topology : Network) (reflectors : List ℕ) (world : ReflectWorld) (wi
       (imported world.config v (exports_of topology world.config (edge_of topology m.0.vrf))) m.0
       (filter_in meets (exports_of topology world.config (edge_of topology m.0.vrf)) m.0 x.2 f.1)))
 
-  -- 4. What is exported is heard
+  -- 4. What is exported is received
 
   is_heard : (peer : ℕ) → peer ≢ edge → (export : Export) → In (exports_of topology world.config peer) export →
       In (reflected topology reflectors world edge) export

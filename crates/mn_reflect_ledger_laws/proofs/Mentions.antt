@@ -1,4 +1,4 @@
--- The last mention of a route, once changes are said: it is what is offered then.
+-- The last mention of a route, once changes are sent: it is what is offered then.
 use Rattle.std.proofs.Common.{ℕ, ◌≡◌, ◌⊎◌, inl, inr, Bool, true, false, List, [], ◌∷◌, ◌++◌, Some, None, Option}
 use Rattle.std.proofs.Common.{refl, sym, ◌∙◌, ap, subst}
 use Rattle.std.specs.Prelude.{◌==◌, ◌&&◌, if◌then◌else◌}
@@ -83,7 +83,7 @@ named_mention key was (Withdraw other ∷ words) h = named_mention key (mentione
     by true = tt
     by false = h
 
--- a change that is said makes the last mention what is offered now
+-- a change that is sent makes the last mention what is offered now
 announced_here : (key : Key) (new : Offer) (was : Option Offer) → key_of new ≡ key → last_mention key was (Announce new ∷ []) ≡ Some new
 announced_here key new was e = ap (λ b. if b then Some new else was) (subst (λ k. same_key key k ≡ true) (sym e) (key_itself key))
 

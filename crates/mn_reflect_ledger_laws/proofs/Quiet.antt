@@ -61,7 +61,7 @@ module _ (topology : Network) (reflectors : List ℕ) (world : ReflectWorld) (qu
   no_reflector : (edge : ℕ) → is_edge topology.vrfs edge ≡ true → is_reflector reflectors edge ≡ false
   no_reflector edge h = elim (two_ways (is_reflector reflectors edge)) [ inl e ↦ absurd (no (sym (are.no_edges edge e) ∙ h)) | inr e ↦ e ]
 
-  -- all that was said is heard
+  -- all that was sent is received
   all_heard : (node peer : ℕ) → told world node peer ≡ world.heard peer node
   all_heard node peer = ap (λ spokens. world.heard peer node ++ words_to node peer spokens) quiet ∙ append-nil (world.heard peer node)
 
@@ -180,7 +180,7 @@ module _ (topology : Network) (reflectors : List ℕ) (world : ReflectWorld) (qu
         by None e q = ap (λ z. export_of (or_else z (from_reflectors topology reflectors world node key))) (q ∙ e) ∙ ap export_of (none_by node h e)
             ∙ sym (ap export_of e)
 
-    -- what another edge hears of a reflector
+    -- what another edge receives from a reflector
     to_edge : (edge node : ℕ) → edge < length topology.loopbacks → is_reflector reflectors edge ≡ false → source ≢ edge → is_reflector reflectors node ≡ true →
         peers_live world.config edge node ≡ true → export_of (announced_by world edge node key) ≡ export_of own
     to_edge edge node there plain apart h live =

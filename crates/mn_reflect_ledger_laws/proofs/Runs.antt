@@ -1,4 +1,4 @@
--- Whatever steps are done, each end has said what it offers.
+-- Whatever steps are done, each end has sent what it offers.
 use Rattle.std.proofs.Common.{ℕ, zero, suc, ◌≡◌, ◌≢◌, ◌<◌, ◌+◌, ◌⊎◌, inl, inr, Bool, true, false, cond, List, [], ◌∷◌, ◌++◌, length, Some, None, Option}
 use Rattle.std.proofs.Common.{refl, arith, sym, ◌∙◌, ap, subst, append_assoc, append-nil, length-append}
 use Rattle.std.specs.Prelude.{◌&&◌, nat_le, nat_lt, if◌then◌else◌}
@@ -212,7 +212,7 @@ module _ (topology : Network) (reflectors : List ℕ) (world : ReflectWorld) (ru
   pub restarted_runs : IsRun topology reflectors (after topology reflectors world done)
   restarted_runs = record { within = within_restarted; says = says_either; turns = turns_either }
 
--- 3. A word is heard
+-- 3. A word is received
 
 module _ (topology : Network) (reflectors : List ℕ) (world : ReflectWorld) (run : IsRun topology reflectors world) (done : Step) (a b : ℕ) (differ : a ≢ b)
     (a_there : a < length topology.loopbacks) (b_there : b < length topology.loopbacks) (word : Word) (first : first_word a b world.flying ≡ Some word)
@@ -240,7 +240,7 @@ module _ (topology : Network) (reflectors : List ℕ) (world : ReflectWorld) (ru
       far : peer ≡ a → ⊥
       far e = omega (arith, e, h, a_there)
 
-  -- what was told stays told
+  -- what was sent stays told
   told_itself : told hears a b ≡ told world a b
   told_itself =
       ap (λ ws. ws ++ words_to a b hears.flying) longer ∙ ap (λ fs. (world.heard b a ++ word ∷ []) ++ words_to a b fs) flies_now
@@ -264,9 +264,9 @@ module _ (topology : Network) (reflectors : List ℕ) (world : ReflectWorld) (ru
   pub live_same : (n p : ℕ) → peers_live hears.config n p ≡ peers_live world.config n p
   live_same n p = live_by (config_after world.config done) world.config n p sessions
 
-  -- 3.1 The end that hears
+  -- 3.1 The end that receives
 
-  -- its peer has said the word, so the session lives
+  -- its peer has sent the word, so the session lives
   peer_said : told world a b ≡ world.heard b a ++ (word ∷ words_to a b (without_first a b world.flying))
   peer_said = ap (λ ws. world.heard b a ++ ws) (first_said a b world.flying word first)
 

@@ -1,4 +1,4 @@
--- Every step keeps: each end has said what it offers, and sessions are in turn.
+-- Every step keeps: each end has sent what it offers, and sessions are in turn.
 use Rattle.std.proofs.Common.{ℕ, zero, suc, ◌≡◌, ◌≢◌, ◌<◌, ◌≤◌, ◌⊎◌, inl, inr, Bool, true, false, cond, List, [], ◌∷◌, ◌++◌, length, Some, None, filter}
 use Rattle.std.proofs.Common.{refl, arith, sym, ◌∙◌, ap, subst, append_assoc, append-nil}
 use Rattle.std.specs.Prelude.{◌==◌, ◌&&◌, not, nat_le}
@@ -9,7 +9,8 @@ use Rattle.mn_topo.specs.declared.steps.Step.{Step}
 use Rattle.mn_ledger.specs.Bgp.{peers_live}
 use Rattle.mn_reflect_ledger_laws.specs.Words.{Key, Word, Open, KeepAlive, Announce, Withdraw, last_mention}
 use Rattle.mn_reflect_ledger_laws.specs.Picks.{Spoken, ReflectWorld, is_established, offered}
-use Rattle.mn_reflect_ledger_laws.specs.World.{is_from_to, is_between, first_word, without_first, words_to, unsaid, all_offers, replies, is_steady, said_in, after}
+use Rattle.mn_reflect_ledger_laws.specs.World.{is_from_to, is_between, first_word, without_first, words_to, unsaid, all_offers, replies, is_steady, said_in}
+use Rattle.mn_reflect_ledger_laws.specs.World.{after}
 use Rattle.mn_reflect_ledger_laws.specs.Quiet.{told, SaysItsOffers, BeginsBy, IsInTurn}
 use Rattle.mn_reflect_ledger_laws.proofs.Mentions.{mention_append}
 use Rattle.mn_reflect_ledger_laws.proofs.Saying.{words_append, pick_word, said_to, to_peer}
@@ -42,7 +43,7 @@ begins_answer count (Open ∷ (KeepAlive ∷ rest)) h e = absurd (none h e)
 begins_answer count (Open ∷ (_ ∷ rest)) h e = absurd h
 begins_answer count (_ ∷ words) h e = absurd h
 
--- the word that is heard first, and the one that is heard second
+-- the word that is received first, and the one that is received second
 pub first_is_open : (count : ℕ) (word : Word) (rest : List Word) → BeginsBy count (word ∷ rest) → word ≡ Open
 first_is_open count Open rest h = refl
 first_is_open count KeepAlive rest h = absurd h
@@ -170,7 +171,7 @@ module _ (topology : Network) (reflectors : List ℕ) (world : ReflectWorld) (do
   abbrev pub answers : List Word
   answers = words_to n p (replies topology reflectors world new done)
 
-  -- what was told, what answers, and what is new
+  -- what was sent, what answers, and what is new
   pub told_then : told then_world n p ≡ told new n p ++ (answers ++ cond (is_steady world new n p)
       (to_peer topology reflectors world new n p there peer_there) [])
   told_then =

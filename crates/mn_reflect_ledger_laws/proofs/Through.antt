@@ -14,10 +14,12 @@ use Rattle.mn_ledger.specs.Places.{loopback, edge_of}
 use Rattle.mn_ledger.specs.Exports.{exports_of}
 use Rattle.mn_ledger.specs.Bgp.{peers_live}
 use Rattle.mn_ledger.specs.Tables.{put, put_pair}
-use Rattle.mn_reflect_ledger_laws.specs.Words.{Key, Offer, Word, Open, KeepAlive, Announce, Withdraw, key_of, same_key, same_offer, last_mention, in_order, change}
+use Rattle.mn_reflect_ledger_laws.specs.Words.{Key, Offer, Word, Open, KeepAlive, Announce, Withdraw, key_of, same_key, same_offer, last_mention, in_order}
+use Rattle.mn_reflect_ledger_laws.specs.Words.{change}
 use Rattle.mn_reflect_ledger_laws.specs.Picks.{Spoken, ReflectWorld, announced_by, or_else, first_announced, by_address, from_reflectors, from_edge, pick}
 use Rattle.mn_reflect_ledger_laws.specs.Picks.{is_reflector, through, to_reflect, plain, own_offer, offered, known_keys}
-use Rattle.mn_reflect_ledger_laws.specs.World.{is_from_to, is_between, first_word, without_first, words_to, says, restarted, heard_one, counted, unsaid, all_offers, reply}
+use Rattle.mn_reflect_ledger_laws.specs.World.{is_from_to, is_between, first_word, without_first, words_to, says, restarted, heard_one, counted, unsaid}
+use Rattle.mn_reflect_ledger_laws.specs.World.{all_offers, reply}
 use Rattle.mn_reflect_ledger_laws.specs.World.{replies, is_steady, news_of, news, said_in, after, start, world_from, world_of}
 use Rattle.mn_reflect_ledger_laws.specs.Quiet.{told, AreReflectors}
 use Rattle.mn_reflect_ledger_laws.specs.Through.{AreOneOrTwo, ComesThrough}
@@ -25,12 +27,13 @@ use Rattle.mn_reflect_ledger_laws.proofs.Chosen.{in_address, in_reflectors}
 use Rattle.mn_reflect_ledger_laws.proofs.Mentions.{IsNamed, named_mention}
 use Rattle.mn_reflect_ledger_laws.proofs.Holding.{none_some, at_its_edge, is_an_edge, find_in}
 
--- 1. What is said of a route was offered
+-- 1. What is sent of a route was offered
 
 abbrev pub heard_or : {A : Type 0} → (ℕ → ℕ → List A) → ℕ → ℕ → List A → ℕ → ℕ → A → Type 0
 heard_or table a b value n p w = ((n ≡ a) × (p ≡ b) × In value w) ⊎ In (table n p) w
 
-pub put_in : {A : Type 0} (table : ℕ → ℕ → List A) (a b : ℕ) (value : List A) (n p : ℕ) (w : A) → In (put_pair table a b value n p) w → heard_or table a b value n p w
+pub put_in : {A : Type 0} (table : ℕ → ℕ → List A) (a b : ℕ) (value : List A) (n p : ℕ) (w : A) → In (put_pair table a b value n p) w →
+    heard_or table a b value n p w
 put_in table a b value n p w i = by (n == a) refl i
   where
     at : (d : Bool) → (n == a) ≡ true → (p == b) ≡ d → In (cond d value (table a p)) w → heard_or table a b value n p w
@@ -79,7 +82,8 @@ pub mention_in : (key : Key) (was : Option Offer) (words : List Word) (x : Offer
 mention_in key was [] x h = inl h
 mention_in key was (Open ∷ words) x h = elim (mention_in key was words x h) [ inl e ↦ inl e | inr i ↦ inr (inr i) ]
 mention_in key was (KeepAlive ∷ words) x h = elim (mention_in key was words x h) [ inl e ↦ inl e | inr i ↦ inr (inr i) ]
-mention_in key was (Announce said ∷ words) x h = by (same_key key (key_of said)) (mention_in key (if same_key key (key_of said) then Some said else was) words x h)
+mention_in key was (Announce said ∷ words) x h =
+    by (same_key key (key_of said)) (mention_in key (if same_key key (key_of said) then Some said else was) words x h)
   where
     by : (b : Bool) → ((if b then Some said else was) ≡ Some x) ⊎ In words (Announce x) → (was ≡ Some x) ⊎ In (Announce said ∷ words) (Announce x)
     by true (inl e) = inr (inl (ap (λ o. elim o [ None ↦ Announce said | Some z ↦ Announce z ]) e))
@@ -137,7 +141,8 @@ module _ (topology : Network) (reflectors : List ℕ) (are : AreReflectors topol
 
   module _ (world : ReflectWorld) (heard : Heard world) (node peer : ℕ) (key : Key) where
     -- of the edge itself
-    of_edge : (x : Offer) → from_edge topology world node key ≡ Some x → (x.clusters ≡ []) × (key_of x ≡ key) × (is_reflector reflectors (edge_of topology key.vrf) ≡ false)
+    of_edge : (x : Offer) → from_edge topology world node key ≡ Some x →
+        (x.clusters ≡ []) × (key_of x ≡ key) × (is_reflector reflectors (edge_of topology key.vrf) ≡ false)
     of_edge x h =
         let at = heard_of world node (edge_of topology key.vrf) key x h in
         let said = heard node (edge_of topology key.vrf) x at.0 in
@@ -221,7 +226,8 @@ module _ (topology : Network) (reflectors : List ℕ) (are : AreReflectors topol
             same q = elim (eqb_tells (edge_of topology key.vrf) peer) [ inl y ↦ y.0 | inr n ↦ absurd (n.1 q) ]
 
         by : (b : Bool) → is_reflector reflectors peer ≡ b →
-            (if b then from_edge topology world node key else if edge_of topology key.vrf == peer then None else pick topology reflectors world node key) ≡ Some x →
+            (if b then from_edge topology world node key else if edge_of topology key.vrf == peer then None else pick topology reflectors world node key)
+            ≡ Some x →
             IsSaid node peer (through topology node x)
         by true e f = to_reflector x f here e
         by false e f = apart (edge_of topology key.vrf == peer) refl f e
@@ -250,7 +256,8 @@ module _ (topology : Network) (reflectors : List ℕ) (are : AreReflectors topol
         mapped (Some y) e f here = subst (IsSaid node peer) (ap (λ o. elim o [ None ↦ x | Some z ↦ z ]) f) (reflects y e here)
 
         by : (b : Bool) → is_reflector reflectors node ≡ b →
-            (if b then option_map (through topology node) (to_reflect topology reflectors world node peer key) else own_offer topology world.config node key) ≡ Some x →
+            (if b then option_map (through topology node) (to_reflect topology reflectors world node peer key) else own_offer topology world.config node key)
+            ≡ Some x →
             IsSaid node peer x
         by true e f = mapped (to_reflect topology reflectors world node peer key) refl f e
         by false e f = exported x f e
@@ -295,7 +302,8 @@ module _ (topology : Network) (reflectors : List ℕ) (are : AreReflectors topol
     flying = λ s x i e. all.flying s x (in_filter (λ spoken. not (is_between a b spoken)) world.flying s i).0 e;
   }
 
-  hearing_keeps : (world : ReflectWorld) (from to : ℕ) (o : Option Word) → first_word from to world.flying ≡ o → AllSaid world → AllSaid (heard_one world from to o)
+  hearing_keeps : (world : ReflectWorld) (from to : ℕ) (o : Option Word) → first_word from to world.flying ≡ o → AllSaid world →
+      AllSaid (heard_one world from to o)
   hearing_keeps world from to None e all = all
   hearing_keeps world from to (Some word) e all = record {
     heard = λ n p x i. elim (put_in world.heard to from (world.heard to from ++ word ∷ []) n p (Announce x) i) [
@@ -331,7 +339,8 @@ module _ (topology : Network) (reflectors : List ℕ) (are : AreReflectors topol
 
     all_said : (node peer : ℕ) (x : Offer) → In (all_offers topology reflectors new node peer) (Announce x) → IsSaid node peer x
     all_said node peer x i =
-        let m = in_flat_map (λ key. change key None (offered topology reflectors new node peer key)) (in_order (known_keys topology reflectors new node)) (Announce x) i in
+        let m = in_flat_map (λ key. change key None (offered topology reflectors new node peer key)) (in_order (known_keys topology reflectors new node))
+        (Announce x) i in
         is_said new heard node peer m.0 x (in_change m.0 None (offered topology reflectors new node peer m.0) x m.2)
 
     reply_said : (node peer count : ℕ) (o : Option Word) (x : Offer) → In (reply topology reflectors new node peer count o) (Announce x) → IsSaid node peer x
@@ -385,12 +394,13 @@ module _ (topology : Network) (reflectors : List ℕ) (are : AreReflectors topol
         heard = kept.heard;
         flying = λ s x i e. elim (in_append new.flying (said_in topology reflectors world new done) s i) [
           | inl j ↦ kept.flying s x j e
-          | inr j ↦ elim (in_append (replies topology reflectors world new done) (flat_map (news topology reflectors world new) (nodes_of (wiring_of topology))) s j) [
-            | inl k ↦ replies_said new kept.heard world done s x k e
-            | inr k ↦
-                let m = in_flat_map (news topology reflectors world new) (nodes_of (wiring_of topology)) s k in
-                news_said new kept.heard world m.0 s x m.2 e
-          ]
+          | inr j ↦ elim (in_append (replies topology reflectors world new done) (flat_map (news topology reflectors world new) (nodes_of (wiring_of topology)))
+              s j) [
+                | inl k ↦ replies_said new kept.heard world done s x k e
+                | inr k ↦
+                    let m = in_flat_map (news topology reflectors world new) (nodes_of (wiring_of topology)) s k in
+                    news_said new kept.heard world m.0 s x m.2 e
+              ]
         ];
       }
 

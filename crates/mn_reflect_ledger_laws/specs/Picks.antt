@@ -1,4 +1,4 @@
--- What a node has heard, what a reflector picks of it, and what each node offers its peers.
+-- What a node has received, what a reflector picks of it, and what each node offers its peers.
 use Rattle.std.specs.Prelude.{ℕ, ◌==◌, ◌&&◌, Bool, not, nat_lt, nat_le, if◌then◌else◌, List, [], ◌∷◌, map, filter, find, length, Option, Some, None, option_map}
 use Rattle.std.specs.List.{flat_map, list_any}
 use Rattle.mn_wiring.specs.Wiring.{nodes_of}
@@ -15,19 +15,19 @@ pub record Spoken : Type 0 where
   pub to : ℕ
   pub word : Word
 
--- what is configured; by hearer and peer, what was heard in the present life of their session; and what flies, in the order of saying
+-- what is configured; by hearer and peer, what was received in the present life of their session; and what flies, in the order of sending
 pub record ReflectWorld : Type 0 where
   pub config : Config
   pub heard : ℕ → ℕ → List Word
   pub flying : List Spoken
 
--- an end has heard OPEN and KEEPALIVE in a session that lives
+-- an end has received OPEN and KEEPALIVE in a session that lives
 abbrev pub is_established : ReflectWorld → ℕ → ℕ → Bool
 is_established world node peer = peers_live world.config node peer && nat_le 2 (length (world.heard node peer))
 
--- 1. What was heard
+-- 1. What was received
 
--- the last mention heard from a peer in a living session, where that is an announcement
+-- the last mention received from a peer in a living session, where that is an announcement
 abbrev pub announced_by : ReflectWorld → ℕ → ℕ → Key → Option Offer
 announced_by world node peer key = if peers_live world.config node peer then last_mention key None (world.heard node peer) else None
 

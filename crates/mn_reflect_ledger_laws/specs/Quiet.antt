@@ -16,7 +16,7 @@ use Rattle.mn_reflect_ledger_laws.specs.World.{words_to}
 
 -- 1. Held by reflection
 
--- the routes of other edges' VRFs that an edge has heard of, each as the reflector of least address announced it
+-- the routes of other edges' VRFs that an edge has received, each as the reflector of least address announced it
 abbrev pub others_only : Network → ℕ → List Key → List Key
 others_only topology edge keys = filter (λ key. nat_lt key.vrf (length topology.vrfs) && not (edge_of topology key.vrf == edge)) keys
 
@@ -41,18 +41,18 @@ held topology reflectors world edge v =
     own_routes topology world.config edge v
     ++ (near_routes topology world.config edge v ++ map (held_far topology) (imported world.config v (reflected topology reflectors world edge)))
 
--- 2. What was said is what is offered
+-- 2. What was sent is what is offered
 
--- all that a node said to a peer in the present life, heard or in flight
+-- all that a node sent to a peer in the present life, received or in flight
 abbrev pub told : ReflectWorld → ℕ → ℕ → List Word
 told world node peer = world.heard peer node ++ words_to node peer world.flying
 
--- an end that is Established has said what it offers, and another nothing
+-- an end that is Established has sent what it offers, and another nothing
 pub record SaysItsOffers (topology : Network) (reflectors : List ℕ) (world : ReflectWorld) (node peer : ℕ) : Type 0 where
   pub all : is_established world node peer ≡ true → (key : Key) → last_mention key None (told world node peer) ≡ offered topology reflectors world node peer key
   pub nothing : is_established world node peer ≡ false → (key : Key) → last_mention key None (told world node peer) ≡ None
 
--- OPEN comes first, and KEEPALIVE where that was heard
+-- OPEN comes first, and KEEPALIVE where that was received
 abbrev pub BeginsBy : ℕ → List Word → Type 0
 BeginsBy count [] = ⊥
 BeginsBy count (Open ∷ []) = count ≡ 0

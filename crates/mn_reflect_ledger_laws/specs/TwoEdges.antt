@@ -16,7 +16,7 @@ by_p = 1 ∷ []
 abbrev pub both_up : ReflectWorld
 both_up = world_of two_links by_p (step.BgpUp (node_no 0) (node_no 1) ∷ step.BgpUp (node_no 1) (node_no 2) ∷ [])
 
--- twelve words are heard
+-- twelve words are received
 abbrev pub joined : ReflectWorld
 joined = drained 12 two_links by_p both_up
 
@@ -35,7 +35,7 @@ pub record AreReflectedTo : Type 0 where
   pub four : length both_up.flying ≡ 4
   pub eleven_leave_one : length (drained 11 two_links by_p both_up).flying ≡ 1
   pub quiet : joined.flying ≡ []
-  -- pe2 has heard of p: OPEN, KEEPALIVE, and pe1's route, with p's address as the cluster
+  -- pe2 has received from p: OPEN, KEEPALIVE, and pe1's route, with p's address as the cluster
   pub heard : joined.heard 2 1 ≡ Open ∷ KeepAlive ∷ Announce (record { export = export_of_pe1; clusters = 3221225986 ∷ [] }) ∷ []
   pub by_pe1 : reflected two_links by_p joined 0 ≡ export_of_pe2 ∷ []
   pub by_pe2 : reflected two_links by_p joined 2 ≡ export_of_pe1 ∷ []

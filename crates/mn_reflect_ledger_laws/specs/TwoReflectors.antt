@@ -59,7 +59,7 @@ pub record AreThroughTwo : Type 0 where
   pub quiet : all_joined.flying ≡ []
   -- of both reflectors the one of least address decides, and its own address stands first
   pub by_pe2 : at_pe2 all_joined ≡ Some (record { export = export_of_pe1; clusters = r2_address ∷ r1_address ∷ [] })
-  -- what r1 heard of pe2 itself, and not of r2
+  -- what r1 received from pe2 itself, and not from r2
   pub by_pe1 : from_reflectors two_reflectors by_both all_joined 0 route_of_pe2 ≡ Some (record { export = export_of_pe2; clusters = r1_address ∷ [] })
   -- r2 has lost the route of pe1, and r1 has not
   pub withdrawn : parted.flying ≡ record { from = 2; to = 3; word = Withdraw route_of_pe1 } ∷ []

@@ -35,7 +35,7 @@ words_to from to spokens = map (λ spoken. spoken.word) (filter (is_from_to from
 abbrev pub says : ℕ → ℕ → List Word → List Spoken
 says from to words = map (λ word. record { from = from; to = to; word = word }) words
 
--- 2. Before anything is said: switches, lives, and what is heard
+-- 2. Before anything is sent: switches, lives, and what is received
 
 abbrev pub restarted : ReflectWorld → ℕ → ℕ → ReflectWorld
 restarted world a b =
@@ -55,7 +55,7 @@ counted world _ = world
 abbrev pub unsaid : ReflectWorld → Step → ReflectWorld
 unsaid world done = record (counted world done) { config = config_after world.config done }
 
--- 3. What is said
+-- 3. What is sent
 
 -- all that a node offers a peer
 abbrev pub all_offers : Network → List ℕ → ReflectWorld → ℕ → ℕ → List Word
@@ -107,7 +107,7 @@ world_from topology reflectors world (done ∷ steps) = world_from topology refl
 abbrev pub world_of : Network → List ℕ → List Step → ReflectWorld
 world_of topology reflectors steps = world_from topology reflectors (start topology) steps
 
--- 4. A drain: at most so many hearings, the word said first of all each time
+-- 4. A drain: at most so many hearings, the word sent first of all each time
 
 abbrev pub hear_first : Network → List ℕ → ReflectWorld → List Spoken → ReflectWorld
 hear_first topology reflectors world [] = world

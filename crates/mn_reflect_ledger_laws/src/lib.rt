@@ -6,11 +6,11 @@
 //!                        '--picks for VRFs of other edges--> edge
 //! ```
 //!
-//! - `specs/Words`: what is said, and the last mention of a route
-//! - `specs/Picks`: what was heard, what a reflector picks, and what each node offers a peer
+//! - `specs/Words`: what is sent, and the last mention of a route
+//! - `specs/Picks`: what was received, what a reflector picks, and what each node offers a peer
 //! - `specs/World`: the world, what a step makes of it, and a drain
 //! - `specs/Refusal`: why a step is refused
-//! - `specs/Quiet`: what an edge holds; what was said; and where no word flies
+//! - `specs/Quiet`: what an edge holds; what was sent; and where no word flies
 //! - `specs/Holding`: what a VRF holds, beside a full mesh
 //! - `specs/Through`: through which reflectors a route came
 //! - `specs/TwoEdges`, `specs/TwoReflectors`: runs worked by hand
@@ -29,7 +29,7 @@ ghost use Rattle.std.specs.List.{Contains};
 ghost use Rattle.mn_reflect_ledger_laws.specs.Holding.{AreDone, HoldsItsRoutes};
 ghost use Rattle.mn_reflect_ledger_laws.specs.Quiet.{told, AreReflected, SaysItsOffers, AreReflectors, IsJoined, HasWhatIsExported};
 
-/// Each end that is Established has said to its peer what it offers now: an edge its exports, a reflector its picks.
+/// Each end that is Established has sent to its peer what it offers now: an edge its exports, a reflector its picks.
 pub fn each_end_says_what_it_offers()
     ensures { (topology : Network) (reflectors : List ℕ) (steps : List Step) → AreReflected topology steps →
         (node peer : ℕ) → node ≢ peer → node < length topology.loopbacks → peer < length topology.loopbacks →

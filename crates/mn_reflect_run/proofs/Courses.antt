@@ -23,7 +23,8 @@ use Rattle.mn_reflect_run.specs.declared.command.ReflectCommand.TheVariants as c
 use Rattle.mn_reflect_run.specs.declared.command.ReflectLine.{ReflectLine}
 use Rattle.mn_reflect_run.specs.declared.play.Played.{Played}
 use Rattle.mn_reflect_run.specs.declared.play.Played.TheVariants as played
-use Rattle.mn_reflect_run.specs.Course.{Note, Refusal, Table, ReflectRun, first_run, stepped, tried, unless_stopped, drained_by, drain_for, next_hearing, most_of, asked, after_line, run_from, run_of}
+use Rattle.mn_reflect_run.specs.Course.{Note, Refusal, Table, ReflectRun, first_run, stepped, tried, unless_stopped, drained_by, drain_for, next_hearing}
+use Rattle.mn_reflect_run.specs.Course.{most_of, asked, after_line, run_from, run_of}
 use Rattle.mn_reflect_run.specs.Language.{command_fits}
 use Rattle.mn_reflect_run.specs.Playing.{IsAt, Follows, IsAnswered, IsDrained, cause_of}
 
@@ -31,7 +32,8 @@ use Rattle.mn_reflect_run.specs.Playing.{IsAt, Follows, IsAnswered, IsDrained, c
 
 pub full : (run : ReflectRun) (done : Step) → length run.steps ≡ most_steps → stepped run done ≡ record run { is_stopped = true }
 full run done e =
-    ap (λ b. cond b (record run { is_stopped = true }) (record run { steps = run.steps ++ done ∷ [] })) (at_most_is most_steps (length run.steps) (omega (arith, e)))
+    ap (λ b. cond b (record run { is_stopped = true }) (record run { steps = run.steps ++ done ∷ [] }))
+    (at_most_is most_steps (length run.steps) (omega (arith, e)))
 
 pub room : (run : ReflectRun) (done : Step) → length run.steps < most_steps → stepped run done ≡ record run { steps = run.steps ++ done ∷ [] }
 room run done h =
@@ -75,7 +77,8 @@ Answered topology reflectors steps old new done result =
     × (OnOk result (IsRun topology reflectors (steps ++ done ∷ []) new))
     × (refusal topology (world_of topology reflectors steps) done ≡ None → IfErr result (λ why. why ≡ bad.NoMemory))
 
-module _ (topology : Network) (reflectors : List ℕ) (run : ReflectRun) (old new : ReflectNow) (number : ℕ) (done : Step) (at : IsAt topology reflectors run old) where
+module _ (topology : Network) (reflectors : List ℕ) (run : ReflectRun) (old new : ReflectNow) (number : ℕ) (done : Step)
+    (at : IsAt topology reflectors run old) where
   abbrev the_line : ReflectLine
   the_line = record { number = number; command = command.Do done }
 
@@ -156,9 +159,15 @@ pub drain_follows : (topology : Network) (reflectors : List ℕ) (after run : Re
     IsDrained topology reflectors after run how now → Follows topology reflectors after run (record { number = number; command = command.Drain most }) how now
 drain_follows topology reflectors after run number most played.All now is = record { stands = is.0; told = is.1 ∙ sym (append-nil run.notes); shows = tt }
 drain_follows topology reflectors after run number most (played.Refused why) now is = absurd is
-drain_follows topology reflectors after run number most played.TooManySteps now is = record { stands = is.0; told = is.1 ∙ sym (append-nil run.notes); shows = tt }
+drain_follows topology reflectors after run number most played.TooManySteps now is = record {
+  stands = is.0;
+  told = is.1
+      ∙ sym (append-nil run.notes);
+  shows = tt;
+}
 
-pub line_drains : (result : Result Played AllocError) (line : ReflectLine) (old new : ReflectNow) (most : Option ℕ) (turns : ℕ) → line.command ≡ command.Drain most →
+pub line_drains : (result : Result Played AllocError) (line : ReflectLine) (old new : ReflectNow) (most : Option ℕ) (turns : ℕ) →
+    line.command ≡ command.Drain most →
     turns ≡ most_of most →
     IfOk result (λ how. (topology : Network) (reflectors : List ℕ) (run : ReflectRun) → IsAt topology reflectors run old →
     IsDrained topology reflectors (drain_for turns topology reflectors run) run how new) →
@@ -171,8 +180,10 @@ line_drains (Ok how) line old new most turns is so h = λ topology reflectors ru
     (subst (λ n. IsDrained topology reflectors (drain_for n topology reflectors run) run how new) so (h topology reflectors run at)))
 
 -- a line that shows a table changes nothing
-pub show_follows : (topology : Network) (reflectors : List ℕ) (run : ReflectRun) (number : ℕ) (vrf : VrfNo) (now : ReflectNow) → IsAt topology reflectors run now →
-    Follows topology reflectors (asked topology reflectors run number (command.Show vrf)) run (record { number = number; command = command.Show vrf }) played.All now
+pub show_follows : (topology : Network) (reflectors : List ℕ) (run : ReflectRun) (number : ℕ) (vrf : VrfNo) (now : ReflectNow) →
+    IsAt topology reflectors run now →
+    Follows topology reflectors (asked topology reflectors run number (command.Show vrf)) run (record { number = number; command = command.Show vrf })
+    played.All now
 show_follows topology reflectors run number vrf now at = record {
   stands = record { stands = at.stands; goes_on = at.goes_on; few = at.few };
   told = refl;
@@ -183,7 +194,8 @@ pub line_shows : (line : ReflectLine) (now : ReflectNow) (vrf : VrfNo) → line.
     (topology : Network) (reflectors : List ℕ) (run : ReflectRun) → IsAt topology reflectors run now → command_fits topology reflectors line.command ≡ true →
     Follows topology reflectors (after_line topology reflectors run line) run line played.All now
 line_shows line now vrf is topology reflectors run at fits =
-    subst (λ x. Follows topology reflectors (asked topology reflectors run line.number x) run (record { number = line.number; command = x }) played.All now) (sym is)
+    subst (λ x. Follows topology reflectors (asked topology reflectors run line.number x) run (record { number = line.number; command = x }) played.All now)
+    (sym is)
     (show_follows topology reflectors run line.number vrf now at)
 
 -- 3. A drain, turn by turn
@@ -230,14 +242,16 @@ module _ (topology : Network) (reflectors : List ℕ) where
 
   module _ (run : ReflectRun) (all left : ℕ) (now new : ReflectNow) (hearing : Step) (come : ComesTo run all (suc left) now)
       (flies : next_hearing topology reflectors come.later ≡ Some hearing) where
-    goes_to : (after : ReflectRun) → stepped come.later hearing ≡ after → drain_for all topology reflectors run ≡ unless_stopped after (λ later. drains left later)
+    goes_to : (after : ReflectRun) → stepped come.later hearing ≡ after →
+        drain_for all topology reflectors run ≡ unless_stopped after (λ later. drains left later)
     goes_to after e =
         come.same_end ∙ ap (λ o. drained_by (λ later. drains left later) come.later o) flies ∙ ap (λ r. unless_stopped r (λ later. drains left later)) e
 
     -- one flies: where steps are full, the run stops
     pub ends_full : length come.later.steps ≡ most_steps → IsDrained topology reflectors (drain_for all topology reflectors run) run played.TooManySteps now
     ends_full is_full =
-        subst (λ r. (r.is_stopped ≡ true) × (r.notes ≡ run.notes)) (sym (goes_to (record come.later { is_stopped = true }) (full come.later hearing is_full))) (refl, come.told)
+        subst (λ r. (r.is_stopped ≡ true) × (r.notes ≡ run.notes)) (sym (goes_to (record come.later { is_stopped = true }) (full come.later hearing is_full)))
+        (refl, come.told)
 
     -- and else it is received
     pub hears : length come.later.steps ≢ most_steps → IsRun topology reflectors (come.later.steps ++ hearing ∷ []) new → ComesTo run all left new
@@ -301,7 +315,8 @@ module _ (topology : Network) (reflectors : List ℕ) where
   pub lines_tell : (lines : List ReflectLine) (run : ReflectRun) → TellsMore run (run_from topology reflectors run lines)
   lines_tell [] run = as_before run run refl
   lines_tell (line ∷ lines) run =
-      by (after_line topology reflectors run line) (asked_tells run line.number line.command) (λ r. lines_tell lines r) (after_line topology reflectors run line).is_stopped
+      by (after_line topology reflectors run line) (asked_tells run line.number line.command) (λ r. lines_tell lines r)
+      (after_line topology reflectors run line).is_stopped
     where
       by : (r : ReflectRun) → TellsMore run r → ((x : ReflectRun) → TellsMore x (run_from topology reflectors x lines)) → (b : Bool) →
           TellsMore run (cond b r (run_from topology reflectors r lines))
@@ -330,7 +345,8 @@ module _ (topology : Network) (reflectors : List ℕ) where
   course lines = run_of topology reflectors lines
 
   -- the course of the lines before is gone on with
-  pub course_on : (front back : List ReflectLine) → (course front).is_stopped ≡ false → course (front ++ back) ≡ run_from topology reflectors (course front) back
+  pub course_on : (front back : List ReflectLine) → (course front).is_stopped ≡ false →
+      course (front ++ back) ≡ run_from topology reflectors (course front) back
   course_on front back goes = run_on front back first_run goes
 
   pub course_next : (front : List ReflectLine) (line : ReflectLine) → (course front).is_stopped ≡ false →

@@ -19,7 +19,8 @@ use Rattle.mn_reflect_drain_laws.specs.Drain.{ArePeers, IsHearing, IsDrain}
 use Rattle.mn_reflect_run.specs.declared.command.ReflectCommand.{ReflectCommand}
 use Rattle.mn_reflect_run.specs.declared.command.ReflectCommand.TheVariants as command
 use Rattle.mn_reflect_run.specs.declared.command.ReflectLine.{ReflectLine}
-use Rattle.mn_reflect_run.specs.Course.{ReflectRun, first_run, stepped, tried, unless_stopped, drained_by, drain_for, next_hearing, every_hearing, most_of, asked, after_line, run_from, run_of}
+use Rattle.mn_reflect_run.specs.Course.{ReflectRun, first_run, stepped, tried, unless_stopped, drained_by, drain_for, next_hearing, every_hearing, most_of}
+use Rattle.mn_reflect_run.specs.Course.{asked, after_line, run_from, run_of}
 use Rattle.mn_reflect_run.proofs.Hearings.{may_all, live_peers, first_flies}
 use Rattle.mn_reflect_run.proofs.Sound.{hearing_more}
 use Rattle.mn_reflect_run.proofs.Courses.{course_next}
@@ -31,7 +32,8 @@ module _ (t : Network) (reflectors : List ℕ) where
   pub peers_are : (steps : List Step) → AreTaken t reflectors steps → ArePeers t reflectors (world_of t reflectors steps).config
   peers_are steps taken node peer apart live off =
       let may = live_peers t reflectors (world_of t reflectors steps).config (may_all t reflectors steps taken).live node peer live in
-      elim (or_ways (is_reflector reflectors node && (is_reflector reflectors peer || is_edge t.vrfs peer)) (is_reflector reflectors peer && is_edge t.vrfs node)
+      elim (or_ways (is_reflector reflectors node && (is_reflector reflectors peer || is_edge t.vrfs peer))
+      (is_reflector reflectors peer && is_edge t.vrfs node)
       (and_right (not (node == peer)) _ may)) [
         | inl e ↦ absurd (no (sym off ∙ and_left (is_reflector reflectors node) (is_reflector reflectors peer || is_edge t.vrfs peer) e))
         | inr e ↦ (and_right (is_reflector reflectors peer) (is_edge t.vrfs node) e, and_left (is_reflector reflectors peer) (is_edge t.vrfs node) e)
@@ -40,7 +42,8 @@ module _ (t : Network) (reflectors : List ℕ) where
   first_is_hearing : (steps : List Step) (hearing : Step) → IsLawfulRun t reflectors steps → (flying : List Spoken) →
       (world_of t reflectors steps).flying ≡ flying → first_hearing flying ≡ Some hearing → IsHearing t (world_of t reflectors steps) hearing
   first_is_hearing steps hearing run [] is e = cc
-  first_is_hearing steps hearing run (spoken ∷ more) is e = subst heard e (names, ap is_none (ap (first_word spoken.from spoken.to) is ∙ first_flies t reflectors spoken more))
+  first_is_hearing steps hearing run (spoken ∷ more) is e =
+      subst heard e (names, ap is_none (ap (first_word spoken.from spoken.to) is ∙ first_flies t reflectors spoken more))
     where
       heard : Option Step → Type 0
       heard (Some done) = IsHearing t (world_of t reflectors steps) done

@@ -7,7 +7,8 @@ use Rattle.mn_topo.specs.Network.{Network}
 use Rattle.mn_topo_toml.specs.Topology.{topology_of}
 use Rattle.mn_answer.specs.declared.outcome.Limit.TheVariants.{Steps}
 use Rattle.mn_answer.specs.declared.outcome.Outcome.{Outcome}
-use Rattle.mn_answer.specs.declared.outcome.Outcome.TheVariants.{Done, Usage, ReadFault, WriteFault, NoMemory, BadTopology, BadScript, BadCapture, BadSecond, BadJoints, TooLarge}
+use Rattle.mn_answer.specs.declared.outcome.Outcome.TheVariants.{Done, Usage, ReadFault, WriteFault, NoMemory, BadTopology, BadScript, BadCapture, BadSecond}
+use Rattle.mn_answer.specs.declared.outcome.Outcome.TheVariants.{BadJoints, TooLarge}
 use Rattle.mn_answer.specs.Endings.{OutcomeIs, TextIs, SinkCausedBy}
 use Rattle.mn_reflect_telling.specs.Mentions.{numbers_of}
 use Rattle.mn_reflect_run.specs.Language.{Script, script_of}
@@ -32,7 +33,8 @@ module _ (topology : Network) (reflectors : List ℕ) (run : ReflectRun) where
   text_by true before written e = e
   text_by false before written e = e
 
-  pub text_told : (outcome : Outcome) (before : List ℕ) (written : Option (List ℕ)) → outcome ≡ outcome_of run → written ≡ Some (before ++ report topology reflectors run) →
+  pub text_told : (outcome : Outcome) (before : List ℕ) (written : Option (List ℕ)) → outcome ≡ outcome_of run →
+      written ≡ Some (before ++ report topology reflectors run) →
       TextIs (Some (told topology reflectors run)) before written outcome
   text_told outcome before written is e = subst (TextIs (Some (told topology reflectors run)) before written) (sym is) (text_by run.is_stopped before written e)
 
@@ -83,7 +85,8 @@ script_undone topology script files before written (BadJoints rule line) not = t
 script_undone topology script files before written (TooLarge which limit) not = tt
 
 pub reflect_told : (topology : Network) (name script : List ℕ) (files : Files) (before : List ℕ) (written : Option (List ℕ)) (o : Outcome) →
-    option_map topology_of (file files name) ≡ Some (Ok topology) → IsScriptTold topology script files before written o → IsReflectTold name script files before written o
+    option_map topology_of (file files name) ≡ Some (Ok topology) → IsScriptTold topology script files before written o →
+    IsReflectTold name script files before written o
 reflect_told topology name script files before written Done read kept = record { topology = topology; topology_read = read; script = kept }
 reflect_told topology name script files before written Usage read kept = tt
 reflect_told topology name script files before written ReadFault read kept = tt

@@ -9,7 +9,8 @@ use Rattle.mn_script.specs.Words.{line_words}
 use Rattle.mn_script.specs.Reading.{number_after}
 use Rattle.mn_script.specs.Steps.{route_line, target_operands, import_line, export_line, site_line}
 use Rattle.mn_reflect_telling.specs.Mentions.{numbers_of}
-use Rattle.mn_reflect_run.specs.Language.{Script, reflector_line, bgp_line, hear_line, step_line, do_line, bounded_drain, drain_line, show_line, command_line, with_line, followed, read_from}
+use Rattle.mn_reflect_run.specs.Language.{Script, reflector_line, bgp_line, hear_line, step_line, do_line, bounded_drain, drain_line, show_line, command_line}
+use Rattle.mn_reflect_run.specs.Language.{with_line, followed, read_from}
 use Rattle.mn_reflect_run.specs.Reading.{IsRead, ReadsScript}
 
 -- five words and more
@@ -100,13 +101,15 @@ module _ (network : Network) (a b c d e : List ℕ) (ws : List (List ℕ)) where
   line_more number script = rw (many a b c d e ws 0 (lit< tt), reflector_more script, command_more (numbers_of script.reflectors)) refl
 
 -- six words are enough to know what a line says
-pub line_by_six : (network : Network) (number : ℕ) (ws : List (List ℕ)) (script : Script) → with_line network number (take 6 ws) script ≡ with_line network number ws script
+pub line_by_six : (network : Network) (number : ℕ) (ws : List (List ℕ)) (script : Script) →
+    with_line network number (take 6 ws) script ≡ with_line network number ws script
 line_by_six network number [] script = refl
 line_by_six network number (a ∷ []) script = refl
 line_by_six network number (a ∷ b ∷ []) script = refl
 line_by_six network number (a ∷ b ∷ c ∷ []) script = refl
 line_by_six network number (a ∷ b ∷ c ∷ d ∷ []) script = refl
-line_by_six network number (a ∷ b ∷ c ∷ d ∷ e ∷ ws) script = line_more network a b c d e (take 1 ws) number script ∙ sym (line_more network a b c d e ws number script)
+line_by_six network number (a ∷ b ∷ c ∷ d ∷ e ∷ ws) script = line_more network a b c d e (take 1 ws) number script
+    ∙ sym (line_more network a b c d e ws number script)
 
 -- the line of a number, and then those behind it
 pub read_more : (network : Network) (number next : ℕ) (old new : Script) (line : List ℕ) (rest : List (List ℕ)) → next ≡ number_after number →
@@ -119,8 +122,10 @@ pub read_stops : (network : Network) (number : ℕ) (old : Script) (line : List 
 read_stops network number old line rest rule said = ap (λ r. followed number r (λ read. read_from network (number_after number) read rest)) said
 
 -- a rule that refuses a line refuses the script
-pub reads_none : (number : ℕ) (read : Result Script ScriptRule) (new : Script) (bad : ScriptBad) (r : Result Script ScriptBad) (all : Result Script (ScriptRule × ℕ)) →
-    IsErr r × IsErrAnd r (λ y. y ≡ bad) → IsRead number read new (Err bad) → ((rule : ScriptRule) → read ≡ Err rule → all ≡ Err (rule, number)) → ReadsScript r all
+pub reads_none : (number : ℕ) (read : Result Script ScriptRule) (new : Script) (bad : ScriptBad) (r : Result Script ScriptBad)
+    (all : Result Script (ScriptRule × ℕ)) →
+    IsErr r × IsErrAnd r (λ y. y ≡ bad) → IsRead number read new (Err bad) → ((rule : ScriptRule) → read ≡ Err rule → all ≡ Err (rule, number)) →
+    ReadsScript r all
 reads_none number read new bad (Ok script) all from is stops = absurd from.1
 reads_none number read new bad (Err other) all from is stops = subst (λ b. ReadsScript (Err b) all) (sym from.1) (by bad is)
   where

@@ -17,7 +17,8 @@ use Rattle.mn_ledger.specs.declared.refused.Refused.{Refused}
 use Rattle.mn_ledger.specs.declared.refused.Refused.TheVariants as cause
 use Rattle.mn_reflect_ledger_laws.specs.Words.{Key, Word, Open, change}
 use Rattle.mn_reflect_ledger_laws.specs.Picks.{Spoken, ReflectWorld, is_established, is_reflector, offered}
-use Rattle.mn_reflect_ledger_laws.specs.World.{start, is_from_to, is_between, first_word, without_first, says, heard_one, counted, unsaid, replies, is_steady, news_of, news, said_in, after, world_from, world_of}
+use Rattle.mn_reflect_ledger_laws.specs.World.{start, is_from_to, is_between, first_word, without_first, says, heard_one, counted, unsaid, replies, is_steady}
+use Rattle.mn_reflect_ledger_laws.specs.World.{news_of, news, said_in, after, world_from, world_of}
 use Rattle.mn_reflect_ledger_laws.specs.Refusal.{refusal}
 use Rattle.mn_reflect_world_laws.specs.Steps.{may_peer, takes, AreTaken, first_hearing}
 
@@ -55,7 +56,8 @@ module _ (topology : Network) (reflectors : List ℕ) where
 
   -- a pair that is set to be live, or not, and all others as before
   set_pair : (on : ℕ → ℕ → Bool) (k m : ℕ) (up : Bool) → (up ≡ true → may_peer topology reflectors k m ≡ true) →
-      ((a b : ℕ) → on a b ≡ true → may_peer topology reflectors a b ≡ true) → (a b : ℕ) → put_pair on k m up a b ≡ true → may_peer topology reflectors a b ≡ true
+      ((a b : ℕ) → on a b ≡ true → may_peer topology reflectors a b ≡ true) → (a b : ℕ) → put_pair on k m up a b ≡ true →
+      may_peer topology reflectors a b ≡ true
   set_pair on k m up may live a b h = by (a == k) refl h
     where
       in_row : (y : Bool) → (b == m) ≡ y → cond y up (on k b) ≡ true → may_peer topology reflectors k b ≡ true
@@ -161,7 +163,8 @@ module _ (topology : Network) (reflectors : List ℕ) where
       words : List Word
       words = change key (offered topology reflectors world node peer key) (offered topology reflectors new node peer key)
 
-      by : (b : Bool) → is_steady world new node peer ≡ b → In (cond b (says node peer words) []) spoken → may_peer topology reflectors spoken.from spoken.to ≡ true
+      by : (b : Bool) → is_steady world new node peer ≡ b → In (cond b (says node peer words) []) spoken →
+          may_peer topology reflectors spoken.from spoken.to ≡ true
       by true e i =
           said_by node peer words spoken
           (live_peers world.config all.live node peer (and_left (peers_live world.config node peer) _ (and_left (is_established world node peer) _ e))) i
@@ -187,7 +190,8 @@ module _ (topology : Network) (reflectors : List ℕ) where
     ];
   }
 
-  may_from : (steps : List Step) (world : ReflectWorld) → AreTaken topology reflectors steps → MayAll world → MayAll (world_from topology reflectors world steps)
+  may_from : (steps : List Step) (world : ReflectWorld) → AreTaken topology reflectors steps → MayAll world →
+      MayAll (world_from topology reflectors world steps)
   may_from [] world t all = all
   may_from (done ∷ steps) world t all = may_from steps (after topology reflectors world done) t.1 (may_after world done t.0 all)
 
@@ -195,7 +199,8 @@ module _ (topology : Network) (reflectors : List ℕ) where
   may_all steps t = may_from steps (start topology) t (record { live = λ a b h. absurd (no h); flies = λ spoken i. absurd i })
 
   -- the message that was sent first of all may be received
-  pub hearing_takes : (flying : List Spoken) (hearing : Step) → ((spoken : Spoken) → In flying spoken → may_peer topology reflectors spoken.from spoken.to ≡ true) →
+  pub hearing_takes : (flying : List Spoken) (hearing : Step) →
+      ((spoken : Spoken) → In flying spoken → may_peer topology reflectors spoken.from spoken.to ≡ true) →
       first_hearing flying ≡ Some hearing → takes topology reflectors hearing ≡ true
   hearing_takes [] hearing may e = cc
   hearing_takes (spoken ∷ more) hearing may e =

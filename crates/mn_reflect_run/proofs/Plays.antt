@@ -1,5 +1,6 @@
 -- What stands on the page as lines are played.
-use Rattle.std.proofs.Common.{ℕ, zero, suc, ◌≡◌, ◌+◌, ◌<◌, ◌≤◌, inl, inr, false, Bool, true, cond, List, [], ◌∷◌, ◌++◌, length, take, drop, get_or, Option, Result, Ok, Err, IsErr}
+use Rattle.std.proofs.Common.{ℕ, zero, suc, ◌≡◌, ◌+◌, ◌<◌, ◌≤◌, inl, inr, false, Bool, true, cond, List, [], ◌∷◌, ◌++◌, length, take, drop, get_or, Option}
+use Rattle.std.proofs.Common.{Result, Ok, Err, IsErr}
 use Rattle.std.proofs.Common.{refl, arith, sym, ◌∙◌, ap, subst, append_assoc, append-nil, length-append}
 use Rattle.std.specs.Prelude.{All, codes, filter, if◌then◌else◌}
 use Rattle.std.specs.Result.{IsErrAnd}
@@ -82,7 +83,8 @@ begins_with topology reflectors run past these more e =
 
 -- the notes after some are cut
 pub cut_after : (topology : Network) (reflectors : List ℕ) (run : ReflectRun) (past these more : List Note) (s t u : Stand) (e : DeviceBad) →
-    run.notes ≡ (past ++ these) ++ more → Told (notes_text topology reflectors past) s t → Tells {T = Unit {0}} (notes_text topology reflectors these) t u (Err e) →
+    run.notes ≡ (past ++ these) ++ more → Told (notes_text topology reflectors past) s t →
+    Tells {T = Unit {0}} (notes_text topology reflectors these) t u (Err e) →
     Tells {T = Unit {0}} (report topology reflectors run) s u (Err e)
 cut_after topology reflectors run past these more s t u e is before this =
     tells_within (notes_text topology reflectors past) (notes_text topology reflectors these)
@@ -136,7 +138,8 @@ module _ (topology : Network) (reflectors : List ℕ) (lines : List ReflectLine)
   want_at =
       let more = lines_tell topology reflectors (drop i lines) before in
       cut_after topology reflectors (run_of topology reflectors lines) before.notes [] more.more s t t NoMemory
-      (ap (λ (r : ReflectRun). r.notes) (course_all topology reflectors lines i past.at.goes_on) ∙ more.is ∙ ap (λ xs. xs ++ more.more) (sym (append-nil before.notes)))
+      (ap (λ (r : ReflectRun). r.notes) (course_all topology reflectors lines i past.at.goes_on) ∙ more.is
+      ∙ ap (λ xs. xs ++ more.more) (sym (append-nil before.notes)))
       past.told (tells_want [] t)
 
   module _ (line : ReflectLine) (below : i < length lines) (here : line ≡ get_or lines i line) where
@@ -203,7 +206,8 @@ module _ (topology : Network) (reflectors : List ℕ) (lines : List ReflectLine)
         }
 
 -- the VRF of a table is there
-pub table_there : (topology : Network) (reflectors : List ℕ) (wanted : ReflectCommand) → command_fits topology reflectors wanted ≡ true → HasTable topology wanted
+pub table_there : (topology : Network) (reflectors : List ℕ) (wanted : ReflectCommand) → command_fits topology reflectors wanted ≡ true →
+    HasTable topology wanted
 table_there topology reflectors (command.Do done) fits = tt
 table_there topology reflectors (command.Drain most) fits = tt
 table_there topology reflectors (command.Show vrf) fits = less_tells vrf.0 (length topology.vrfs) fits
@@ -220,7 +224,8 @@ line_fits topology reflectors lines i d below fit =
     there (x ∷ xs) zero h = inl refl
     there (x ∷ xs) (suc n) h = inr (there xs n (omega (arith, h)))
 
-pub this_fits : (topology : Network) (reflectors : List ℕ) (lines : List ReflectLine) (i : ℕ) (line : ReflectLine) → line ≡ get_or lines i line → i < length lines →
+pub this_fits : (topology : Network) (reflectors : List ℕ) (lines : List ReflectLine) (i : ℕ) (line : ReflectLine) → line ≡ get_or lines i line →
+    i < length lines →
     All (λ (line : ReflectLine). command_fits topology reflectors line.command ≡ true) lines → command_fits topology reflectors line.command ≡ true
 this_fits topology reflectors lines i line here below fit =
     subst (λ (l : ReflectLine). command_fits topology reflectors l.command ≡ true) (sym here) (line_fits topology reflectors lines i line below fit)
@@ -241,7 +246,8 @@ module _ (topology : Network) (reflectors : List ℕ) (steps : List Step) where
   one_note note = sym (append-nil (note_text topology reflectors note))
 
   pub refusal_told : (line : ReflectLine) (how : Played) (why : Refused) (s t : Stand) (count : ℕ) → how ≡ played.Refused why →
-      Told (note_text topology reflectors (Refusal line.number why)) s t → Tells {T = ℕ} (notes_text topology reflectors (notes_by steps line how)) s t (Ok count)
+      Told (note_text topology reflectors (Refusal line.number why)) s t →
+      Tells {T = ℕ} (notes_text topology reflectors (notes_by steps line how)) s t (Ok count)
   refusal_told line how why s t count is this =
       subst (λ h. Tells {T = ℕ} (notes_text topology reflectors (notes_by steps line h)) s t (Ok count)) (sym is)
       (tells_ok (notes_text topology reflectors (Refusal line.number why ∷ [])) s t count
@@ -256,7 +262,8 @@ module _ (topology : Network) (reflectors : List ℕ) (steps : List Step) where
       (subst (λ xs. Tells {T = Unit {0}} xs s t (Err e)) (one_note (Refusal line.number why)) this))
 
   pub shown_told : (line : ReflectLine) (how : Played) (s t : Stand) (count : ℕ) → how ≡ played.All →
-      Told (notes_text topology reflectors (shown_by steps line.command)) s t → Tells {T = ℕ} (notes_text topology reflectors (notes_by steps line how)) s t (Ok count)
+      Told (notes_text topology reflectors (shown_by steps line.command)) s t →
+      Tells {T = ℕ} (notes_text topology reflectors (notes_by steps line how)) s t (Ok count)
   shown_told line how s t count is this =
       subst (λ h. Tells {T = ℕ} (notes_text topology reflectors (notes_by steps line h)) s t (Ok count)) (sym is)
       (tells_ok (notes_text topology reflectors (shown_by steps line.command)) s t count this)
@@ -279,7 +286,8 @@ module _ (topology : Network) (reflectors : List ℕ) (steps : List Step) where
       subst (λ x. Tells (notes_text topology reflectors (shown_by steps x)) s t r) (sym is) (subst (λ xs. Tells xs s t r) (one_note (Table v.0 steps)) this)
 
 -- an error of the call
-pub plays_err : (topology : Network) (reflectors : List ℕ) (lines : List ReflectLine) (now : ReflectNow) (s t : Stand) (e : DeviceBad) (r : Result Ended DeviceBad) →
+pub plays_err : (topology : Network) (reflectors : List ℕ) (lines : List ReflectLine) (now : ReflectNow) (s t : Stand) (e : DeviceBad)
+    (r : Result Ended DeviceBad) →
     IsErr r × IsErrAnd r (λ y. y ≡ e) → Tells {T = Unit {0}} (report topology reflectors (run_of topology reflectors lines)) s t (Err e) →
     PlaysAll topology reflectors lines now s t r
 plays_err topology reflectors lines now s t e (Ok how) from this = absurd from.1
@@ -287,7 +295,8 @@ plays_err topology reflectors lines now s t e (Err other) from this =
     subst (λ y. Tells {T = Unit {0}} (report topology reflectors (run_of topology reflectors lines)) s t (Err y)) (sym from.1) this
 
 -- of the lines as a script has them
-pub plays_as : (topology : Network) (reflectors : List ℕ) (lines all : List ReflectLine) (now : ReflectNow) (s t : Stand) (r : Result Ended DeviceBad) → lines ≡ all →
+pub plays_as : (topology : Network) (reflectors : List ℕ) (lines all : List ReflectLine) (now : ReflectNow) (s t : Stand) (r : Result Ended DeviceBad) →
+    lines ≡ all →
     PlaysAll topology reflectors lines now s t r → PlaysAll topology reflectors all now s t r
 plays_as topology reflectors lines all now s t r e = subst (λ ls. PlaysAll topology reflectors ls now s t r) e
 
@@ -296,7 +305,8 @@ pub cut_as : (topology : Network) (reflectors : List ℕ) (lines all : List Refl
 cut_as topology reflectors lines all s t e = subst (λ ls. AreCut topology reflectors ls s t) e
 
 -- once no line is left
-pub all_played : (topology : Network) (reflectors : List ℕ) (lines all : List ReflectLine) (i : ℕ) (now : ReflectNow) (refused : ℕ) (s t : Stand) → length lines ≤ i →
+pub all_played : (topology : Network) (reflectors : List ℕ) (lines all : List ReflectLine) (i : ℕ) (now : ReflectNow) (refused : ℕ) (s t : Stand) →
+    length lines ≤ i →
     lines ≡ all → ArePlayed topology reflectors (take i lines) now refused s t → ArePlayed topology reflectors all now refused s t
 all_played topology reflectors lines all i now refused s t past e =
     subst (λ ls. ArePlayed topology reflectors ls now refused s t) (take_all i lines past ∙ e)
@@ -313,7 +323,8 @@ module _ (topology : Network) (reflectors : List ℕ) (lines : List ReflectLine)
 
   whole_is : notes_text topology reflectors ran.notes ++ last ≡ report topology reflectors ran
   whole_is =
-      ap (λ n. notes_text topology reflectors ran.notes ++ total_line (length ran.steps) n (length (world_of topology reflectors ran.steps).flying)) (sym past.counted)
+      ap (λ n. notes_text topology reflectors ran.notes ++ total_line (length ran.steps) n (length (world_of topology reflectors ran.steps).flying))
+      (sym past.counted)
       ∙ ap (λ b. notes_text topology reflectors ran.notes ++ cond b (codes "too large steps\n")
       (total_line (length ran.steps) (refusals ran.notes) (length (world_of topology reflectors ran.steps).flying))) (sym past.at.goes_on)
 
@@ -335,10 +346,12 @@ module _ (topology : Network) (reflectors : List ℕ) (lines : List ReflectLine)
       (total_line (length stopped.steps) (refusals stopped.notes) (length (world_of topology reflectors stopped.steps).flying))) (sym past.stopped)
 
   pub full_told : (u : Stand) → Told (codes "too large steps\n") t u → Told (report topology reflectors stopped) s u
-  full_told u this = subst (λ xs. Told xs s u) full_is (told_more (notes_text topology reflectors stopped.notes) (codes "too large steps\n") s t u past.told this)
+  full_told u this = subst (λ xs. Told xs s u) full_is
+      (told_more (notes_text topology reflectors stopped.notes) (codes "too large steps\n") s t u past.told this)
 
   pub full_cut : (u : Stand) (e : DeviceBad) → Tells {T = Unit {0}} (codes "too large steps\n") t u (Err e) →
       Tells {T = Unit {0}} (report topology reflectors stopped) s u (Err e)
   full_cut u e this =
-      tells_within (notes_text topology reflectors stopped.notes) (codes "too large steps\n") [] (report topology reflectors stopped) s t u e (Err e) (refl, refl)
+      tells_within (notes_text topology reflectors stopped.notes) (codes "too large steps\n") [] (report topology reflectors stopped) s t u e (Err e)
+      (refl, refl)
       past.told this (ap (λ xs. notes_text topology reflectors stopped.notes ++ xs) (append-nil (codes "too large steps\n")) ∙ full_is)

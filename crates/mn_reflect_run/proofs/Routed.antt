@@ -55,13 +55,15 @@ abbrev label_in : Source → ℕ
 label_in (from.Far loopback rd edge label) = label
 label_in _ = 0
 
-own_by : (labels : Labels) (route : HeldRoute) (source : ledger_held.Source) (site : SiteNo) → from.Own site ≡ source_from labels route.edge route.site route.attachment source →
+own_by : (labels : Labels) (route : HeldRoute) (source : ledger_held.Source) (site : SiteNo) →
+    from.Own site ≡ source_from labels route.edge route.site route.attachment source →
     (source ≡ ledger_held.Own) × (site.0 ≡ route.site)
 own_by labels route ledger_held.Own site is = (refl, ap site_in is)
 own_by labels route (ledger_held.Near v) site is = cc
 own_by labels route (ledger_held.Far address rd) site is = cc
 
-pub is_own : (labels : Labels) (route : HeldRoute) (site : SiteNo) → from.Own site ≡ source_from labels route.edge route.site route.attachment route.source → IsOwn route site
+pub is_own : (labels : Labels) (route : HeldRoute) (site : SiteNo) → from.Own site ≡ source_from labels route.edge route.site route.attachment route.source →
+    IsOwn route site
 is_own labels route site is = let both = own_by labels route route.source site is in record { source_is = both.0; site_is = both.1 }
 
 near_by : (labels : Labels) (route : HeldRoute) (source : ledger_held.Source) (other : VrfNo) (site : SiteNo) →
@@ -71,7 +73,8 @@ near_by labels route ledger_held.Own other site is = cc
 near_by labels route (ledger_held.Near v) other site is = (ap ledger_held.Near (sym (ap vrf_in is)), ap site_in is)
 near_by labels route (ledger_held.Far address rd) other site is = cc
 
-pub is_near : (labels : Labels) (route : HeldRoute) (other : VrfNo) (site : SiteNo) → from.Near other site ≡ source_from labels route.edge route.site route.attachment route.source →
+pub is_near : (labels : Labels) (route : HeldRoute) (other : VrfNo) (site : SiteNo) →
+    from.Near other site ≡ source_from labels route.edge route.site route.attachment route.source →
     IsNear route other site
 is_near labels route other site is = let both = near_by labels route route.source other site is in record { source_is = both.0; site_is = both.1 }
 
@@ -137,7 +140,8 @@ held_there labels routes place prefix source is =
 -- the text of a route that is put is the line at its place
 pub line_is : (topology : Network) (labels : Labels) (v : ℕ) (routes : List HeldRoute) (place : ℕ) (prefix : AddressBlock) (source : Source)
     → (there : HeldThere labels routes place prefix source)
-    → route_line topology labels v (Some there.route) ≡ line_at topology labels v routes (get_or (prefixes_of routes) place (record { address = 0; length = 0 }))
+    → route_line topology labels v (Some there.route) ≡ line_at topology labels v routes
+    (get_or (prefixes_of routes) place (record { address = 0; length = 0 }))
 line_is topology labels v routes place prefix source there = ap (route_line topology labels v) (sym there.best)
 
 pub nothing_held : (labels : Labels) (routes : List HeldRoute) (place : ℕ) → None ≡ option_map (as_held labels) (held_at routes place) →
@@ -157,7 +161,8 @@ module _ (topology : Network) (labels : Labels) (v : ℕ) (route : HeldRoute) wh
   abbrev with_source : List ℕ → List ℕ
   with_source source = text (codes "route " ∷ vrf_name topology v ∷ codes " " ∷ prefix_text route.prefix ∷ codes " " ∷ source ∷ codes "\n" ∷ [])
 
-  same_line : (source : ledger_held.Source) → route.source ≡ source → output.source_text topology no_labels route source ≡ source_text topology labels route source →
+  same_line : (source : ledger_held.Source) → route.source ≡ source →
+      output.source_text topology no_labels route source ≡ source_text topology labels route source →
       output.route_line topology no_labels v (Some route) ≡ route_line topology labels v (Some route)
   same_line source is same =
       ap (λ s. with_source (output.source_text topology no_labels route s)) is ∙ ap with_source same

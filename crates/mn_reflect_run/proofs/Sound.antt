@@ -1,5 +1,6 @@
 -- What was done before a table is shown is a lawful run.
-use Rattle.std.proofs.Common.{ℕ, zero, suc, ◌≡◌, ◌≢◌, ◌<◌, inl, inr, Bool, true, false, cond, List, [], ◌∷◌, ◌++◌, length, Option, Some, None, refl, sym, ◌∙◌, ap, subst}
+use Rattle.std.proofs.Common.{ℕ, zero, suc, ◌≡◌, ◌≢◌, ◌<◌, inl, inr, Bool, true, false, cond, List, [], ◌∷◌, ◌++◌, length, Option, Some, None, refl, sym, ◌∙◌}
+use Rattle.std.proofs.Common.{ap, subst}
 use Rattle.std.specs.Prelude.{◌==◌, ◌&&◌, ◌||◌, not, nat_lt, nat_le, All}
 use Rattle.std.proofs.lemmas.List.Elements.{recursion_from_All}
 use Rattle.mn_base.specs.Limits.{most_steps}
@@ -22,7 +23,8 @@ use Rattle.mn_reflect_run.specs.declared.command.ReflectCommand.{ReflectCommand}
 use Rattle.mn_reflect_run.specs.declared.command.ReflectCommand.TheVariants as command
 use Rattle.mn_reflect_run.specs.declared.command.ReflectLine.{ReflectLine}
 use Rattle.mn_reflect_run.specs.Language.{command_fits}
-use Rattle.mn_reflect_run.specs.Course.{Note, Refusal, Table, ReflectRun, first_run, stepped, tried, drained_by, drain_for, next_hearing, most_of, asked, after_line, run_from, run_of}
+use Rattle.mn_reflect_run.specs.Course.{Note, Refusal, Table, ReflectRun, first_run, stepped, tried, drained_by, drain_for, next_hearing, most_of, asked}
+use Rattle.mn_reflect_run.specs.Course.{after_line, run_from, run_of}
 use Rattle.mn_reflect_run.proofs.Hearings.{may_all, hearing_takes, hearing_flies}
 
 pub in_all : {A : Type 0} (P : A → Type 0) (xs : List A) (x : A) → All P xs → In xs x → P x
@@ -53,7 +55,8 @@ module _ (t : Network) (reflectors : List ℕ) where
   pub hearing_more : (steps : List Step) (hearing : Step) → IsLawfulRun t reflectors steps → (o : Option Step) →
       o ≡ Some hearing → o ≡ next_hearing t reflectors (record first_run { steps = steps }) → IsLawfulRun t reflectors (steps ++ hearing ∷ [])
   hearing_more steps hearing run o is next =
-      run_more steps hearing run (hearing_takes t reflectors (world_of t reflectors steps).flying hearing (may_all t reflectors steps run.taken).flies (sym next ∙ is))
+      run_more steps hearing run (hearing_takes t reflectors (world_of t reflectors steps).flying hearing (may_all t reflectors steps run.taken).flies (sym next
+      ∙ is))
       (hearing_flies t reflectors (world_of t reflectors steps) hearing (sym next ∙ is))
 
 -- 2. The steps of a session name two nodes
@@ -139,7 +142,8 @@ module _ (t : Network) (reflectors : List ℕ) where
     ];
   }
 
-  drained_sound : (run : ReflectRun) (on : ReflectRun → ReflectRun) → IsSound t reflectors run → ((r : ReflectRun) → IsSound t reflectors r → IsSound t reflectors (on r)) →
+  drained_sound : (run : ReflectRun) (on : ReflectRun → ReflectRun) → IsSound t reflectors run →
+      ((r : ReflectRun) → IsSound t reflectors r → IsSound t reflectors (on r)) →
       (o : Option Step) → next_hearing t reflectors run ≡ o → IsSound t reflectors (drained_by on run o)
   drained_sound run on sound f None e = sound
   drained_sound run on sound f (Some hearing) e =

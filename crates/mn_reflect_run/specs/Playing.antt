@@ -135,4 +135,5 @@ pub record AreCut (topology : Network) (reflectors : List ℕ) (lines : List Ref
 abbrev pub PlaysAll : Network → List ℕ → List ReflectLine → ReflectNow → Stand → Stand → Result Ended DeviceBad → Type 0
 PlaysAll topology reflectors lines now old new (Ok (ended.All refused)) = ArePlayed topology reflectors lines now refused old new
 PlaysAll topology reflectors lines now old new (Ok ended.TooManySteps) = AreCut topology reflectors lines old new
-PlaysAll topology reflectors lines now old new (Err why) = Tells {T = Unit {0}} (report topology reflectors (run_of topology reflectors lines)) old new (Err why)
+PlaysAll topology reflectors lines now old new (Err why) =
+    Tells {T = Unit {0}} (report topology reflectors (run_of topology reflectors lines)) old new (Err why)

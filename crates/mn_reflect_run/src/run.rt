@@ -177,7 +177,7 @@ pub fn reflect<S: Shelf, O: Sink>(
     shelf: &mut S,
     out: &mut O,
 ) -> Outcome
-    // The outcome and the text are the answer's; a fault or out of memory may come in its place, and then a first part of the text stands.
+    // The outcome and the text are the answer's; a fault, or running out of memory, may come in its place, and then a first part of the text stands.
     ensures answers { ForSome (S.files shelf.old) (λ files. Answers (reflect_answer topology.now script.now files) files (S.files shelf.new) (O.written out.old) (O.written out.new) result) }
     // Where all was done, the report is that of the script's course over the topology. Each table that is printed where no message
     // flies, each edge has a living session with a reflector and each two reflectors have one, is that of a full mesh; and each drain is

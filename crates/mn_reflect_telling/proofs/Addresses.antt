@@ -111,9 +111,11 @@ module _ (t : Network) (rs : List NodeNo) where
   all_placed done end = ap (λ k. by_address t (numbers_of (drop k rs))) (let e : length rs - done ≡ 0 = omega (arith, end) in e)
 
   -- it is put into its place among the others
-  pub one_put : (old new others : List NodeNo) (place done : ℕ) (d : NodeNo) → done < length rs → AreNodes t rs → others ≡ old → numbers_of old ≡ last_ones done →
+  pub one_put : (old new others : List NodeNo) (place done : ℕ) (d : NodeNo) → done < length rs → AreNodes t rs → others ≡ old →
+      numbers_of old ≡ last_ones done →
       AreNodes t old →
-      (let x : NodeNo = slice_index_or rs (length rs - 1 - done) d in take place (numbers_of others) ++ x.0 ∷ drop place (numbers_of others) ≡ placed_by t x.0 (numbers_of others)) →
+      (let x : NodeNo = slice_index_or rs (length rs - 1 - done) d in take place (numbers_of others) ++ x.0 ∷ drop place (numbers_of others) ≡ placed_by t x.0
+      (numbers_of others)) →
       (let x : NodeNo = slice_index_or rs (length rs - 1 - done) d in new ≡ take place old ++ x ∷ drop place old) →
       (numbers_of new ≡ last_ones (done + 1)) × AreNodes t new
   one_put old new others place done d below all same was there put is =

@@ -29,7 +29,7 @@ module _ (heard : List (List Heard)) (peer : ℕ) (gone : List Heard) where
   pub shown_after : slice_index_or heard peer [] ≡ [] → (key : Key) → Shows heard key peer None (row_in heard)
   shown_after left key = record { others = λ other apart. refl; said = ap (heard_at key.vrf key.prefix) left }
 
--- what is said of them, one after another
+-- what is stated of them, one after another
 module _ (t : Network) (rs : List ℕ) (node : ℕ) (peers : List NodeNo) (was row : Row) where
   abbrev said_of : Key → List Letter
   said_of key =
@@ -45,6 +45,7 @@ module _ (t : Network) (rs : List ℕ) (node : ℕ) (peers : List NodeNo) (was r
       ∙ sym (ap (λ (rs' : List Heard). posted (reflector_news t rs node peers was row (names_in rs')) old) step)
       ∙ so_far
 
-  pub lost_all : (routes : List Heard) (new goal : Mail) → routes ≡ [] → posted (reflector_news t rs node peers was row (names_in routes)) new ≡ goal → new ≡ goal
+  pub lost_all : (routes : List Heard) (new goal : Mail) → routes ≡ [] → posted (reflector_news t rs node peers was row (names_in routes)) new ≡ goal →
+      new ≡ goal
   lost_all routes new goal none so_far =
       sym (posted_none new) ∙ sym (ap (λ (rs' : List Heard). posted (reflector_news t rs node peers was row (names_in rs')) new) none) ∙ so_far

@@ -34,7 +34,8 @@ module _ (same : Rt → Rt → Bool) (is : (a b : Rt) → same a b ≡ (a.0 == b
 
     pub by_targets : not (pointwise same old.targets new.targets) ≡ true → true ≡ not (says_same old new)
     by_targets differ =
-        sym (ap (λ b. not ((old.label == new.label) && (b && clusters_same))) (sym (same_rts old.targets new.targets) ∙ is_false (pointwise same old.targets new.targets) differ)
+        sym (ap (λ b. not ((old.label == new.label) && (b && clusters_same))) (sym (same_rts old.targets new.targets)
+        ∙ is_false (pointwise same old.targets new.targets) differ)
         ∙ ap not (and_false (old.label == new.label)))
       where
         is_false : (b : Bool) → not b ≡ true → b ≡ false

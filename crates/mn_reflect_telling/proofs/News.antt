@@ -12,7 +12,7 @@ use Rattle.mn_reflect_telling.specs.declared.teller.Teller.{Teller}
 abbrev pub offer_to : Teller → Row → ℕ → Key → Option Heard
 offer_to teller row peer key = offered_of teller.topology.now (numbers_of teller.reflectors.now) row teller.node.0 peer key
 
--- where this was heard of it and this is
+-- where this was received from it and this is
 abbrev pub news_to : Teller → Row → Row → Key → NodeNo → List Letter
 news_to teller was row key peer =
     change_letters teller.topology.now teller.node.0 peer.0 key (offer_to teller was peer.0 key) (offer_to teller row peer.0 key)

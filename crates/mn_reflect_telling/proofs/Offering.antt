@@ -35,7 +35,7 @@ module _ (t : Network) (rs : List ℕ) (row : Row) (node peer : ℕ) (key : Key)
   to_edge isnt apart =
       sym (ap (λ b. by_tests b (edge_of t key.vrf == peer)) isnt ∙ ap (by_tests false) (other_test (edge_of t key.vrf) peer apart))
 
--- 2. What is said
+-- 2. What is sent
 
 module _ (t : Network) (node peer : ℕ) (key : Key) where
   same_passed : (old new : Heard) → says_same (passed_on t node old) (passed_on t node new) ≡ says_same old new
@@ -44,7 +44,8 @@ module _ (t : Network) (node peer : ℕ) (key : Key) where
       (same_test (loopback t node))
 
   pub letters_are : (old new : Option Heard) →
-      letter_if node peer (change_bytes t node key old new) ≡ change_letters t node peer key (option_map (passed_on t node) old) (option_map (passed_on t node) new)
+      letter_if node peer (change_bytes t node key old new) ≡ change_letters t node peer key (option_map (passed_on t node) old)
+      (option_map (passed_on t node) new)
   letters_are None None = refl
   letters_are (Some old) None = refl
   letters_are None (Some new) = refl
@@ -57,7 +58,8 @@ module _ (t : Network) (node peer : ℕ) (key : Key) where
       by true = refl
       by false = refl
 
-  module _ (rs : List ℕ) (was row : Row) (old new : Option Heard) (before : old ≡ held_out t rs was node peer key) (after : new ≡ held_out t rs row node peer key)
+  module _ (rs : List ℕ) (was row : Row) (old new : Option Heard) (before : old ≡ held_out t rs was node peer key)
+      (after : new ≡ held_out t rs row node peer key)
       (mail : Mail) where
     letters_told : letter_if node peer (change_bytes t node key old new)
         ≡ change_letters t node peer key (offered_of t rs was node peer key) (offered_of t rs row node peer key)

@@ -26,7 +26,7 @@ posted_none m = with_both m (m.letters ++ []) m.letters (m.sent + 0) m.sent (app
 drop_one : {A : Type 0} (xs : List A) (i : ℕ) (d : A) → i < length xs → drop i xs ≡ slice_index_or xs i d ∷ drop (i + 1) xs
 drop_one xs i d h = let next : suc i ≡ i + 1 = omega arith in drop-cons xs i d h ∙ ap (λ k. slice_index_or xs i d ∷ drop k xs) next
 
--- what is to come, once one of it is said
+-- what is to come, once one of it is sent
 pub told_next : {A : Type 0} (f : A → List Letter) (xs : List A) (i : ℕ) (x : A) (old new goal : Mail) → i < length xs → x ≡ slice_index_or xs i x →
     new ≡ posted (f x) old → posted (flat_map f (drop i xs)) old ≡ goal → posted (flat_map f (drop (i + 1) xs)) new ≡ goal
 told_next f xs i x old new goal below is said was =

@@ -1,4 +1,4 @@
--- What a node's peers last said of a route, where one of them says this.
+-- What a node's peers last sent of a route, where one of them says this.
 use Rattle.std.specs.Prelude.{◌≡◌, ◌≢◌, ◌<◌, ℕ, ◌==◌, List, [], length, map, slice_index_or, if◌then◌else◌, Option, None, option_map}
 use Rattle.std.specs.List.{AllByRecursion}
 use Rattle.mn_base.specs.declared.numbers.NodeNo.{NodeNo}
@@ -12,7 +12,7 @@ use Rattle.mn_reflect_telling.specs.Names.{named}
 use Rattle.mn_reflect_telling.specs.Passing.{IsPassable, IfPassable}
 use Rattle.mn_reflect_telling.specs.declared.mentions.Mentions.{Mentions}
 
--- the row is what is heard, but that the peer's last mention of the route is this
+-- the row is what is received, but that the peer's last mention of the route is this
 pub record Shows (heard : List (List Heard)) (key : Key) (peer : ℕ) (mention : Option Heard) (row : Row) : Type 0 where
   pub others : (other : ℕ) → other ≢ peer → row other ≡ slice_index_or heard other []
   pub said : kept_of row key peer ≡ mention
@@ -35,7 +35,7 @@ pub record AreKept (topology : Network) (heard : List (List Heard)) : Type 0 whe
   pub nodes : length heard ≡ length topology.loopbacks
   pub each : AllByRecursion (λ routes. AllByRecursion (IsPassable topology) routes) heard
 
--- what is heard, by peer, and where one peer said these routes
+-- what is received, by peer, and where one peer sent these routes
 abbrev pub row_in : List (List Heard) → Row
 row_in heard other = slice_index_or heard other []
 

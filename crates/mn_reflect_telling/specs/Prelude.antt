@@ -11,4 +11,5 @@ pub use Rattle.mn_routing_laws.specs.Doing.{IsSayable, AreSayable}
 pub use Rattle.mn_routing_laws.specs.Sending.{spelled_in}
 pub use Rattle.mn_reflect_world_laws.specs.Choice.{names_in, all_names, Row, offered_of, reflected_to}
 pub use Rattle.mn_reflect_world_laws.specs.Goes.{decision_says}
-pub use Rattle.mn_reflect_world_laws.specs.Letters.{says_same, change_letters, vpn_route_of, next_hop, reflector_news, reflector_offers, export_letter, edge_news}
+pub use Rattle.mn_reflect_world_laws.specs.Letters.{says_same, change_letters, vpn_route_of, next_hop, reflector_news, reflector_offers, export_letter}
+pub use Rattle.mn_reflect_world_laws.specs.Letters.{edge_news}

@@ -33,7 +33,7 @@ abbrev pub anew_bytes : Network → ℕ → Option Heard → Heard → Option (L
 anew_bytes topology node None new = Some (passed_bytes topology node new)
 anew_bytes topology node (Some old) new = if says_same old new then None else Some (passed_bytes topology node new)
 
--- what is said of a route that was held out so and is now
+-- what is sent of a route that was held out so and is now
 abbrev pub change_bytes : Network → ℕ → Key → Option Heard → Option Heard → Option (List ℕ)
 change_bytes topology node key old (Some new) = anew_bytes topology node old new
 change_bytes topology node key (Some old) None = Some (withdrawal_bytes topology key)

@@ -1,14 +1,14 @@
-//! What reflectors and edges tell one another where routes are reflected (RFC 4456).
+//! What reflectors and edges advertise to one another where routes are reflected (RFC 4456).
 //!
 //! ```text
-//!   what a node heard, by peer --mentions--> what it holds out to each peer --teller--> letters
+//!   what a node received, by peer --mentions--> what it holds out to each peer --teller--> letters
 //! ```
 //!
 //! - `start`: what there is at the start
 //! - `name`, `names`: routes by name, and VRFs by their distinguishers
-//! - `mentions`: what a node's peers last said of a route, and what a reflector picks of it
-//! - `teller`: `Teller`, which tells a reflector's peers of routes that come, change or go, and what an edge is to take
-//! - `updates`: messages as they are read, and an edge's exports as they are told
+//! - `mentions`: what a node's peers last sent of a route, and what a reflector picks of it
+//! - `teller`: `Teller`, which advertises to a reflector's peers routes that come, change or go, and what an edge is to take
+//! - `updates`: messages as they are read, and an edge's exports as they are advertised
 //! - `telling`: to which peers, and how a message is sent
 //!
 //! RFC 4456, sections 6 and 8; RFC 4271, sections 3 and 4; RFC 4364, sections 4.3 and 5.

@@ -1,12 +1,12 @@
-//! What a node's peers last said of a route.
+//! What a node's peers last sent of a route.
 use mn_base::{NodeNo, VrfNo};
 use mn_offers::{Offered, Offers};
 use mn_prefix::Prefix;
 
-/// What a node's peers last said of a route, where one of them says this.
+/// What a node's peers last sent of a route, where one of them says this.
 #[derive(Clone, Copy)]
 pub(crate) struct Mentions<'h> {
-    /// What the node has heard, by peer.
+    /// What the node has received, by peer.
     pub(crate) heard: &'h [Offers],
     pub(crate) vrf: VrfNo,
     pub(crate) prefix: Prefix,
@@ -74,7 +74,7 @@ impl<'h> Mentions<'h> {
     }
 }
 
-/// What a node's peers last said of a route.
+/// What a node's peers last sent of a route.
 pub(crate) fn plain<'h>(
     heard: &'h [Offers],
     vrf: VrfNo,

@@ -1,4 +1,4 @@
-//! The names of all routes that a node has heard of.
+//! The names of all routes that a node has received.
 use crate::name::Name;
 use mn_offers::Offers;
 use mn_prefix::Prefix;
@@ -73,7 +73,7 @@ impl Names {
     }
 }
 
-/// The names of all routes that a node heard of its peers.
+/// The names of all routes that a node received from its peers.
 fn collected(alloc: Global, heard: &[Offers]) -> Result<Names, AllocError>
     ensures { IfOk result (λ names. names ≡ with_names (flat_map names_in heard.now) []) }
 {
@@ -84,7 +84,7 @@ fn collected(alloc: Global, heard: &[Offers]) -> Result<Names, AllocError>
     Ok(names)
 }
 
-/// The names of all routes that a node heard of its peers, in order, each once.
+/// The names of all routes that a node received from its peers, in order, each once.
 pub fn names_of(alloc: Global, heard: &[Offers]) -> Result<Vec<Name>, AllocError>
     ensures { IfOk result (λ names. map key_in names.items ≡ all_names heard.now) }
 {

@@ -1,4 +1,4 @@
-//! What there is at the start, when no session lives and nothing was heard.
+//! What there is at the start, when no session lives and nothing was received.
 ghost use Rattle.std.specs.Prelude.{◌≡◌, ◌<◌, ◌≤◌, ◌++◌, ◌∷◌, [], None, length, map, take, drop, replicate, option_map, IfOk};
 ghost use Rattle.mn_ledger.specs.Prelude.{nodes_of, wiring_of, sites_at, first_config};
 ghost use Rattle.mn_routing_laws.specs.Routed.{working};
@@ -37,7 +37,7 @@ pub fn no_sessions(alloc: Global, nodes: usize) -> Result<Vec<Vec<Option<BgpSess
     Ok(rows)
 }
 
-/// Nothing heard, of each of so many peers.
+/// Nothing received, from each of so many peers.
 fn no_offers(alloc: Global, peers: usize) -> Result<Vec<Offers>, AllocError>
     ensures { IfOk result (λ row. row.items ≡ replicate peers []) }
 {
@@ -48,7 +48,7 @@ fn no_offers(alloc: Global, peers: usize) -> Result<Vec<Offers>, AllocError>
     Ok(row)
 }
 
-/// Nothing heard, at any of so many nodes.
+/// Nothing received, at any of so many nodes.
 pub fn nothing_heard(alloc: Global, nodes: usize) -> Result<Vec<Vec<Offers>>, AllocError>
     ensures { IfOk result (λ rows. map (λ row. row.items) rows.items ≡ replicate nodes (replicate nodes [])) }
 {

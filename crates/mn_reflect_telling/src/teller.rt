@@ -3,7 +3,7 @@ use mn_base::{NodeNo, VrfNo};
 use mn_topo::Topology;
 use std::alloc::{AllocError, Global};
 
-/// A reflector, as it tells its peers of routes.
+/// A reflector, as it advertises routes to its peers.
 #[derive(Clone, Copy)]
 pub struct Teller<'r> {
     pub alloc: Global,
@@ -173,7 +173,7 @@ impl<'r> Teller<'r> {
         }
     }
 
-    /// Tells a peer of a route of which this was said and is said now.
+    /// Advertises to a peer a route of which this was sent and is sent now.
     fn tell_peer(
         &self,
         mail: &mut Mail,
@@ -202,7 +202,7 @@ impl<'r> Teller<'r> {
         }
     }
 
-    /// Tells these peers of a route of which this was said and is said now.
+    /// Advertises to these peers a route of which this was sent and is sent now.
     fn tell(
         &self,
         mail: &mut Mail,

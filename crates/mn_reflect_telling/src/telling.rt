@@ -1,4 +1,4 @@
-//! What is said to peers.
+//! What is sent to peers.
 ghost use Rattle.std.specs.Prelude.{◌≡◌, ◌<◌, ◌≤◌, ◌++◌, ◌∷◌, [], length, if◌then◌else◌, IfOk, OnOk};
 ghost use Rattle.mn_ledger.specs.Places.{loopback};
 ghost use Rattle.mn_routing_laws.specs.Sending.{is_steady, peers_from};

@@ -1,4 +1,4 @@
-//! Messages as they are read, and an edge's exports as they are told.
+//! Messages as they are read, and an edge's exports as they are advertised.
 ghost use Rattle.std.specs.Prelude.{◌≡◌, ◌<◌, map, length, IfOk, OnOk};
 ghost use Rattle.mn_base.specs.declared.numbers.NodeNo.{NodeNo as NodeNumber};
 ghost use Rattle.mn_reflect_telling.specs.Prelude.{spelled_in, IsSayable, AreSayable, export_letter, edge_news};

@@ -126,5 +126,7 @@ module _ (topology : Network) where
       by : (b : Bool) → is_reflector reflectors node ≡ b → (c : Bool) → is_reflector (by_address topology reflectors) node ≡ c → c ≡ b
       by true e true f = refl
       by false e false f = refl
-      by true e false f = absurd (no (sym f ∙ in_reflectors (by_address topology reflectors) node (address_in topology reflectors node (reflector_in reflectors node e))))
-      by false e true f = absurd (no (sym e ∙ in_reflectors reflectors node (in_address topology reflectors node (reflector_in (by_address topology reflectors) node f))))
+      by true e false f = absurd (no (sym f
+          ∙ in_reflectors (by_address topology reflectors) node (address_in topology reflectors node (reflector_in reflectors node e))))
+      by false e true f = absurd (no (sym e
+          ∙ in_reflectors reflectors node (in_address topology reflectors node (reflector_in (by_address topology reflectors) node f))))

@@ -37,7 +37,8 @@ module _ {A : Type 0} (before : A → A → Bool) (x : A) where
   passes p pass [] = refl
   passes p pass (z ∷ zs) = by (passes p pass zs) (p z) refl (Apart z) refl
     where
-      by : one_at before x (filter p zs) ≡ one_at before x zs → (b : Bool) → p z ≡ b → (a : Bool) → Apart z ≡ a → one_at before x (filter p (z ∷ zs)) ≡ one_at before x (z ∷ zs)
+      by : one_at before x (filter p zs) ≡ one_at before x zs → (b : Bool) → p z ≡ b → (a : Bool) → Apart z ≡ a →
+          one_at before x (filter p (z ∷ zs)) ≡ one_at before x (z ∷ zs)
       by others true h a g =
           ap (λ b. one_at before x (cond b (z ∷ filter p zs) (filter p zs))) h ∙ ap (λ o. if Apart z then o else Some z) others
       by others false h true g =

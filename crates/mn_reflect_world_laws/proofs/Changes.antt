@@ -127,7 +127,8 @@ module _ (t : Network) (reflectors : List ℕ) (l : Labels) (n p : ℕ) (is : is
       (says_same_is t c l given x y (f x refl).1 (g y refl).1 (ap (λ (k : Key). k.vrf) ((f x refl).0 ∙ sym (g y refl).0))
       (subst (λ k. same_key (key_of x) k ≡ true) ((f x refl).0 ∙ sym (g y refl).0) (key_itself (key_of x)))))
     where
-      by : (b : Bool) → letters_in t reflectors l (says n p (if b then [] else Announce y ∷ [])) ≡ (if b then [] else reflected_letter t n p (route_in l y) ∷ [])
+      by : (b : Bool) → letters_in t reflectors l (says n p (if b then [] else Announce y ∷ []))
+          ≡ (if b then [] else reflected_letter t n p (route_in l y) ∷ [])
       by true = refl
       by false = ap (λ r. r ∷ []) (announced_letter y)
 
@@ -144,7 +145,8 @@ flat_same_in f g (x ∷ xs) h = ap (λ ys. ys ++ flat_map f xs) (h x (inl refl))
 -- 4. The peers with which a session is Established
 
 established_by : (b : Bool) (asn me peer count : ℕ) →
-    is_steady (if b then Some (let r : BgpSession = record { asn = asn; me = me; peer = peer; state = state_heard count } in r) else None) ≡ (b && nat_le 2 count)
+    is_steady (if b then Some (let r : BgpSession = record { asn = asn; me = me; peer = peer; state = state_heard count } in r) else None)
+    ≡ (b && nat_le 2 count)
 established_by false asn me peer count = refl
 established_by true asn me peer zero = refl
 established_by true asn me peer (suc zero) = refl

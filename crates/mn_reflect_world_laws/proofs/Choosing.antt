@@ -5,7 +5,8 @@ use Rattle.mn_topo.specs.Network.{Network}
 use Rattle.mn_ledger.specs.Places.{edge_of}
 use Rattle.mn_bgp_spelling_laws.specs.Spelling.{Labels}
 use Rattle.mn_reflect_ledger_laws.specs.Words.{Key, Offer}
-use Rattle.mn_reflect_ledger_laws.specs.Picks.{ReflectWorld, announced_by, or_else, first_announced, by_address, from_reflectors, from_edge, pick, is_reflector, through}
+use Rattle.mn_reflect_ledger_laws.specs.Picks.{ReflectWorld, announced_by, or_else, first_announced, by_address, from_reflectors, from_edge, pick, is_reflector}
+use Rattle.mn_reflect_ledger_laws.specs.Picks.{through}
 use Rattle.mn_reflect_ledger_laws.specs.Picks.{to_reflect, offered}
 use Rattle.mn_reflect_world_laws.specs.Kept.{route_in, kept_in}
 use Rattle.mn_reflect_world_laws.specs.Choice.{kept_of, first_kept, reflected_to, picked_by, passed_on, offered_of}

@@ -1,4 +1,4 @@
--- What is configured stays in order: sites that are there, attachments that were made, sets of targets that can be said, and labels that differ.
+-- What is configured stays in order: sites that are there, attachments that were made, sets of targets that can be sent, and labels that differ.
 use Rattle.std.proofs.Common.{ℕ, ◌≡◌, ◌+◌, ◌<◌, ◌≤◌, Bool, true, false, List, [], map, length, refl, arith, sym, subst, Some, None}
 use Rattle.std.specs.Prelude.{sum}
 use Rattle.mn_base.proofs.Bools.{no}
@@ -139,7 +139,7 @@ in_order_goes t reflectors w l _ is f h = absurd (no is)
 
 -- 3. What is exported over it
 
--- an export over an attachment that was made, with targets that can be said
+-- an export over an attachment that was made, with targets that can be sent
 pub record IsMade (t : Network) (c : Config) (e : Export) : Type 0 where
   pub vrf : e.vrf < length t.vrfs
   pub of_vrf : vrf_of t e.site ≡ e.vrf

@@ -125,7 +125,8 @@ decides_it : (key : Key) (offer : Option Offer) (was : Option Export) → ((x : 
 decides_it key None was h = ap (λ b. if b then None else was) (key_itself key)
 decides_it key (Some x) was h = ap (λ b. if b then Some x.export else was) (subst (λ k. same_key key k ≡ true) (sym (h x refl)) (key_itself key))
 
-decides_other : (key other : Key) (offer : Option Offer) (was : Option Export) → ((x : Offer) → offer ≡ Some x → key_of x ≡ other) → same_key key other ≡ false →
+decides_other : (key other : Key) (offer : Option Offer) (was : Option Export) → ((x : Offer) → offer ≡ Some x → key_of x ≡ other) →
+    same_key key other ≡ false →
     decided_after key was (decision other offer) ≡ was
 decides_other key other None was h g = ap (λ b. if b then None else was) g
 decides_other key other (Some x) was h g = ap (λ b. if b then Some x.export else was) (subst (λ k. same_key key k ≡ false) (sym (h x refl)) g)
@@ -182,7 +183,8 @@ module _ (t : Network) (reflectors : List ℕ) (l : Labels) (u : ReflectWorld) (
 
     own_stays : home ≡ edge → (now : Edge) → decide t (by_address t reflectors) (kept_in l u edge) edge key now ≡ now
     own_stays e now = elim (eqb_tells home edge) [
-      | inl q ↦ ap (λ b. if b then now else after_update now home (decision_says t key (reflected_to (by_address t reflectors) (kept_in l u edge) edge key))) q.0
+      | inl q ↦ ap (λ b. if b then now else after_update now home (decision_says t key (reflected_to (by_address t reflectors) (kept_in l u edge) edge key)))
+          q.0
       | inr q ↦ absurd (q.1 e)
     ]
 
@@ -298,7 +300,8 @@ module _ (t : Network) (reflectors : List ℕ) (l : Labels) (u : ReflectWorld) (
   ]
 
 -- all is decided
-pub then_decided_are : (t : Network) (reflectors : List ℕ) (l : Labels) (u : ReflectWorld) (lawful : IsLawful t) (edge : ℕ) (edge_is : is_edge t.vrfs edge ≡ true)
+pub then_decided_are : (t : Network) (reflectors : List ℕ) (l : Labels) (u : ReflectWorld) (lawful : IsLawful t) (edge : ℕ)
+    (edge_is : is_edge t.vrfs edge ≡ true)
     (named : (key : Key) (x : Offer) → from_reflectors t reflectors u edge key ≡ Some x → (key_of x ≡ key) × IsMade t u.config x.export) (d : Decisions) →
     AreDecidedBut t reflectors l u lawful edge edge_is named d [] → AreDecided t reflectors u d
 then_decided_are t reflectors l u lawful edge edge_is named d h = record {

@@ -186,7 +186,8 @@ module _ (t : Network) (reflectors : List ℕ) (l : Labels) (w u : ReflectWorld)
       words : List Word
       words = change k (own_offer t w.config e k) (own_offer t u.config e k)
 
-      each : (p : ℕ) → letters_in t reflectors l (news_of t reflectors w u e k p) ≡ cond (end_steady (session_in t u e p)) (letters_in t reflectors l (says e p words)) []
+      each : (p : ℕ) → letters_in t reflectors l (news_of t reflectors w u e k p) ≡ cond (end_steady (session_in t u e p))
+          (letters_in t reflectors l (says e p words)) []
       each p = by (is_steady w u e p) (sym (steady_is t u e p ∙ sym (steady_now p)))
         where
           by : (b : Bool) → b ≡ end_steady (session_in t u e p) →
@@ -255,7 +256,8 @@ module _ (t : Network) (reflectors : List ℕ) (l : Labels) (w u : ReflectWorld)
 
     -- withdrawals first: where all is announcements there are none
     no_withdrawals : (gs : List Export) (cs bs : List Export) →
-        map (λ (export : Export). Withdrawal export.vrf export.prefix) gs ++ map (λ export. Announcement export) cs ≡ map (λ export. Announcement export) bs → gs ≡ []
+        map (λ (export : Export). Withdrawal export.vrf export.prefix) gs ++ map (λ export. Announcement export) cs ≡ map (λ export. Announcement export) bs →
+        gs ≡ []
     no_withdrawals [] cs bs h = refl
     no_withdrawals (g ∷ gs) cs [] h = absurd (no (sym (ap (λ ts. elim ts [ [] ↦ false | m ∷ more ↦ true ]) h)))
     no_withdrawals (g ∷ gs) cs (b ∷ bs) h = absurd (unlike (ap (λ ts. elim ts [ [] ↦ Announcement b | m ∷ more ↦ m ]) h))
@@ -280,7 +282,8 @@ module _ (t : Network) (reflectors : List ℕ) (l : Labels) (w u : ReflectWorld)
 
         same : filter (anew xs) ys ≡ filter q ys
         same = same_announced (filter (anew xs) ys) (filter q ys)
-            (sym (ap (λ gs. map (λ (export : Export). Withdrawal export.vrf export.prefix) gs ++ map (λ export. Announcement export) (filter (anew xs) ys)) none) ∙ h)
+            (sym (ap (λ gs. map (λ (export : Export). Withdrawal export.vrf export.prefix) gs ++ map (λ export. Announcement export) (filter (anew xs) ys))
+            none) ∙ h)
 
     no_announcements : (gs cs bs : List Export) →
         map (λ (export : Export). Withdrawal export.vrf export.prefix) gs ++ map (λ export. Announcement export) cs
@@ -365,7 +368,8 @@ module _ (t : Network) (reflectors : List ℕ) (l : Labels) (u : ReflectWorld) (
       ∙ flat_map_keys (λ k. change k None (offered t reflectors u e p k)) zs
       ∙ flat_same_in (λ y. change (key y) None (offered t reflectors u e p (key y))) (λ y. Announce (plain y) ∷ []) zs each_offer
 
-  letter_of : (y : Export) → In zs y → letter_in t reflectors l (record { from = e; to = p; word = Announce (plain y) }) ≡ export_letter t e p true (exported t l y)
+  letter_of : (y : Export) → In zs y →
+      letter_in t reflectors l (record { from = e; to = p; word = Announce (plain y) }) ≡ export_letter t e p true (exported t l y)
   letter_of y i = announced_letter t reflectors l e p y is (made_export t u.config l e y order i).1
 
   all_letters : (vs : List Export) → ((y : Export) → In vs y → In zs y) →

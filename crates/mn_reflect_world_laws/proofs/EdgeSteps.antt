@@ -68,7 +68,8 @@ one_edge t l k w u d e node f below here off =
   where
     by : (b : Bool) → is_edge t.vrfs node ≡ b →
         option_map working (if b then Some (edge_in t k (all_live t u.config) (as_peerings e) node) else None)
-        ≡ option_map (λ (pe : PeNow). working (f pe.edge)) (option_map working (if b then Some (edge_in t l (all_live t w.config) (as_peerings d) node) else None))
+        ≡ option_map (λ (pe : PeNow). working (f pe.edge))
+        (option_map working (if b then Some (edge_in t l (all_live t w.config) (as_peerings d) node) else None))
     by true g = mapped_edge true (edge_in t l (all_live t w.config) (as_peerings d) node) (edge_in t k (all_live t u.config) (as_peerings e) node) f (here g)
     by false g = refl
 
@@ -83,7 +84,7 @@ all_edges_same t l k w u d e h =
 pub all_heard : (d : Decisions) → IsInTurn (as_peerings d)
 all_heard d edge peer apart = omega arith
 
--- with the same sessions, what was decided stays as it was heard
+-- with the same sessions, what was decided stays as it was received
 quiet : (t : Network) (l : Labels) (c new : Config) (p : Peerings) (s : Step) (edge : ℕ) → new.bgp_on ≡ c.bgp_on → bgp_counted p s ≡ p → IsInTurn p →
     map (heard_in t l new p edge) (nodes_of (wiring_of t)) ≡ map (heard_in t l c p edge) (nodes_of (wiring_of t)) →
     edge_in t l new p edge ≡ edge_in t l new (with_told (bgp_counted p s) (told_in t c p new (bgp_counted p s) s)) edge

@@ -1,4 +1,4 @@
--- What an edge exports can be said, and what it exports after one step more.
+-- What an edge exports can be sent, and what it exports after one step more.
 use Rattle.std.proofs.Common.{ℕ, ◌≡◌, ◌+◌, ◌<◌, true, false, List, [], ◌∷◌, ◌++◌, length, Option, Some, None, refl, sym, ◌∙◌, ap, subst}
 use Rattle.mn_base.proofs.Members.{In}
 use Rattle.mn_topo.specs.Network.{Network}
@@ -25,7 +25,8 @@ use Rattle.mn_reflect_world_laws.specs.Labels.{labels_of}
 use Rattle.mn_reflect_world_laws.specs.Edges.{all_live, as_peerings}
 use Rattle.mn_reflect_world_laws.specs.Now.{ReflectNow, IsReflect}
 use Rattle.mn_reflect_world_laws.specs.Steps.{takes, IsLawfulRun}
-use Rattle.mn_reflect_world_laws.specs.Goes.{word_heard, sessions_after, heard_after, attachments_after, statics_after, edges_after, letters_after, edge_of_node, Goes}
+use Rattle.mn_reflect_world_laws.specs.Goes.{word_heard, sessions_after, heard_after, attachments_after, statics_after, edges_after, letters_after}
+use Rattle.mn_reflect_world_laws.specs.Goes.{edge_of_node, Goes}
 use Rattle.mn_reflect_world_laws.specs.Choice.{row_at}
 use Rattle.mn_reflect_world_laws.specs.Known.{IsSayableRoute, SaysItsExports}
 use Rattle.mn_reflect_world_laws.proofs.Run.{IsRest, rests, run_goes_on}
@@ -33,7 +34,8 @@ use Rattle.mn_reflect_world_laws.proofs.OnHearing.{edge_there}
 use Rattle.mn_reflect_world_laws.proofs.Onward.{goes_on}
 use Rattle.mn_reflect_world_laws.proofs.Hears.{kept_sayable}
 
-module _ (t : Network) (reflectors : List ℕ) (steps : List Step) (now : ReflectNow) (run : IsLawfulRun t reflectors steps) (stands : IsReflect t reflectors steps now)
+module _ (t : Network) (reflectors : List ℕ) (steps : List Step) (now : ReflectNow) (run : IsLawfulRun t reflectors steps)
+    (stands : IsReflect t reflectors steps now)
     (node : ℕ) (is : is_edge t.vrfs node ≡ true) where
   abbrev l : Labels
   l = labels_of t steps

@@ -63,7 +63,8 @@ nothing_in (x ∷ xs) h = absurd (h x (inl refl))
 pub none_exported : (t : Network) (c : Config) (v : VrfNo) (target : Rt) (on : Bool) (edge : ℕ) → with_target target.0 on (c.exports v.0) ≡ [] →
     filter (touches t (step.Export v on target)) (exports_of t (config_after c (step.Export v on target)) edge) ≡ []
 unfolding AreSome
-none_exported t c v target on edge none = nothing_in (filter (touches t (step.Export v on target)) (exports_of t (config_after c (step.Export v on target)) edge)) (λ e i.
+none_exported t c v target on edge none =
+    nothing_in (filter (touches t (step.Export v on target)) (exports_of t (config_after c (step.Export v on target)) edge)) (λ e i.
     let new : Config = config_after c (step.Export v on target) in
     let f = in_filter (touches t (step.Export v on target)) (exports_of t new edge) e i in
     let b = from_exports t new edge e f.0 in

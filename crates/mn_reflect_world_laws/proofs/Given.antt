@@ -162,13 +162,15 @@ attaching_gives t c s = by (home_of t s.0 == home_of t s.0) (same_test (home_of 
 
 pub one_attachment_more : (t : Network) (c : Config) (s : SiteNo) → fits t (step.Attach s) ≡ true →
     attachments_at t (config_after c (step.Attach s)) (home_of t s.0) ≡ attachments_at t c (home_of t s.0) + 1
-one_attachment_more t c s fit = more_attachments t c (step.Attach s) (home_of t s.0) fit ∙ ap (λ n. attachments_at t c (home_of t s.0) + n) (attaching_gives t c s)
+one_attachment_more t c s fit = more_attachments t c (step.Attach s) (home_of t s.0) fit
+    ∙ ap (λ n. attachments_at t c (home_of t s.0) + n) (attaching_gives t c s)
 
 pub no_attachment_more : (t : Network) (c : Config) (s : SiteNo) (node : ℕ) → fits t (step.Attach s) ≡ true → node ≢ home_of t s.0 →
     attachments_at t (config_after c (step.Attach s)) node ≡ attachments_at t c node
 no_attachment_more t c s node fit d =
     more_attachments t c (step.Attach s) node fit
-    ∙ ap (λ b. attachments_at t c node + length (if b then attachment_of s.0 (c.attaches s.0 + 2) ∷ [] else [])) (other_test (home_of t s.0) node (λ e. d (sym e)))
+    ∙ ap (λ b. attachments_at t c node + length (if b then attachment_of s.0 (c.attaches s.0 + 2) ∷ [] else []))
+    (other_test (home_of t s.0) node (λ e. d (sym e)))
     ∙ plus_zero (attachments_at t c node)
   where
     plus_zero : (n : ℕ) → n + 0 ≡ n

@@ -1,4 +1,4 @@
--- A session ends: a reflector tells of the routes that it heard in it, and an edge decides on them anew.
+-- A session ends: a reflector tells of the routes that it received in it, and an edge decides on them anew.
 use Rattle.std.proofs.Common.{ℕ, zero, suc, ◌≡◌, ◌≢◌, ◌<◌, ◌⊎◌, inl, inr, Bool, true, false, List, [], ◌∷◌, ◌++◌, filter, length, Some, None, Option}
 use Rattle.std.proofs.Common.{refl, arith, sym, ◌∙◌, ap, subst}
 use Rattle.std.specs.Prelude.{◌==◌, not, if◌then◌else◌, slice_index_or, slice_set, option_map}
@@ -79,7 +79,8 @@ no_edge t l w d n f below h =
 
 -- 3. The session ends
 
-module _ (t : Network) (reflectors : List ℕ) (l : Labels) (w : ReflectWorld) (lawful : IsLawful t) (are : AreReflectors t reflectors) (a b : NodeNo) (less : a.0 < b.0)
+module _ (t : Network) (reflectors : List ℕ) (l : Labels) (w : ReflectWorld) (lawful : IsLawful t) (are : AreReflectors t reflectors) (a b : NodeNo)
+    (less : a.0 < b.0)
     (below : b.0 < length t.loopbacks) (order : IsInOrder t w.config l) (good : AreGood t w.config w) (within : IsWithin t w) where
   abbrev pub then_down : ReflectWorld
   then_down = unsaid w (step.BgpDown a b)
@@ -110,11 +111,11 @@ module _ (t : Network) (reflectors : List ℕ) (l : Labels) (w : ReflectWorld) (
               | inr e1 ↦ elim also [ inl e2 ↦ absurd (two (sym e2.0 ∙ e1.0)) | inr e2 ↦ e2.1 ∙ sym e1.1 ]
             ]
 
-    -- another node hears as before
+    -- another node receives as before
     others_hear : (n : ℕ) → n ≢ a.0 → n ≢ b.0 → (p : ℕ) (k : Key) → announced_by w n p k ≡ announced_by then_down n p k
     others_hear n d e p k = other_announced w then_down a.0 b.0 false two refl (λ x y. refl) n p k (inl d, inl e)
 
-    -- 3.1 What is said
+    -- 3.1 What is sent
 
     abbrev pub news_at : ℕ → ℕ → List Letter
     news_at n p =
@@ -202,7 +203,8 @@ module _ (t : Network) (reflectors : List ℕ) (l : Labels) (w : ReflectWorld) (
       at_end : (n p : ℕ) (who : ((n ≡ a.0) × (p ≡ b.0)) ⊎ ((n ≡ b.0) × (p ≡ a.0))) (edge_is : is_edge t.vrfs n ≡ true) (other : is_edge t.vrfs p ≡ false) →
           n < length t.loopbacks →
           (e : Decisions) × AreDecided t reflectors then_down e
-          × (edges_in t l then_down e ≡ on_edge n (decide_all t (by_address t reflectors) (kept_in l then_down n) n (names_in (kept_in l w n p))) (edges_in t l w d))
+          × (edges_in t l then_down e ≡ on_edge n (decide_all t (by_address t reflectors) (kept_in l then_down n) n (names_in (kept_in l w n p)))
+          (edges_in t l w d))
       at_end n p who edge_is other n_below =
           let named : (k : Key) (x : Offer) → from_reflectors t reflectors then_down n k ≡ Some x → (key_of x ≡ k) × IsMade t then_down.config x.export =
           (λ k x h. decides_of t reflectors l then_down later still n k x h) in
@@ -257,7 +259,8 @@ module _ (t : Network) (reflectors : List ℕ) (l : Labels) (w : ReflectWorld) (
       pub decides : (is_edge t.vrfs a.0 ≡ false) ⊎ (is_edge t.vrfs b.0 ≡ false) → Decides d
       decides one = by (is_edge t.vrfs a.0) refl (is_edge t.vrfs b.0) refl one
         where
-          by : (x : Bool) → is_edge t.vrfs a.0 ≡ x → (y : Bool) → is_edge t.vrfs b.0 ≡ y → (is_edge t.vrfs a.0 ≡ false) ⊎ (is_edge t.vrfs b.0 ≡ false) → Decides d
+          by : (x : Bool) → is_edge t.vrfs a.0 ≡ x → (y : Bool) → is_edge t.vrfs b.0 ≡ y → (is_edge t.vrfs a.0 ≡ false) ⊎ (is_edge t.vrfs b.0 ≡ false) →
+              Decides d
           by true f true g h = elim h [ inl q ↦ absurd (no (sym q ∙ f)) | inr q ↦ absurd (no (sym q ∙ g)) ]
           by true f false g h =
               (let c = at_end a.0 b.0 (inl (refl, refl)) f g a_below in record {

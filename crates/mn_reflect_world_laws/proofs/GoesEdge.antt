@@ -46,7 +46,7 @@ use Rattle.mn_reflect_world_laws.proofs.EdgeNews.{AreExports}
 use Rattle.mn_reflect_world_laws.proofs.EdgeLetters.{exports_up, comes_news, goes_news, nothing_told}
 use Rattle.mn_reflect_world_laws.proofs.Same.{reflector_same, quiet_news}
 
--- 1. Letters of what was said stay, since labels that were given do
+-- 1. Letters of what was sent stay, since labels that were given do
 
 abbrev with_label : Network → List ℕ → Spoken → Offer → ℕ → Letter
 with_label t reflectors x y n = record {
@@ -63,7 +63,8 @@ same_letter t reflectors c l s x h = by x.word h
     label (step.Attach a) site k g = label_stays t c l a site k g
     label _ site k g = refl
 
-    by : (v : Word) → IsGood t c v → (let r : Letter = record { from = x.from; to = x.to; bytes = word_bytes t reflectors (labels_after t c l s) x.from v } in r)
+    by : (v : Word) → IsGood t c v →
+        (let r : Letter = record { from = x.from; to = x.to; bytes = word_bytes t reflectors (labels_after t c l s) x.from v } in r)
         ≡ record { from = x.from; to = x.to; bytes = word_bytes t reflectors l x.from v }
     by Open g = refl
     by KeepAlive g = refl
@@ -164,7 +165,8 @@ module _ (t : Network) (reflectors : List ℕ) (m l : Labels) (w u : ReflectWorl
       home_comes q h =
           home_news
           ∙ comes_news t reflectors m w u home edge_is below (settled_same home) (are_exports home) q h (λ y i. (made_export t u.config m home y is i).1)
-          ∙ ap (λ ss. edge_news t home (peers_from 0 (slice_index_or ss home [])) true (map (exported t m) (filter q (exports_of t u.config home)))) sessions_same
+          ∙ ap (λ ss. edge_news t home (peers_from 0 (slice_index_or ss home [])) true (map (exported t m) (filter q (exports_of t u.config home))))
+          sessions_same
 
       pub home_goes : (q : Export → Bool) → changed (exports_of t w.config home) (exports_of t u.config home)
           ≡ map (λ (export : Export). Withdrawal export.vrf export.prefix) (filter q (exports_of t w.config home)) →
@@ -173,7 +175,8 @@ module _ (t : Network) (reflectors : List ℕ) (m l : Labels) (w u : ReflectWorl
       home_goes q h =
           home_news
           ∙ goes_news t reflectors m w u home edge_is below (settled_same home) (are_exports home) q h
-          ∙ ap (λ ss. edge_news t home (peers_from 0 (slice_index_or ss home [])) false (map (exported t m) (filter q (exports_of t w.config home)))) sessions_same
+          ∙ ap (λ ss. edge_news t home (peers_from 0 (slice_index_or ss home [])) false (map (exported t m) (filter q (exports_of t w.config home))))
+          sessions_same
 
 -- 3. Sets of targets that change
 

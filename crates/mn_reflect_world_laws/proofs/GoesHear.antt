@@ -1,4 +1,4 @@
--- A word is heard: a session goes on, a reflector passes routes on, and an edge decides on them.
+-- A word is received: a session goes on, a reflector passes routes on, and an edge decides on them.
 use Rattle.std.proofs.Common.{ℕ, zero, suc, ◌≡◌, ◌≢◌, ◌<◌, ◌≤◌, ◌⊎◌, inl, inr, Bool, true, false, List, [], ◌∷◌, ◌++◌, map, length, Some, None, Option}
 use Rattle.std.proofs.Common.{refl, arith, sym, ◌∙◌, ap, subst, append-nil}
 use Rattle.std.specs.Prelude.{if◌then◌else◌, slice_index_or, option_map}
@@ -25,7 +25,8 @@ use Rattle.mn_routing_laws.proofs.Present.{exported}
 use Rattle.mn_mail.specs.Mail.{Letter}
 use Rattle.mn_mail.specs.Mail as mail
 use Rattle.mn_reflect_ledger_laws.specs.Words.{Key, Offer, Word, Open, KeepAlive, Announce, Withdraw, key_of, same_key, key_before, mentioned, last_mention}
-use Rattle.mn_reflect_ledger_laws.specs.Picks.{ReflectWorld, announced_by, by_address, from_reflectors, own_offer, through, to_reflect, is_reflector, is_established}
+use Rattle.mn_reflect_ledger_laws.specs.Picks.{ReflectWorld, announced_by, by_address, from_reflectors, own_offer, through, to_reflect, is_reflector}
+use Rattle.mn_reflect_ledger_laws.specs.Picks.{is_established}
 use Rattle.mn_reflect_ledger_laws.specs.World.{first_word, without_first, heard_one, unsaid, says, reply, replies, news, said_in, after, all_offers}
 use Rattle.mn_reflect_ledger_laws.proofs.Mentions.{same_keys}
 use Rattle.mn_reflect_ledger_laws.proofs.Offering.{IsWithin}
@@ -49,7 +50,8 @@ use Rattle.mn_reflect_world_laws.proofs.Deciding.{comes, then_decided_are}
 use Rattle.mn_reflect_world_laws.proofs.Same.{offers_same, reflected_same, quiet_news, one_more}
 use Rattle.mn_reflect_world_laws.proofs.GoesDown.{offers_of, decides_of, no_edge}
 
-module _ (t : Network) (reflectors : List ℕ) (l : Labels) (w : ReflectWorld) (lawful : IsLawful t) (a b : NodeNo) (differ : a.0 ≢ b.0) (a_below : a.0 < length t.loopbacks)
+module _ (t : Network) (reflectors : List ℕ) (l : Labels) (w : ReflectWorld) (lawful : IsLawful t) (a b : NodeNo) (differ : a.0 ≢ b.0)
+    (a_below : a.0 < length t.loopbacks)
     (b_below : b.0 < length t.loopbacks) (word : Word) (first : first_word a.0 b.0 w.flying ≡ Some word) (live : peers_live w.config b.0 a.0 ≡ true)
     (order : IsInOrder t w.config l) (good : AreGood t w.config w) (within : IsWithin t w) where
   abbrev pub then_heard : ReflectWorld
@@ -105,7 +107,7 @@ module _ (t : Network) (reflectors : List ℕ) (l : Labels) (w : ReflectWorld) (
   others_hear : (n : ℕ) → n ≢ b.0 → (p : ℕ) (k : Key) → announced_by w n p k ≡ announced_by then_heard n p k
   others_hear n d p k = elsewhere n p (inl d) k
 
-  -- 1. What is said
+  -- 1. What is sent
 
   others_quiet : (n : ℕ) → n ≢ b.0 → news t reflectors w then_heard n ≡ []
   others_quiet n d = quiet_news t reflectors w then_heard n (λ p k. offers_same t reflectors w then_heard n k (λ q. others_hear n d q k) refl p)
@@ -138,7 +140,8 @@ module _ (t : Network) (reflectors : List ℕ) (l : Labels) (w : ReflectWorld) (
       ∙ ap (λ ls. ls ++ letters_in t reflectors l (said_in t reflectors w then_heard (step.HearBgp a b)))
       (sym (are_words t reflectors l a.0 b.0 w.flying).others)
       ∙ ap (λ ls. mail.without_first a.0 b.0 (letters_in t reflectors l w.flying) ++ ls)
-      (map-append (letter_in t reflectors l) (replies t reflectors w then_heard (step.HearBgp a b)) (flat_map (news t reflectors w then_heard) (nodes_of (wiring_of t)))
+      (map-append (letter_in t reflectors l) (replies t reflectors w then_heard (step.HearBgp a b))
+      (flat_map (news t reflectors w then_heard) (nodes_of (wiring_of t)))
       ∙ ap (λ o. letters_in t reflectors l (says b.0 a.0 (reply t reflectors then_heard b.0 a.0 (length (w.heard b.0 a.0)) o))
       ++ letters_in t reflectors l (flat_map (news t reflectors w then_heard) (nodes_of (wiring_of t)))) first
       ∙ ap (λ ns. letters_in t reflectors l (says b.0 a.0 answer) ++ letters_in t reflectors l ns) all_news)
@@ -175,7 +178,8 @@ module _ (t : Network) (reflectors : List ℕ) (l : Labels) (w : ReflectWorld) (
         ∙ ap (λ ls. mail.without_first a.0 b.0 (letters_in t reflectors l w.flying) ++ ls) (by (is_reflector reflectors b.0) refl)
       where
         by : (r : Bool) → is_reflector reflectors b.0 ≡ r → letters_in t reflectors l (says b.0 a.0 (all_offers t reflectors then_heard b.0 a.0))
-            ≡ (if r then reflector_offers t (by_address t reflectors) b.0 a.0 (kept_in l then_heard b.0) (all_names (slice_index_or (all_kept t l then_heard) b.0 []))
+            ≡ (if r then reflector_offers t (by_address t reflectors) b.0 a.0 (kept_in l then_heard b.0)
+            (all_names (slice_index_or (all_kept t l then_heard) b.0 []))
             else edge_news t b.0 (record { 0 = a.0 } ∷ []) true (map (exported t l) (exports_of t w.config b.0)))
         by true q = offers_are t reflectors l then_heard b.0 a.0 q b_below then_heard.config later.given
             (λ k. offers_of t reflectors l then_heard later still b.0 a.0 q k) within_then
@@ -192,7 +196,8 @@ module _ (t : Network) (reflectors : List ℕ) (l : Labels) (w : ReflectWorld) (
     letters_tell mention count settled =
         letters_then
         ∙ ap (λ ws. mail.without_first a.0 b.0 (letters_in t reflectors l w.flying)
-        ++ (letters_in t reflectors l (says b.0 a.0 ws) ++ letters_in t reflectors l (news t reflectors w then_heard b.0))) (silent (length (w.heard b.0 a.0)) count)
+        ++ (letters_in t reflectors l (says b.0 a.0 ws) ++ letters_in t reflectors l (news t reflectors w then_heard b.0)))
+        (silent (length (w.heard b.0 a.0)) count)
         ∙ ap (λ ls. mail.without_first a.0 b.0 (letters_in t reflectors l w.flying) ++ ls) (by (is_reflector reflectors b.0) refl)
       where
         silent : (c : ℕ) → 2 ≤ c → reply t reflectors then_heard b.0 a.0 c (Some word) ≡ []

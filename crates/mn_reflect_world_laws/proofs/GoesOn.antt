@@ -74,7 +74,8 @@ module _ (t : Network) (reflectors : List ℕ) (l : Labels) (w : ReflectWorld) (
   -- 2. A session ends
 
   module _ (lawful : IsLawful t) (are : AreReflectors t reflectors) (a b : NodeNo) (less : a.0 < b.0) (below : b.0 < length t.loopbacks)
-      (peers : may_peer t reflectors a.0 b.0 ≡ true) (rest : IsRest t reflectors w l) (rest_then : IsRest t reflectors (after t reflectors w (step.BgpDown a b)) l)
+      (peers : may_peer t reflectors a.0 b.0 ≡ true) (rest : IsRest t reflectors w l)
+      (rest_then : IsRest t reflectors (after t reflectors w (step.BgpDown a b)) l)
       (g : Goes t reflectors l None now new (step.BgpDown a b)) where
     abbrev u : ReflectWorld
     u = unsaid w (step.BgpDown a b)
@@ -96,13 +97,15 @@ module _ (t : Network) (reflectors : List ℕ) (l : Labels) (w : ReflectWorld) (
 
     -- one of the two is no edge
     one_no_edge : (is_edge t.vrfs a.0 ≡ false) ⊎ (is_edge t.vrfs b.0 ≡ false)
-    one_no_edge = elim (or_ways (is_reflector reflectors a.0 && (is_reflector reflectors b.0 || is_edge t.vrfs b.0)) (is_reflector reflectors b.0 && is_edge t.vrfs a.0)
+    one_no_edge = elim (or_ways (is_reflector reflectors a.0 && (is_reflector reflectors b.0 || is_edge t.vrfs b.0))
+        (is_reflector reflectors b.0 && is_edge t.vrfs a.0)
         (and_right (not (a.0 == b.0)) _ peers)) [
           | inl e ↦ inl (are.no_edges a.0 (and_left (is_reflector reflectors a.0) _ e))
           | inr e ↦ inr (are.no_edges b.0 (and_left (is_reflector reflectors b.0) _ e))
         ]
 
-    decides : down.Decides t reflectors l w lawful are a b less below rest.order rest.good rest.run.within rest_then.order kept_now rest_then.run.within st.decisions
+    decides : down.Decides t reflectors l w lawful are a b less below rest.order rest.good rest.run.within rest_then.order kept_now rest_then.run.within
+        st.decisions
     decides = down.decides t reflectors l w lawful are a b less below rest.order rest.good rest.run.within rest_then.order kept_now rest_then.run.within
         st.decisions st.decided one_no_edge
 
@@ -114,9 +117,11 @@ module _ (t : Network) (reflectors : List ℕ) (l : Labels) (w : ReflectWorld) (
     edges_now =
         g.edges
         ∙ ap (λ by. at_two by (row_at new.heard a.0) (row_at new.heard b.0) (row_at now.heard a.0 b.0) (row_at now.heard b.0 a.0) now.edges) st.reflectors_are
-        ∙ ap (λ row. at_two (by_address t reflectors) row (row_at new.heard b.0) (row_at now.heard a.0 b.0) (row_at now.heard b.0 a.0) now.edges) (new_row a.0 a_below)
+        ∙ ap (λ row. at_two (by_address t reflectors) row (row_at new.heard b.0) (row_at now.heard a.0 b.0) (row_at now.heard b.0 a.0) now.edges)
+        (new_row a.0 a_below)
         ∙ ap (λ row. at_two (by_address t reflectors) (kept_in l u a.0) row (row_at now.heard a.0 b.0) (row_at now.heard b.0 a.0) now.edges) (new_row b.0 below)
-        ∙ ap (λ (row : Row). at_two (by_address t reflectors) (kept_in l u a.0) (kept_in l u b.0) (row b.0) (row_at now.heard b.0 a.0) now.edges) (old_row a.0 a_below)
+        ∙ ap (λ (row : Row). at_two (by_address t reflectors) (kept_in l u a.0) (kept_in l u b.0) (row b.0) (row_at now.heard b.0 a.0) now.edges)
+        (old_row a.0 a_below)
         ∙ ap (λ (row : Row). at_two (by_address t reflectors) (kept_in l u a.0) (kept_in l u b.0) (kept_in l w a.0 b.0) (row a.0) now.edges) (old_row b.0 below)
         ∙ ap (λ es. at_two (by_address t reflectors) (kept_in l u a.0) (kept_in l u b.0) (kept_in l w a.0 b.0) (kept_in l w b.0 a.0) es) st.edges
         ∙ sym decides.edges
@@ -135,10 +140,13 @@ module _ (t : Network) (reflectors : List ℕ) (l : Labels) (w : ReflectWorld) (
         ap (λ by. forget by (is_reflector by n) (steady_of new.sessions n) (row_at now.heard n) (row_at new.heard n) (row_at now.heard n p) n) st.reflectors_are
         ∙ ap (λ is. forget (by_address t reflectors) is (steady_of new.sessions n) (row_at now.heard n) (row_at new.heard n) (row_at now.heard n p) n)
         (still_reflector t reflectors n)
-        ∙ ap (λ ss. forget (by_address t reflectors) (is_reflector reflectors n) (steady_of ss n) (row_at now.heard n) (row_at new.heard n) (row_at now.heard n p) n)
+        ∙ ap (λ ss. forget (by_address t reflectors) (is_reflector reflectors n) (steady_of ss n) (row_at now.heard n) (row_at new.heard n)
+        (row_at now.heard n p) n)
         sessions_now
-        ∙ ap (λ (row : Row). forget (by_address t reflectors) (is_reflector reflectors n) (steady_of (sessions_in t u) n) row (row_at new.heard n) (row p) n) (old_row n h)
-        ∙ ap (λ (row : Row). forget (by_address t reflectors) (is_reflector reflectors n) (steady_of (sessions_in t u) n) (kept_in l w n) row (kept_in l w n p) n)
+        ∙ ap (λ (row : Row). forget (by_address t reflectors) (is_reflector reflectors n) (steady_of (sessions_in t u) n) row (row_at new.heard n) (row p) n)
+        (old_row n h)
+        ∙ ap (λ (row : Row). forget (by_address t reflectors) (is_reflector reflectors n) (steady_of (sessions_in t u) n) (kept_in l w n) row
+        (kept_in l w n p) n)
         (new_row n h)
 
     pub then_down : IsThen t reflectors l (after t reflectors w (step.BgpDown a b)) new
@@ -160,5 +168,6 @@ module _ (t : Network) (reflectors : List ℕ) (l : Labels) (w : ReflectWorld) (
           ++ ((if is_reflector reflectors a.0
           then reflector_news t (by_address t reflectors) a.0 (peers_from 0 (slice_index_or (sessions_in t u) a.0 [])) (kept_in l w a.0) (kept_in l u a.0)
           (names_in (kept_in l w a.0 b.0)) else []) ++ ls)) (forgetting b.0 a.0 below)
-          ∙ sym (down.letters_down t reflectors l w lawful are a b less below rest.order rest.good rest.run.within rest_then.order kept_now rest_then.run.within);
+          ∙ sym (down.letters_down t reflectors l w lawful are a b less below rest.order rest.good rest.run.within rest_then.order kept_now
+          rest_then.run.within);
     }

@@ -1,4 +1,4 @@
--- A session begins, or ends: what each node hears of whom.
+-- A session begins, or ends: what each node receives from whom.
 use Rattle.std.proofs.Common.{ℕ, ◌≡◌, ◌≢◌, ◌<◌, ◌⊎◌, inl, inr, Bool, true, false, List, [], ◌∷◌, ◌++◌, filter, length, None, Option}
 use Rattle.std.proofs.Common.{refl, arith, sym, ◌∙◌, ap}
 use Rattle.std.specs.Prelude.{◌&&◌, not, nat_lt, nat_le, if◌then◌else◌}
@@ -26,7 +26,7 @@ use Rattle.mn_reflect_world_laws.proofs.Letters.{are_words}
 use Rattle.mn_reflect_world_laws.proofs.Parts.{live_up, live_back}
 use Rattle.mn_reflect_world_laws.proofs.Same.{offers_same, quiet_news}
 
--- 1. Who hears what
+-- 1. Who receives what
 
 module _ (w u : ReflectWorld) (a b : ℕ) (on : Bool) (two : a ≢ b) (sessions : u.config.bgp_on ≡ put_pair w.config.bgp_on a b on)
     (heard : (n p : ℕ) → u.heard n p ≡ put_pair (put_pair w.heard a b []) b a [] n p) where

@@ -1,4 +1,4 @@
--- What is known of the word that is heard, and of what is kept.
+-- What is known of the word that is received, and of what is kept.
 use Rattle.std.proofs.Common.{ℕ, zero, suc, ◌≡◌, ◌≢◌, ◌<◌, ◌≤◌, inl, inr, Bool, true, false, List, [], ◌∷◌, length, Some, None}
 use Rattle.std.proofs.Common.{refl, arith, sym, ◌∙◌, ap, subst}
 use Rattle.std.specs.Prelude.{nat_lt, if◌then◌else◌, option_map, slice_index_or}
@@ -48,7 +48,7 @@ use Rattle.mn_reflect_world_laws.proofs.Names.{kept_from}
 use Rattle.mn_reflect_world_laws.proofs.Rows.{table_at}
 use Rattle.mn_reflect_world_laws.proofs.Same.{row_is}
 
--- 1. Routes that can be said
+-- 1. Routes that can be sent
 
 rise_each : (low : ℕ) (xs : List ℕ) → Rise low xs → EachBefore (λ (x y : Rt). x.0 < y.0) (as_targets xs)
 rise_each low [] h = tt
@@ -114,9 +114,10 @@ one_at_least t reflectors n p x h f = by (is_reflector reflectors p) refl
     by true g = subst (λ cs. 1 ≤ length cs) (sym (h.to_a_reflector f g)) (omega arith)
     by false g = one_or_two (h.to_an_edge f g)
 
--- 3. What is kept, and the word that is heard
+-- 3. What is kept, and the word that is received
 
-module _ (t : Network) (reflectors : List ℕ) (steps : List Step) (now : ReflectNow) (run : IsLawfulRun t reflectors steps) (stands : IsReflect t reflectors steps now) where
+module _ (t : Network) (reflectors : List ℕ) (steps : List Step) (now : ReflectNow) (run : IsLawfulRun t reflectors steps)
+    (stands : IsReflect t reflectors steps now) where
   abbrev w : ReflectWorld
   w = world_of t reflectors steps
 
@@ -136,7 +137,8 @@ module _ (t : Network) (reflectors : List ℕ) (steps : List Step) (now : Reflec
       subst (λ (row : ℕ → List Heard). In (row p) route) (ap (λ hs. row_at hs n) stands.0.heard ∙ row_is t l w rest.run.within n below) i in
       let x = kept_from l w n p (λ y. In (w.heard n p) (Announce y)) (λ y j. j) route here in
       subst (IsSayableRoute t) x.2
-      (made_sayable t w.config l run.topology_is rest.order.given x.0 (rest.good.heard n p (Announce x.0) x.1) (two_at_most t reflectors p n x.0 (through n p x.0 x.1)))
+      (made_sayable t w.config l run.topology_is rest.order.given x.0 (rest.good.heard n p (Announce x.0) x.1)
+      (two_at_most t reflectors p n x.0 (through n p x.0 x.1)))
 
   module _ (a b : NodeNo) (word : Word) (peers : may_peer t reflectors a.0 b.0 ≡ true) (first : first_word a.0 b.0 w.flying ≡ Some word) where
     there : (a.0 ≢ b.0) × (a.0 < length t.loopbacks) × (b.0 < length t.loopbacks)

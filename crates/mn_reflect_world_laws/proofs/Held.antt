@@ -375,11 +375,13 @@ module _ (t : Network) (reflectors : List ℕ) (l : Labels) (w : ReflectWorld) (
   pub found_it : {A : Type 0} (question : VrfState → Option A) → found_in v question (edge_in t l c p e).vrfs ≡ question (vrf_in t c v)
   found_it question =
       found_there question (vrfs_at t e)
-      (filter_in (λ u. edge_of t u == e) (range_with_len 0 (length t.vrfs)) v (range_in 0 (length t.vrfs) v (omega arith) (omega (arith, v_there))) (same_test e))
+      (filter_in (λ u. edge_of t u == e) (range_with_len 0 (length t.vrfs)) v (range_in 0 (length t.vrfs) v (omega arith) (omega (arith, v_there)))
+      (same_test e))
 
 -- 5. What is kept stands for the steps
 
-module _ (t : Network) (reflectors : List ℕ) (steps : List Step) (now : ReflectNow) (run : IsLawfulRun t reflectors steps) (stands : IsReflect t reflectors steps now)
+module _ (t : Network) (reflectors : List ℕ) (steps : List Step) (now : ReflectNow) (run : IsLawfulRun t reflectors steps)
+    (stands : IsReflect t reflectors steps now)
     (v : ℕ) (there : v < length t.vrfs) where
   abbrev world : ReflectWorld
   world = world_of t reflectors steps
@@ -431,7 +433,8 @@ module _ (t : Network) (reflectors : List ℕ) (steps : List Step) (now : Reflec
         × (In (held t reflectors world (edge_of t v) v) y → In (routes_of t world.config (edge_of t v) v) y)
     at_rest y =
         let law = holds_at_rest t reflectors world all_rest.run.within run.topology_is
-        (has_what_is_exported t reflectors world quiet run.are all_rest.run.turns all_rest.run.says joined) (are_apart t reflectors steps run.topology_is run.done)
+        (has_what_is_exported t reflectors world quiet run.are all_rest.run.turns all_rest.run.says joined)
+        (are_apart t reflectors steps run.topology_is run.done)
         (edge_of t v) (contained_in (edges t) (edge_of t v) (edge_is_in t run.topology_is v there)) v y in (
           (λ i. in_contained (held t reflectors world (edge_of t v) v) y (law.all (contained_in (routes_of t world.config (edge_of t v) v) y i))),
           (λ i. in_contained (routes_of t world.config (edge_of t v) v) y (law.only (contained_in (held t reflectors world (edge_of t v) v) y i))),

@@ -37,7 +37,8 @@ module _ (labels : Labels) (key : Key) where
   one_word kept was h (Announce offer) = by (same_key key (key_of offer)) refl
     where
       by : (b : Bool) → same_key key (key_of offer) ≡ b →
-          heard_at key.vrf key.prefix (with_heard (route_in labels offer) kept) ≡ option_map (route_in labels) (if same_key key (key_of offer) then Some offer else was)
+          heard_at key.vrf key.prefix (with_heard (route_in labels offer) kept) ≡ option_map (route_in labels)
+          (if same_key key (key_of offer) then Some offer else was)
       by true e =
           at_with heard_before heard_order (at key) (route_in labels offer) kept
           ∙ ap (λ b. if b then heard_at key.vrf key.prefix kept else Some (route_in labels offer)) (choice key (route_in labels offer) true e)

@@ -1,4 +1,4 @@
--- Letters that fly are the words that were said.
+-- Letters that fly are the words that were sent.
 use Rattle.std.proofs.Common.{ℕ, ◌≡◌, Bool, true, false, cond, List, [], ◌∷◌, Some, refl, sym, ◌∙◌, ap, filter}
 use Rattle.std.specs.Prelude.{not, option_map}
 use Rattle.mn_base.proofs.Bools.{and_left, and_right, same_numbers}

@@ -37,7 +37,8 @@ kept_up l w n p = by (peers_live w.config n p)
     by true = after_up l [] (w.heard n p) tt
     by false = tt
 
-all_named : (x : Heard) (xs : List Heard) → AllByRecursion (λ y. heard_before x y ≡ true) xs → AllByRecursion (λ k. key_before (name_of x) k ≡ true) (names_in xs)
+all_named : (x : Heard) (xs : List Heard) → AllByRecursion (λ y. heard_before x y ≡ true) xs →
+    AllByRecursion (λ k. key_before (name_of x) k ≡ true) (names_in xs)
 all_named x [] h = tt
 all_named x (y ∷ ys) h = (h.0, all_named x ys h.1)
 

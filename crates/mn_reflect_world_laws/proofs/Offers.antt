@@ -12,7 +12,8 @@ use Rattle.mn_ledger.specs.Bgp.{peers_live}
 use Rattle.mn_bgp_spelling_laws.specs.Spelling.{Labels}
 use Rattle.mn_mail.specs.Mail.{Letter}
 use Rattle.mn_reflect_ledger_laws.specs.Words.{Key, Offer, Word, last_mention, in_order, change}
-use Rattle.mn_reflect_ledger_laws.specs.Picks.{ReflectWorld, announced_by, or_else, by_address, from_reflectors, from_edge, pick, is_reflector, through, to_reflect, offered}
+use Rattle.mn_reflect_ledger_laws.specs.Picks.{ReflectWorld, announced_by, or_else, by_address, from_reflectors, from_edge, pick, is_reflector, through}
+use Rattle.mn_reflect_ledger_laws.specs.Picks.{to_reflect, offered}
 use Rattle.mn_reflect_ledger_laws.specs.Picks.{own_offer, known_keys}
 use Rattle.mn_reflect_ledger_laws.specs.World.{says, all_offers}
 use Rattle.mn_reflect_ledger_laws.proofs.Mentions.{order_in}
@@ -82,7 +83,8 @@ beyond t u within n p key x h = by ways
 -- 2. All of it
 
 module _ (t : Network) (reflectors : List ℕ) (l : Labels) (u : ReflectWorld) (n p : ℕ) (is : is_reflector reflectors n ≡ true) (below : n < length t.loopbacks)
-    (c : Config) (given : AreGiven t c l) (is_of : (key : Key) → IsOf t reflectors l n p is c key (offered t reflectors u n p key)) (within : IsWithin t u) where
+    (c : Config) (given : AreGiven t c l) (is_of : (key : Key) →
+    IsOf t reflectors l n p is c key (offered t reflectors u n p key)) (within : IsWithin t u) where
   named : (key : Key) (x : Offer) → offered t reflectors u n p key ≡ Some x → In (all_names (slice_index_or (all_kept t l u) n [])) key
   named key x h =
       let s = offered_said t reflectors u n is p key x h in
@@ -113,7 +115,8 @@ module _ (t : Network) (reflectors : List ℕ) (l : Labels) (u : ReflectWorld) (
   said_each : (keys : List Key) → letters_in t reflectors l (says n p (flat_map (λ key. change key None (offered t reflectors u n p key)) keys))
       ≡ flat_map letters_of_key keys
   said_each keys =
-      ap (letters_in t reflectors l) (map_flat (λ (word : Word). record { from = n; to = p; word = word }) (λ key. change key None (offered t reflectors u n p key)) keys)
+      ap (letters_in t reflectors l)
+      (map_flat (λ (word : Word). record { from = n; to = p; word = word }) (λ key. change key None (offered t reflectors u n p key)) keys)
       ∙ map_flat (letter_in t reflectors l) (λ key. says n p (change key None (offered t reflectors u n p key))) keys
       ∙ flat_same (λ key. letters_in t reflectors l (says n p (change key None (offered t reflectors u n p key)))) letters_of_key keys key_is
 

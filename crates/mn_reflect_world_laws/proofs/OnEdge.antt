@@ -90,7 +90,8 @@ module _ (t : Network) (reflectors : List ℕ) (l : Labels) (w : ReflectWorld) (
   -- 1. Letters
 
   module _ (m : Labels) (s : Step) (u : ReflectWorld) (m_is : m ≡ labels_after t w.config l s)
-      (shape : letters_in t reflectors m (after t reflectors w s).flying ≡ letters_in t reflectors m (w.flying ++ flat_map (news t reflectors w u) (nodes_of (wiring_of t)))) where
+      (shape : letters_in t reflectors m (after t reflectors w s).flying ≡ letters_in t reflectors m
+      (w.flying ++ flat_map (news t reflectors w u) (nodes_of (wiring_of t)))) where
     both : letters_in t reflectors m (after t reflectors w s).flying
         ≡ letters_in t reflectors l w.flying ++ letters_in t reflectors m (flat_map (news t reflectors w u) (nodes_of (wiring_of t)))
     both =
@@ -155,7 +156,8 @@ module _ (t : Network) (reflectors : List ℕ) (l : Labels) (w : ReflectWorld) (
             ∙ ap (λ ls. ls ++ edge_news t home (steady_of now.sessions home) true (those_of (export_of (edge_of_node new.edges home) site.0 prefix))) st.letters
             ∙ ap (λ ss. letters_in t reflectors l w.flying ++ edge_news t home (steady_of ss home) true
             (those_of (export_of (edge_of_node new.edges home) site.0 prefix))) st.sessions
-            ∙ ap (λ edge. letters_in t reflectors l w.flying ++ edge_news t home (steady_of (sessions_in t w) home) true (those_of (export_of edge site.0 prefix)))
+            ∙ ap (λ edge. letters_in t reflectors l w.flying ++ edge_news t home (steady_of (sessions_in t w) home) true
+            (those_of (export_of edge site.0 prefix)))
             (ap (λ es. edge_of_node es home) add_edges ∙ edge_there t l added st.decisions home home_below home_edge)
             ∙ ap (λ ls. letters_in t reflectors l w.flying ++ ls) (sym add_letters)
             ∙ sym (both l (step.AddRoute site prefix) added refl refl);
@@ -206,10 +208,12 @@ module _ (t : Network) (reflectors : List ℕ) (l : Labels) (w : ReflectWorld) (
         statics = g.statics ∙ ap (λ n. n - 1) st.statics ∙ sym one_fewer;
         letters =
             g.letters
-            ∙ ap (λ ls. ls ++ edge_news t home (steady_of now.sessions home) false (those_of (export_of (edge_of_node now.edges home) site.0 prefix))) st.letters
+            ∙ ap (λ ls. ls ++ edge_news t home (steady_of now.sessions home) false (those_of (export_of (edge_of_node now.edges home) site.0 prefix)))
+            st.letters
             ∙ ap (λ ss. letters_in t reflectors l w.flying ++ edge_news t home (steady_of ss home) false
             (those_of (export_of (edge_of_node now.edges home) site.0 prefix))) st.sessions
-            ∙ ap (λ edge. letters_in t reflectors l w.flying ++ edge_news t home (steady_of (sessions_in t w) home) false (those_of (export_of edge site.0 prefix)))
+            ∙ ap (λ edge. letters_in t reflectors l w.flying ++ edge_news t home (steady_of (sessions_in t w) home) false
+            (those_of (export_of edge site.0 prefix)))
             (ap (λ es. edge_of_node es home) st.edges ∙ edge_there t l w st.decisions home home_below home_edge)
             ∙ ap (λ ls. letters_in t reflectors l w.flying ++ ls) (sym del_letters)
             ∙ sym (both l (step.DelRoute site prefix) deleted refl refl);
@@ -233,10 +237,12 @@ module _ (t : Network) (reflectors : List ℕ) (l : Labels) (w : ReflectWorld) (
           ≡ edge_news t home (steady_of (sessions_in t w) home) false
           (exports_over (edge_in t l (all_live t w.config) (as_peerings st.decisions) home) site.0)
       detach_letters =
-          home_goes t reflectors l l w detached lawful refl refl rest.order rest_then.order w.config.statics rest.order.statics (λ x i. i) (λ x i. i) home home_below
+          home_goes t reflectors l l w detached lawful refl refl rest.order rest_then.order w.config.statics rest.order.statics (λ x i. i)
+          (λ x i. i) home home_below
           (λ n d. detach_told n ∙ none_told t w.config (step.Detach site) n d) home_no (touches t (step.Detach site)) (detach_told home)
           ∙ ap (edge_news t home (steady_of (sessions_in t w) home) false)
-          (over_site t l (all_live t w.config) (as_peerings st.decisions) home lawful rest.order.statics rest.order.bounds.sites (step.Detach site) site (λ x. refl))
+          (over_site t l (all_live t w.config) (as_peerings st.decisions) home lawful rest.order.statics rest.order.bounds.sites (step.Detach site) site
+          (λ x. refl))
 
       pub then_detaches : IsThen t reflectors l (after t reflectors w (step.Detach site)) new
       then_detaches = record {
@@ -250,7 +256,8 @@ module _ (t : Network) (reflectors : List ℕ) (l : Labels) (w : ReflectWorld) (
         letters =
             g.letters
             ∙ ap (λ ls. ls ++ edge_news t home (steady_of now.sessions home) false (exports_over (edge_of_node now.edges home) site.0)) st.letters
-            ∙ ap (λ ss. letters_in t reflectors l w.flying ++ edge_news t home (steady_of ss home) false (exports_over (edge_of_node now.edges home) site.0)) st.sessions
+            ∙ ap (λ ss. letters_in t reflectors l w.flying ++ edge_news t home (steady_of ss home) false (exports_over (edge_of_node now.edges home) site.0))
+            st.sessions
             ∙ ap (λ edge. letters_in t reflectors l w.flying ++ edge_news t home (steady_of (sessions_in t w) home) false (exports_over edge site.0))
             (ap (λ es. edge_of_node es home) st.edges ∙ edge_there t l w st.decisions home home_below home_edge)
             ∙ ap (λ ls. letters_in t reflectors l w.flying ++ ls) (sym detach_letters)
@@ -273,7 +280,8 @@ module _ (t : Network) (reflectors : List ℕ) (l : Labels) (w : ReflectWorld) (
           g.edges
           ∙ ap (λ n. on_edge home (λ edge. after_attach edge site.0 (16 + n)) now.edges) number
           ∙ ap (on_edge home (λ edge. after_attach edge site.0 (16 + attachments_at t w.config home))) st.edges
-          ∙ sym (one_edge t l later w attached st.decisions st.decisions home (λ edge. after_attach edge site.0 (16 + attachments_at t w.config home)) home_below
+          ∙ sym (one_edge t l later w attached st.decisions st.decisions home (λ edge. after_attach edge site.0 (16 + attachments_at t w.config home))
+          home_below
           (λ e. attach_edge t l w.config st.decisions st.decided.told site there) (λ x d. attach_other t l w.config st.decisions st.decided.told site x d))
 
       attach_told : (n : ℕ) → changed (exports_of t w.config n) (exports_of t attached.config n) ≡ told_of t w.config (step.Attach site) n
@@ -283,7 +291,8 @@ module _ (t : Network) (reflectors : List ℕ) (l : Labels) (w : ReflectWorld) (
           ≡ edge_news t home (steady_of (sessions_in t w) home) true
           (exports_over (edge_in t later (all_live t attached.config) (as_peerings st.decisions) home) site.0)
       attach_letters =
-          home_comes t reflectors later l w attached lawful refl refl rest.order rest_then.order w.config.statics rest.order.statics (λ x i. i) (λ x i. i) home home_below
+          home_comes t reflectors later l w attached lawful refl refl rest.order rest_then.order w.config.statics rest.order.statics (λ x i. i)
+          (λ x i. i) home home_below
           (λ n d. attach_told n ∙ none_told t w.config (step.Attach site) n d) home_no (touches t (step.Attach site)) (attach_told home)
           ∙ ap (edge_news t home (steady_of (sessions_in t w) home) true)
           (over_site t later (all_live t attached.config) (as_peerings st.decisions) home lawful rest_then.order.statics rest_then.order.bounds.sites
@@ -307,7 +316,8 @@ module _ (t : Network) (reflectors : List ℕ) (l : Labels) (w : ReflectWorld) (
         letters =
             g.letters
             ∙ ap (λ ls. ls ++ edge_news t home (steady_of now.sessions home) true (exports_over (edge_of_node new.edges home) site.0)) st.letters
-            ∙ ap (λ ss. letters_in t reflectors l w.flying ++ edge_news t home (steady_of ss home) true (exports_over (edge_of_node new.edges home) site.0)) st.sessions
+            ∙ ap (λ ss. letters_in t reflectors l w.flying ++ edge_news t home (steady_of ss home) true (exports_over (edge_of_node new.edges home) site.0))
+            st.sessions
             ∙ ap (λ edge. letters_in t reflectors l w.flying ++ edge_news t home (steady_of (sessions_in t w) home) true (exports_over edge site.0))
             (ap (λ es. edge_of_node es home) attach_edges ∙ edge_there t later attached st.decisions home home_below home_edge)
             ∙ ap (λ ls. letters_in t reflectors l w.flying ++ ls) (sym attach_letters)
@@ -324,7 +334,8 @@ module _ (t : Network) (reflectors : List ℕ) (l : Labels) (w : ReflectWorld) (
     vrf_is : is_edge t.vrfs vrf_home ≡ true
     vrf_is = is_an_edge t v.0 there
 
-    module _ (rest_then : IsRest t reflectors (after t reflectors w (step.Import v on target)) l) (g : Goes t reflectors l None now new (step.Import v on target)) where
+    module _ (rest_then : IsRest t reflectors (after t reflectors w (step.Import v on target)) l)
+        (g : Goes t reflectors l None now new (step.Import v on target)) where
       abbrev importing : ReflectWorld
       importing = unsaid w (step.Import v on target)
 
@@ -332,7 +343,8 @@ module _ (t : Network) (reflectors : List ℕ) (l : Labels) (w : ReflectWorld) (
       import_letters =
           home_goes t reflectors l l w importing lawful refl refl rest.order rest_then.order w.config.statics rest.order.statics (λ x i. i) (λ x i. i)
           vrf_home vrf_below (λ n d. import_tells t w.config v target on n) (vrf_edge v.0 there) (λ x. false)
-          (import_tells t w.config v target on vrf_home ∙ sym (ap (map (λ (export : Export). Withdrawal export.vrf export.prefix)) (none (exports_of t w.config vrf_home))))
+          (import_tells t w.config v target on vrf_home
+          ∙ sym (ap (map (λ (export : Export). Withdrawal export.vrf export.prefix)) (none (exports_of t w.config vrf_home))))
           ∙ ap (λ zs. edge_news t vrf_home (steady_of (sessions_in t w) vrf_home) false (map (exported t l) zs)) (none (exports_of t w.config vrf_home))
         where
           none : (zs : List Export) → filter (λ (x : Export). false) zs ≡ []
@@ -402,7 +414,8 @@ module _ (t : Network) (reflectors : List ℕ) (l : Labels) (w : ReflectWorld) (
               home_goes t reflectors l l w exporting lawful refl refl rest.order rest_then.order w.config.statics rest.order.statics (λ x i. i) (λ x i. i)
               vrf_home vrf_below (λ n d. export_told n ∙ none_told t w.config (step.Export v on target) n d) (vrf_edge v.0 there)
               (touches t (step.Export v on target))
-              (export_told vrf_home ∙ ap (λ ts. by_set ts (comes t w.config (step.Export v on target) vrf_home) (goes t w.config (step.Export v on target) vrf_home)) e)
+              (export_told vrf_home ∙ ap (λ ts. by_set ts (comes t w.config (step.Export v on target) vrf_home)
+              (goes t w.config (step.Export v on target) vrf_home)) e)
               ∙ ap (edge_news t vrf_home steady false) was_touched
               ∙ sym (ap (λ xs. either_news t vrf_home steady xs (exports_at was v.0)) (none_now e))
             where
@@ -412,11 +425,13 @@ module _ (t : Network) (reflectors : List ℕ) (l : Labels) (w : ReflectWorld) (
               home_comes t reflectors l l w exporting lawful refl refl rest.order rest_then.order w.config.statics rest.order.statics (λ x i. i) (λ x i. i)
               vrf_home vrf_below (λ n d. export_told n ∙ none_told t w.config (step.Export v on target) n d) (vrf_edge v.0 there)
               (touches t (step.Export v on target))
-              (export_told vrf_home ∙ ap (λ ts. by_set ts (comes t w.config (step.Export v on target) vrf_home) (goes t w.config (step.Export v on target) vrf_home)) e)
+              (export_told vrf_home ∙ ap (λ ts. by_set ts (comes t w.config (step.Export v on target) vrf_home)
+              (goes t w.config (step.Export v on target) vrf_home)) e)
               ∙ ap (edge_news t vrf_home steady true) now_touched
               ∙ either (exports_at is v.0) refl
             where
-              either : (xs : List Exported) → exports_at is v.0 ≡ xs → edge_news t vrf_home steady true xs ≡ either_news t vrf_home steady xs (exports_at was v.0)
+              either : (xs : List Exported) → exports_at is v.0 ≡ xs →
+                  edge_news t vrf_home steady true xs ≡ either_news t vrf_home steady xs (exports_at was v.0)
               either [] q = ap (edge_news t vrf_home steady false) (sym none_went)
                 where
                   none_went : exports_at was v.0 ≡ []
@@ -439,7 +454,8 @@ module _ (t : Network) (reflectors : List ℕ) (l : Labels) (w : ReflectWorld) (
             (exports_at (edge_of_node now.edges vrf_home) v.0)) st.letters
             ∙ ap (λ ss. letters_in t reflectors l w.flying ++ either_news t vrf_home (steady_of ss vrf_home) (exports_at (edge_of_node new.edges vrf_home) v.0)
             (exports_at (edge_of_node now.edges vrf_home) v.0)) st.sessions
-            ∙ ap (λ edge. letters_in t reflectors l w.flying ++ either_news t vrf_home steady (exports_at edge v.0) (exports_at (edge_of_node now.edges vrf_home) v.0))
+            ∙ ap (λ edge. letters_in t reflectors l w.flying ++ either_news t vrf_home steady (exports_at edge v.0)
+            (exports_at (edge_of_node now.edges vrf_home) v.0))
             (ap (λ es. edge_of_node es vrf_home) export_edges ∙ edge_there t l exporting st.decisions vrf_home vrf_below vrf_is)
             ∙ ap (λ edge. letters_in t reflectors l w.flying ++ either_news t vrf_home steady (exports_at is v.0) (exports_at edge v.0))
             (ap (λ es. edge_of_node es vrf_home) st.edges ∙ edge_there t l w st.decisions vrf_home vrf_below vrf_is)

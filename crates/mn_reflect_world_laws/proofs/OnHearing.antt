@@ -37,7 +37,8 @@ use Rattle.mn_reflect_world_laws.specs.Edges.{Decisions, all_live, as_peerings}
 use Rattle.mn_reflect_world_laws.specs.Now.{ReflectNow, sessions_in, edge_or_none, edges_in, StandsFor}
 use Rattle.mn_reflect_world_laws.specs.Choice.{Row, row_at, all_names}
 use Rattle.mn_reflect_world_laws.specs.Letters.{reflector_news, reflector_offers, edge_news}
-use Rattle.mn_reflect_world_laws.specs.Goes.{sessions_hear, heard_hear, on_edge, edge_of_node, decide_all, steady_of, offering_letters, hearing_letters, names_of, Goes}
+use Rattle.mn_reflect_world_laws.specs.Goes.{sessions_hear, heard_hear, on_edge, edge_of_node, decide_all, steady_of, offering_letters, hearing_letters}
+use Rattle.mn_reflect_world_laws.specs.Goes.{names_of, Goes}
 use Rattle.mn_reflect_world_laws.proofs.Addresses.{still_reflector}
 use Rattle.mn_reflect_world_laws.proofs.Run.{IsRest}
 use Rattle.mn_reflect_world_laws.proofs.Said.{AreGood, IsGood, first_in}
@@ -58,7 +59,8 @@ edge_there t l w d n below is =
 module _ (t : Network) (reflectors : List ℕ) (l : Labels) (w : ReflectWorld) (now new : ReflectNow) (st : StandsFor t reflectors l w now) (lawful : IsLawful t)
     (are : AreReflectors t reflectors) (a b : NodeNo) (differ : a.0 ≢ b.0) (a_below : a.0 < length t.loopbacks) (b_below : b.0 < length t.loopbacks)
     (either : (is_reflector reflectors b.0 ≡ true) ⊎ (is_edge t.vrfs b.0 ≡ true)) (word : Word)
-    (first : first_word a.0 b.0 w.flying ≡ Some word) (rest : IsRest t reflectors w l) (rest_then : IsRest t reflectors (after t reflectors w (step.HearBgp a b)) l)
+    (first : first_word a.0 b.0 w.flying ≡ Some word) (rest : IsRest t reflectors w l)
+    (rest_then : IsRest t reflectors (after t reflectors w (step.HearBgp a b)) l)
     (g : Goes t reflectors l (Some word) now new (step.HearBgp a b)) where
   abbrev u : ReflectWorld
   u = unsaid w (step.HearBgp a b)
@@ -103,7 +105,7 @@ module _ (t : Network) (reflectors : List ℕ) (l : Labels) (w : ReflectWorld) (
       ∙ ap (at_hearer (by_address t reflectors) (kept_in l u b.0)) st.edges
       ∙ sym decides.edges
 
-  -- 1. What is said
+  -- 1. What is sent
 
   abbrev front : List Letter
   front = mail.without_first a.0 b.0 (letters_in t reflectors l w.flying)
@@ -120,10 +122,12 @@ module _ (t : Network) (reflectors : List ℕ) (l : Labels) (w : ReflectWorld) (
       then reflector_offers t (by_address t reflectors) b.0 a.0 (kept_in l u b.0) (all_names (slice_index_or (all_kept t l u) b.0 []))
       else edge_news t b.0 (record { 0 = a.0 } ∷ []) true (map (exported t l) (exports_of t w.config b.0)))
   offering =
-      ap (λ by. offer by (is_reflector by b.0) (row_at new.heard b.0) (slice_index_or new.heard b.0 []) (held.exports_of (edge_of_node new.edges b.0))) st.reflectors_are
+      ap (λ by. offer by (is_reflector by b.0) (row_at new.heard b.0) (slice_index_or new.heard b.0 []) (held.exports_of (edge_of_node new.edges b.0)))
+      st.reflectors_are
       ∙ ap (λ is. offer (by_address t reflectors) is (row_at new.heard b.0) (slice_index_or new.heard b.0 []) (held.exports_of (edge_of_node new.edges b.0)))
       (still_reflector t reflectors b.0)
-      ∙ ap (λ row. offer (by_address t reflectors) (is_reflector reflectors b.0) row (slice_index_or new.heard b.0 []) (held.exports_of (edge_of_node new.edges b.0)))
+      ∙ ap (λ row. offer (by_address t reflectors) (is_reflector reflectors b.0) row (slice_index_or new.heard b.0 [])
+      (held.exports_of (edge_of_node new.edges b.0)))
       new_row
       ∙ ap (λ hs. offer (by_address t reflectors) (is_reflector reflectors b.0) (kept_in l u b.0) (slice_index_or hs b.0 [])
       (held.exports_of (edge_of_node new.edges b.0))) heard_now
@@ -145,11 +149,13 @@ module _ (t : Network) (reflectors : List ℕ) (l : Labels) (w : ReflectWorld) (
   telling : (if is_reflector now.reflectors b.0
       then reflector_news t now.reflectors b.0 (steady_of new.sessions b.0) (row_at now.heard b.0) (row_at new.heard b.0) (names_of word) else [])
       ≡ (if is_reflector reflectors b.0
-      then reflector_news t (by_address t reflectors) b.0 (peers_from 0 (slice_index_or (sessions_in t u) b.0 [])) (kept_in l w b.0) (kept_in l u b.0) (names_of word)
+      then reflector_news t (by_address t reflectors) b.0 (peers_from 0 (slice_index_or (sessions_in t u) b.0 [])) (kept_in l w b.0) (kept_in l u b.0)
+      (names_of word)
       else [])
   telling =
       ap (λ by. tell by (is_reflector by b.0) (steady_of new.sessions b.0) (row_at now.heard b.0) (row_at new.heard b.0)) st.reflectors_are
-      ∙ ap (λ is. tell (by_address t reflectors) is (steady_of new.sessions b.0) (row_at now.heard b.0) (row_at new.heard b.0)) (still_reflector t reflectors b.0)
+      ∙ ap (λ is. tell (by_address t reflectors) is (steady_of new.sessions b.0) (row_at now.heard b.0) (row_at new.heard b.0))
+      (still_reflector t reflectors b.0)
       ∙ ap (λ ss. tell (by_address t reflectors) (is_reflector reflectors b.0) (steady_of ss b.0) (row_at now.heard b.0) (row_at new.heard b.0)) sessions_now
       ∙ ap (λ row. tell (by_address t reflectors) (is_reflector reflectors b.0) (steady_of (sessions_in t u) b.0) row (row_at new.heard b.0)) old_row
       ∙ ap (tell (by_address t reflectors) (is_reflector reflectors b.0) (steady_of (sessions_in t u) b.0) (kept_in l w b.0)) new_row
@@ -172,16 +178,19 @@ module _ (t : Network) (reflectors : List ℕ) (l : Labels) (w : ReflectWorld) (
           ≡ letters_in t reflectors l (after t reflectors w (step.HearBgp a b)).flying
       by_turn (Opens e q) =
           ap (λ v. front ++ hearing_letters t now.reflectors now new b.0 a.0 v) e
-          ∙ sym (hear.letters_open t reflectors l w lawful a b differ a_below b_below word first live rest.order rest.good rest.run.within rest_then.order kept_now
+          ∙ sym (hear.letters_open t reflectors l w lawful a b differ a_below b_below word first live rest.order rest.good rest.run.within rest_then.order
+          kept_now
           rest_then.run.within e q)
       by_turn (Keeps e q) =
           ap (λ v. front ++ hearing_letters t now.reflectors now new b.0 a.0 v) e
           ∙ ap (λ ls. front ++ ls) offering
-          ∙ sym (hear.letters_keep t reflectors l w lawful a b differ a_below b_below word first live rest.order rest.good rest.run.within rest_then.order kept_now
+          ∙ sym (hear.letters_keep t reflectors l w lawful a b differ a_below b_below word first live rest.order rest.good rest.run.within rest_then.order
+          kept_now
           rest_then.run.within e q)
       by_turn (Tells m h) =
           ap (λ ls. front ++ ls) (mention word refl m ∙ telling)
-          ∙ sym (hear.letters_tell t reflectors l w lawful a b differ a_below b_below word first live rest.order rest.good rest.run.within rest_then.order kept_now
+          ∙ sym (hear.letters_tell t reflectors l w lawful a b differ a_below b_below word first live rest.order rest.good rest.run.within rest_then.order
+          kept_now
           rest_then.run.within m h (settled h))
         where
           mention : (v : Word) → v ≡ word → IsMention v → hearing_letters t now.reflectors now new b.0 a.0 v

@@ -39,7 +39,8 @@ module _ (t : Network) (reflectors : List ℕ) (steps : List Step) (now new : Re
   second : (a b : ℕ) → may_peer t reflectors a b ≡ true → (is_reflector reflectors b ≡ true) ⊎ (is_edge t.vrfs b ≡ true)
   second a b h = elim (or_ways (is_reflector reflectors a && (is_reflector reflectors b || is_edge t.vrfs b)) (is_reflector reflectors b && is_edge t.vrfs a)
       (and_right (not (a == b)) _ h)) [
-        | inl e ↦ or_ways (is_reflector reflectors b) (is_edge t.vrfs b) (and_right (is_reflector reflectors a) (is_reflector reflectors b || is_edge t.vrfs b) e)
+        | inl e ↦ or_ways (is_reflector reflectors b) (is_edge t.vrfs b)
+            (and_right (is_reflector reflectors a) (is_reflector reflectors b || is_edge t.vrfs b) e)
         | inr e ↦ inl (and_left (is_reflector reflectors b) (is_edge t.vrfs a) e)
       ]
 
@@ -65,10 +66,12 @@ module _ (t : Network) (reflectors : List ℕ) (steps : List Step) (now new : Re
           (rest_goes t reflectors run.topology_is run.are w l (step.HearBgp a b) is none rest)
           (subst (λ o. Goes t reflectors l o now new (step.HearBgp a b)) e g)
   then_is (step.AddRoute s prefix) is none g =
-      then_adds t reflectors l w now new st run.topology_is run.are rest s (less_tells s.0 (length t.sites) (and_left (has_site t s) (is_lawful_prefix prefix) is)) prefix
+      then_adds t reflectors l w now new st run.topology_is run.are rest s
+      (less_tells s.0 (length t.sites) (and_left (has_site t s) (is_lawful_prefix prefix) is)) prefix
       (rest_goes t reflectors run.topology_is run.are w l (step.AddRoute s prefix) is none rest) g
   then_is (step.DelRoute s prefix) is none g =
-      then_deletes t reflectors l w now new st run.topology_is run.are rest s (less_tells s.0 (length t.sites) (and_left (has_site t s) (is_lawful_prefix prefix) is))
+      then_deletes t reflectors l w now new st run.topology_is run.are rest s
+      (less_tells s.0 (length t.sites) (and_left (has_site t s) (is_lawful_prefix prefix) is))
       prefix (rest_goes t reflectors run.topology_is run.are w l (step.DelRoute s prefix) is none rest) (free t w (step.DelRoute s prefix) none) g
   then_is (step.Import v on target) is none g =
       then_imports t reflectors l w now new st run.topology_is run.are rest v target on
@@ -90,7 +93,8 @@ pub goes_on : (t : Network) (reflectors : List ℕ) (steps : List Step) (done : 
     takes t reflectors done ≡ true → refusal t (world_of t reflectors steps) done ≡ None → IsReflect t reflectors steps now →
     Goes t reflectors (labels_of t steps) (word_heard (world_of t reflectors steps) done) now new done → IsReflect t reflectors (steps ++ done ∷ []) new
 goes_on t reflectors steps done now new run is none stands g =
-    let then : IsThen t reflectors (labels_after t (world_of t reflectors steps).config (labels_of t steps) done) (after t reflectors (world_of t reflectors steps) done) new =
+    let then : IsThen t reflectors (labels_after t (world_of t reflectors steps).config (labels_of t steps) done)
+    (after t reflectors (world_of t reflectors steps) done) new =
     then_is t reflectors steps now new run stands.0 done is none g in
     let there : StandsFor t reflectors (labels_after t (world_of t reflectors steps).config (labels_of t steps) done)
     (after t reflectors (world_of t reflectors steps) done) new = record {

@@ -1,4 +1,4 @@
--- What a step makes of sessions, of what was heard, and of how many attachments there are.
+-- What a step makes of sessions, of what was received, and of how many attachments there are.
 use Rattle.std.proofs.Common.{ℕ, zero, suc, ◌≡◌, ◌≢◌, ◌+◌, ◌<◌, ◌≤◌, ◌⊎◌, inl, inr, Bool, true, false, List, [], ◌∷◌, ◌++◌, map, length, Some, None, Option}
 use Rattle.std.proofs.Common.{refl, arith, sym, ◌∙◌, ap, subst}
 use Rattle.std.specs.Prelude.{nat_lt, if◌then◌else◌, slice_index_or}
@@ -78,7 +78,7 @@ pub same_kept : (t : Network) (c : Config) (l : Labels) (s : Step) (w : ReflectW
     kept_in (labels_after t c l s) w n p ≡ kept_in l w n p
 same_kept t c l s w n p h = ap (λ ks. if peers_live w.config n p then ks else []) (same_words t c l s [] (w.heard n p) h)
 
--- 2. What was heard
+-- 2. What was received
 
 either_nothing : (t : Bool) → (let ks : List Heard = if t then [] else [] in ks) ≡ []
 either_nothing true = refl
@@ -123,7 +123,8 @@ module _ (t : Network) (reflectors : List ℕ) (l : Labels) (w : ReflectWorld) w
       table size (kept_in l (heard_one w a b (Some word))) ≡ heard_hear l b a word (all_kept t l w)
   heard_word a b word a_below b_below live = by word refl
     where
-      all_same : (word : Word) → table size (kept_in l (heard_one w a b (Some word))) ≡ table size (put_pair (kept_in l w) b a (after_word l (kept_in l w b a) word))
+      all_same : (word : Word) → table size (kept_in l (heard_one w a b (Some word))) ≡ table size
+          (put_pair (kept_in l w) b a (after_word l (kept_in l w b a) word))
       all_same word =
           table_same size (kept_in l (heard_one w a b (Some word))) (put_pair (kept_in l w) b a (after_word l (kept_in l w b a) word))
           (λ n p. takes_in l w a b word n p live)
@@ -137,7 +138,8 @@ module _ (t : Network) (reflectors : List ℕ) (l : Labels) (w : ReflectWorld) w
           ∙ ap (λ ks. set_at b a (after_word l ks word) (all_kept t l w)) (sym row)
 
       by : (v : Word) → v ≡ word → table size (kept_in l (heard_one w a b (Some v))) ≡ heard_hear l b a v (all_kept t l w)
-      by Open e = all_same Open ∙ table_same size (put_pair (kept_in l w) b a (kept_in l w b a)) (kept_in l w) (λ n p. put_same (kept_in l w) b a (kept_in l w b a) refl n p)
+      by Open e = all_same Open ∙ table_same size (put_pair (kept_in l w) b a (kept_in l w b a)) (kept_in l w)
+          (λ n p. put_same (kept_in l w) b a (kept_in l w b a) refl n p)
       by KeepAlive e = all_same KeepAlive
           ∙ table_same size (put_pair (kept_in l w) b a (kept_in l w b a)) (kept_in l w) (λ n p. put_same (kept_in l w) b a (kept_in l w b a) refl n p)
       by (Announce x) e = all_same (Announce x) ∙ set (Announce x)
@@ -220,7 +222,7 @@ module _ (t : Network) (reflectors : List ℕ) (w : ReflectWorld) where
   unfolding in_state
   sessions_down a b less below = two_ends (unsaid w (step.BgpDown a b)) a.0 b.0 false less below refl (λ n p. refl)
 
-  -- a word is heard
+  -- a word is received
   module _ (a b : ℕ) (word : Word) (a_below : a < length t.loopbacks) (b_below : b < length t.loopbacks) (live : peers_live w.config b a ≡ true) where
     abbrev then_world : ReflectWorld
     then_world = heard_one w a b (Some word)
@@ -246,7 +248,8 @@ module _ (t : Network) (reflectors : List ℕ) (w : ReflectWorld) where
       | inr d ↦ off n p (inl d.1)
       | inl e ↦ elim (eqb_tells p a) [
         | inr d ↦ off n p (inr d.1)
-        | inl q ↦ subst (λ x. session_in t then_world x p ≡ session_in t w x p) (sym e.1) (subst (λ y. session_in t then_world b y ≡ session_in t w b y) (sym q.1)
+        | inl q ↦ subst (λ x. session_in t then_world x p ≡ session_in t w x p) (sym e.1)
+            (subst (λ y. session_in t then_world b y ≡ session_in t w b y) (sym q.1)
             (end_now ∙ ap (λ s. Some (end_in t b a s)) (as_before (length (w.heard b a)) h)
             ∙ sym (ap (λ x. in_state b a x (length (w.heard b a))) live)))
       ]

@@ -20,7 +20,8 @@ module _ {A : Type 0} (size : ℕ) where
   pub table_row : (f : ℕ → ℕ → A) (node : ℕ) → node < size → slice_index_or (table size f) node [] ≡ map (f node) (range_with_len 0 size)
   table_row f node below = map_numbers_at (λ n. map (f n) (range_with_len 0 size)) size node [] below
 
-  pub table_at : (f : ℕ → ℕ → A) (node peer : ℕ) (d : A) → node < size → peer < size → slice_index_or (slice_index_or (table size f) node []) peer d ≡ f node peer
+  pub table_at : (f : ℕ → ℕ → A) (node peer : ℕ) (d : A) → node < size → peer < size →
+      slice_index_or (slice_index_or (table size f) node []) peer d ≡ f node peer
   table_at f node peer d below peer_below =
       ap (λ row. slice_index_or row peer d) (table_row f node below) ∙ map_numbers_at (f node) size peer d peer_below
 

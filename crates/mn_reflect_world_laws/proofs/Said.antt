@@ -1,4 +1,4 @@
--- What is said is of routes over attachments that were made.
+-- What is sent is of routes over attachments that were made.
 use Rattle.std.proofs.Common.{ℕ, zero, suc, ◌≡◌, ◌<◌, inl, inr, Bool, true, false, cond, List, [], ◌∷◌, ◌++◌, map, filter, length, Some, None, Option}
 use Rattle.std.proofs.Common.{refl, ◌∙◌, ap, subst}
 use Rattle.std.specs.Prelude.{◌==◌, not, if◌then◌else◌, option_map}
@@ -69,7 +69,8 @@ module _ (t : Network) (reflectors : List ℕ) (c : Config) (w : ReflectWorld) (
       by : (b d : Bool) → (if b then from_edge t w n key else if d then None else pick t reflectors w n key) ≡ Some x → IsMade t c x.export
       by true d e = announced_made n (edge_of t key.vrf) key x e
       by false true e = absurd (none_some e)
-      by false false e = or_made (from_edge t w n key) (from_reflectors t reflectors w n key) (announced_made n (edge_of t key.vrf) key) (reflected_made n key) x e
+      by false false e = or_made (from_edge t w n key) (from_reflectors t reflectors w n key) (announced_made n (edge_of t key.vrf) key)
+          (reflected_made n key) x e
 
   own_made : (n : ℕ) (key : Key) (x : Offer) → own_offer t w.config n key ≡ Some x → IsMade t c x.export
   own_made n key x h =

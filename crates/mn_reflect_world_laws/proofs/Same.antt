@@ -1,4 +1,4 @@
--- Where what a node hears stays, what it offers stays, and it has no news.
+-- Where what a node receives stays, what it offers stays, and it has no news.
 use Rattle.std.proofs.Common.{ℕ, zero, suc, ◌≡◌, ◌≢◌, ◌+◌, ◌<◌, ◌≤◌, ◌⊎◌, inl, inr, Bool, true, false, cond, List, [], ◌∷◌, ◌++◌, map, filter, length}
 use Rattle.std.proofs.Common.{Some, None, Option, refl, arith, sym, ◌∙◌, ap, subst, append-nil}
 use Rattle.std.specs.Prelude.{◌==◌, not, if◌then◌else◌, option_map, slice_index_or}
@@ -10,7 +10,8 @@ use Rattle.mn_ledger.specs.Places.{edge_of}
 use Rattle.mn_ledger.specs.Bgp.{peers_live}
 use Rattle.mn_bgp_spelling_laws.specs.Spelling.{Labels}
 use Rattle.mn_offers.specs.Heard.{Heard}
-use Rattle.mn_reflect_ledger_laws.specs.Words.{Key, Offer, Word, Open, KeepAlive, Announce, Withdraw, same_key, key_of, mentioned, last_mention, in_order, change}
+use Rattle.mn_reflect_ledger_laws.specs.Words.{Key, Offer, Word, Open, KeepAlive, Announce, Withdraw, same_key, key_of, mentioned, last_mention, in_order}
+use Rattle.mn_reflect_ledger_laws.specs.Words.{change}
 use Rattle.mn_reflect_ledger_laws.specs.Picks.{ReflectWorld, announced_by, or_else, first_announced, by_address, from_reflectors, from_edge, pick, is_reflector}
 use Rattle.mn_reflect_ledger_laws.specs.Picks.{through, to_reflect, offered, own_offer, known_keys}
 use Rattle.mn_reflect_ledger_laws.specs.World.{says, is_steady, news_of, news}

@@ -1,4 +1,4 @@
--- A node says OPEN, then KEEPALIVE, and then of routes alone.
+-- A node sends OPEN, then KEEPALIVE, and then of routes alone.
 use Rattle.std.proofs.Common.{ℕ, zero, suc, ◌≡◌, ◌≢◌, ◌<◌, ◌≤◌, ◌⊎◌, inl, inr, Bool, true, false, cond, List, [], ◌∷◌, ◌++◌, length, Some, None, Option}
 use Rattle.std.proofs.Common.{refl, arith, sym, ◌∙◌, ap, subst, append-nil}
 use Rattle.std.specs.Prelude.{◌&&◌, nat_le, if◌then◌else◌}
@@ -41,7 +41,7 @@ AreTalk _ = ⊥
 both_mention : (xs ys : List Word) → AreMentions xs → AreMentions ys → AreMentions (xs ++ ys)
 both_mention xs ys h g word i = elim (in_append xs ys word i) [ inl j ↦ h word j | inr j ↦ g word j ]
 
--- once KEEPALIVE was said
+-- once KEEPALIVE was sent
 talk_more : (count : ℕ) (words tail : List Word) → AreTalk words → BeginsBy count words → 0 < count → AreMentions tail → AreTalk (words ++ tail)
 talk_more count [] tail h b p g = absurd b
 talk_more count (Open ∷ []) tail h b p g = absurd (none b p)
@@ -181,17 +181,20 @@ module _ (topology : Network) (reflectors : List ℕ) (world : ReflectWorld) (ru
             subst AreTalk (sym (told_anew topology reflectors world done n p there peer_there run.within within
             (told_empty topology reflectors world run done a b less b_there on same sessions opening silent opens begins ends n p apart there peer_there who)
             (ap (λ ws. peers_live (unsaid world done).config n p && nat_le 2 (length ws))
-            (empty_at topology reflectors world run done a b less b_there on same sessions opening silent opens begins ends n p apart there peer_there who n p who)
+            (empty_at topology reflectors world run done a b less b_there on same sessions opening silent opens begins ends n p apart there peer_there who n p
+            who)
             ∙ and_false (peers_live (unsaid world done).config n p))
-            ∙ answer topology reflectors world run done a b less b_there on same sessions opening silent opens begins ends n p apart there peer_there who)) talks
+            ∙ answer topology reflectors world run done a b less b_there on same sessions opening silent opens begins ends n p apart there peer_there who))
+            talks
         by n p apart there peer_there (inr other) =
             talk_on topology reflectors world done n p there peer_there run.within
             (within_restarted topology reflectors world run done a b less b_there on same sessions opening silent opens begins ends)
             (old.talk n p apart there peer_there) (run.turns n p apart there peer_there)
             (told_other topology reflectors world run done a b less b_there on same sessions opening silent opens begins ends n p apart there peer_there other)
-            (answer_other topology reflectors world run done a b less b_there on same sessions opening silent opens begins ends n p apart there peer_there other)
+            (answer_other topology reflectors world run done a b less b_there on same sessions opening silent opens begins ends n p apart there peer_there
+            other)
 
-  -- a word is heard
+  -- a word is received
   module _ (done : Step) (a b : ℕ) (differ : a ≢ b) (a_there : a < length topology.loopbacks) (b_there : b < length topology.loopbacks) (word : Word)
       (first : first_word a b world.flying ≡ Some word) (same : counted world done ≡ heard_one world a b (Some word))
       (sessions : (config_after world.config done).bgp_on ≡ world.config.bgp_on)

@@ -59,7 +59,8 @@ module _ (t : Network) (reflectors : List ℕ) (l : Labels) (w u : ReflectWorld)
   letters_to : Key → ℕ → List Letter
   letters_to key p = change_letters t n p key (offered_of t by_addresses (kept_in l w n) n p key) (offered_of t by_addresses (kept_in l u n) n p key)
 
-  change_to : (key : Key) (p : ℕ) → letters_in t reflectors l (says n p (change key (offered t reflectors w n p key) (offered t reflectors u n p key))) ≡ letters_to key p
+  change_to : (key : Key) (p : ℕ) →
+      letters_in t reflectors l (says n p (change key (offered t reflectors w n p key) (offered t reflectors u n p key))) ≡ letters_to key p
   unfolding letters_to
   change_to key p =
       change_is t reflectors l n p is c given key (offered t reflectors w n p key) (offered t reflectors u n p key) (was_of p key) (is_of p key)
@@ -94,7 +95,7 @@ module _ (t : Network) (reflectors : List ℕ) (l : Labels) (w u : ReflectWorld)
       said_of : Key → List Spoken
       said_of key = flat_map (news_of t reflectors w u n key) (nodes_of (wiring_of t))
 
-      -- of a name of which nothing changes nothing is said
+      -- of a name of which nothing changes nothing is sent
       quiet : (key : Key) → ((p : ℕ) → offered t reflectors w n p key ≡ offered t reflectors u n p key) → said_of key ≡ []
       unfolding said_of
       quiet key h = flat_none (news_of t reflectors w u n key) (nodes_of (wiring_of t)) (λ p. by p (is_steady w u n p))
@@ -138,5 +139,6 @@ module _ (t : Network) (reflectors : List ℕ) (l : Labels) (w u : ReflectWorld)
       (λ key. flat_none (news_of t reflectors w u n key) (nodes_of (wiring_of t)) (λ p. by key p (is_steady w u n p)))
     where
       by : (key : Key) (p : ℕ) (b : Bool) → cond b (says n p (change key (offered t reflectors w n p key) (offered t reflectors u n p key))) [] ≡ []
-      by key p true = ap (λ o. says n p (change key o (offered t reflectors u n p key))) (h p key) ∙ ap (says n p) (no_change key (offered t reflectors u n p key))
+      by key p true = ap (λ o. says n p (change key o (offered t reflectors u n p key))) (h p key)
+          ∙ ap (says n p) (no_change key (offered t reflectors u n p key))
       by key p false = refl

@@ -1,4 +1,4 @@
--- The word that is heard, by how many were heard before.
+-- The word that is received, by how many were received before.
 use Rattle.std.proofs.Common.{ℕ, ◌≡◌, ◌≢◌, ◌<◌, ◌≤◌, inl, inr, true, false, List, [], ◌∷◌, ◌++◌, length, Some, refl, arith, sym, ◌∙◌, ap, subst}
 use Rattle.mn_base.proofs.Members.{in_rest}
 use Rattle.mn_topo.specs.Network.{Network}

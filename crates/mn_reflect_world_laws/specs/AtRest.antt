@@ -15,7 +15,7 @@ abbrev pub then_others : Option Step → (Step → List Step) → List Step
 then_others None others = []
 then_others (Some done) others = done ∷ others done
 
--- at most so many hearings, the word said first of all each time
+-- at most so many hearings, the word sent first of all each time
 abbrev pub hearings : ℕ → Network → List ℕ → ReflectWorld → List Step
 hearings zero topology reflectors world = []
 hearings (suc more) topology reflectors world =

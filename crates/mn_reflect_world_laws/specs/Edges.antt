@@ -14,7 +14,7 @@ use Rattle.mn_reflect_ledger_laws.specs.Picks.{ReflectWorld, from_reflectors, pl
 abbrev pub Decisions : Type 0
 Decisions = ℕ → ℕ → List Telling
 
--- an edge hears all that was decided, as if another edge told it in a session that lives
+-- an edge receives all that was decided, as if another edge told it in a session that lives
 abbrev pub all_live : Network → Config → Config
 all_live topology config = record config { bgp_on = λ one other. is_edge topology.vrfs one && is_edge topology.vrfs other }
 

@@ -33,7 +33,7 @@ use Rattle.mn_reflect_world_laws.specs.Choice.{row_at, reflected_to, names_in, a
 use Rattle.mn_reflect_world_laws.specs.Letters.{open_letter, keep_letter, vpn_route_of, reflector_news, reflector_offers, edge_news}
 use Rattle.mn_reflect_world_laws.specs.Now.{ReflectNow}
 
--- the word that is heard in a step
+-- the word that is received in a step
 abbrev pub word_heard : ReflectWorld → Step → Option Word
 word_heard world (step.HearBgp a b) = first_word a.0 b.0 world.flying
 word_heard world _ = None
@@ -47,7 +47,7 @@ set_at node peer value rows = slice_set rows node (slice_set (slice_index_or row
 abbrev pub end_in : Network → ℕ → ℕ → BgpState → BgpSession
 end_in topology node peer state = record { asn = topology.asn; me = loopback topology node; peer = loopback topology peer; state = state }
 
--- OPEN is heard first, then KEEPALIVE, and then routes
+-- OPEN is received first, then KEEPALIVE, and then routes
 abbrev pub sessions_hear : Network → ℕ → ℕ → Word → List (List (Option BgpSession)) → List (List (Option BgpSession))
 sessions_hear topology node peer Open sessions = set_at node peer (Some (end_in topology node peer OpenConfirm)) sessions
 sessions_hear topology node peer KeepAlive sessions = set_at node peer (Some (end_in topology node peer Established)) sessions
@@ -65,7 +65,7 @@ sessions_after topology word sessions _ = sessions
 abbrev pub steady_of : List (List (Option BgpSession)) → ℕ → List NodeNo
 steady_of sessions node = peers_from 0 (slice_index_or sessions node [])
 
--- 2. What was heard
+-- 2. What was received
 
 abbrev pub heard_hear : Labels → ℕ → ℕ → Word → List (List (List Heard)) → List (List (List Heard))
 heard_hear labels node peer (Announce offer) heard = set_at node peer (after_word labels (row_at heard node peer) (Announce offer)) heard
@@ -143,7 +143,7 @@ edges_after topology reflectors word now heard _ = now.edges
 
 -- 5. Letters
 
--- what a node says as the session of a peer ends: a reflector tells of the routes that it heard of it
+-- what a node says as the session of a peer ends: a reflector tells of the routes that it received from it
 abbrev pub forgetting_letters : Network → List ℕ → ReflectNow → ReflectNow → ℕ → ℕ → List Letter
 forgetting_letters topology reflectors now new node peer =
     if is_reflector reflectors node
@@ -158,7 +158,7 @@ offering_letters topology reflectors now node peer =
     then reflector_offers topology reflectors node peer (row_at now.heard node) (all_names (slice_index_or now.heard node []))
     else edge_news topology node (record { 0 = peer } ∷ []) true (held.exports_of (edge_of_node now.edges node))
 
--- what it says as it hears a word
+-- what it says as it receives a word
 abbrev pub hearing_letters : Network → List ℕ → ReflectNow → ReflectNow → ℕ → ℕ → Word → List Letter
 hearing_letters topology reflectors now new node peer Open = keep_letter node peer ∷ []
 hearing_letters topology reflectors now new node peer KeepAlive = offering_letters topology reflectors new node peer
@@ -203,7 +203,7 @@ letters_after topology reflectors word now new _ = now.mail.letters
 
 -- 6. The whole
 
--- all of it was done that a step makes of what is kept, where this word is heard in it
+-- all of it was done that a step makes of what is kept, where this word is received in it
 pub record Goes (topology : Network) (reflectors : List ℕ) (labels : Labels) (word : Option Word) (now new : ReflectNow) (done : Step) : Type 0 where
   pub works : new.failed ≡ false
   pub topology_is : new.topology ≡ now.topology

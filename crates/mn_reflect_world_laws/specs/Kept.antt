@@ -1,4 +1,4 @@
--- What a node keeps of what it heard of one peer: of each route its last mention.
+-- What a node keeps of what it received from one peer: of each route its last mention.
 use Rattle.std.specs.Prelude.{ℕ, if◌then◌else◌, List, [], ◌∷◌, map}
 use Rattle.mn_wiring.specs.Wiring.{nodes_of}
 use Rattle.mn_topo.specs.Network.{Network, wiring_of}

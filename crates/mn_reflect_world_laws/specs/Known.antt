@@ -1,4 +1,4 @@
--- What is known of what is kept and heard, so that it can be said on.
+-- What is known of what is kept and received, so that it can be sent on.
 use Rattle.std.specs.Prelude.{◌≡◌, ◌<◌, ◌≤◌, ◌^◌, ℕ, true, false, List, [], length, slice_index_or, Option, Some, None}
 use Rattle.mn_base.specs.Numbers.{has_rd_form}
 use Rattle.mn_base.specs.Ordered.{IsAscending}
@@ -45,13 +45,13 @@ pub record IsOffered (topology : Network) (route : Heard) : Type 0 where
   pub some : 1 ≤ length route.clusters
   pub near : length route.clusters ≤ 3
 
--- a word of routes is of routes that can be said
+-- a word of routes is of routes that can be sent
 abbrev pub IsSayableWord : Network → Labels → Word → Type 0
 IsSayableWord topology labels (Announce offer) = IsSayableRoute topology (route_in labels offer)
 IsSayableWord topology labels (Withdraw key) = (key.vrf < length topology.vrfs) × IsPrefix key.prefix.address key.prefix.length
 IsSayableWord topology labels _ = Unit {0}
 
--- by what is heard, how far the session has come
+-- by what is received, how far the session has come
 abbrev pub state_of_word : Word → BgpState
 state_of_word Open = OpenSent
 state_of_word KeepAlive = OpenConfirm
@@ -63,7 +63,7 @@ HasClusters reflectors from (Announce offer) =
     (is_reflector reflectors from ≡ true → 1 ≤ length offer.clusters) × (is_reflector reflectors from ≡ false → offer.clusters ≡ [])
 HasClusters reflectors from _ = Unit {0}
 
--- the word that a node hears next of a peer comes in turn
+-- the word that a node receives next of a peer comes in turn
 pub record IsHeardInTurn (topology : Network) (reflectors : List ℕ) (labels : Labels) (now : ReflectNow) (from to : ℕ) (word : Word) : Type 0 where
   pub letter : mail.first_from_to from to now.mail.letters ≡ Some (letter_in topology reflectors labels (record { from = from; to = to; word = word }))
   pub turn : slice_index_or (slice_index_or now.sessions to []) from None ≡ Some (end_in topology to from (state_of_word word))

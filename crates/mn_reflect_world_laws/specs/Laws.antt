@@ -1,4 +1,4 @@
--- What a node keeps is what was last mentioned, and what flies is what was said.
+-- What a node keeps is what was last mentioned, and what flies is what was sent.
 use Rattle.std.specs.Prelude.{◌≡◌, ◌≢◌, ℕ, [], not, true, List, filter, Some, option_map}
 use Rattle.mn_topo.specs.Network.{Network}
 use Rattle.mn_topo.specs.declared.steps.Step.TheVariants as step
@@ -32,7 +32,7 @@ abbrev pub LettersAreWords : Type 0
 LettersAreWords = (topology : Network) (reflectors : List ℕ) (labels : Labels) (a b : ℕ) (flying : List Spoken) →
     FliesAsSaid topology reflectors labels a b flying
 
--- as a word of a peer is heard, what the node keeps of that peer takes it in, and nothing else changes
+-- as a word of a peer is received, what the node keeps of that peer takes it in, and nothing else changes
 abbrev pub TakesInWhatIsHeard : Type 0
 TakesInWhatIsHeard = (labels : Labels) (world : ReflectWorld) (from to : ℕ) (word : Word) (node peer : ℕ) → peers_live world.config to from ≡ true →
     kept_in labels (heard_one world from to (Some word)) node peer
@@ -42,7 +42,7 @@ TakesInWhatIsHeard = (labels : Labels) (world : ReflectWorld) (from to : ℕ) (w
 abbrev pub both_forgotten : (ℕ → ℕ → List Heard) → ℕ → ℕ → ℕ → ℕ → List Heard
 both_forgotten kept a b = put_pair (put_pair kept a b []) b a []
 
--- as a session of two nodes begins or ends, each forgets what it heard of the other, and nothing else changes
+-- as a session of two nodes begins or ends, each forgets what it received from the other, and nothing else changes
 pub record Forgets (labels : Labels) (world : ReflectWorld) (a b : NodeNo) (node peer : ℕ) : Type 0 where
   pub begins : kept_in labels (unsaid world (step.BgpUp a b)) node peer ≡ both_forgotten (kept_in labels world) a.0 b.0 node peer
   pub ends : kept_in labels (unsaid world (step.BgpDown a b)) node peer ≡ both_forgotten (kept_in labels world) a.0 b.0 node peer

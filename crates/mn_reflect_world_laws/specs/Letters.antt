@@ -1,4 +1,4 @@
--- What is said, as letters: RFC 4271, sections 4.2 to 4.4; RFC 4456, section 8.
+-- What is sent, as letters: RFC 4271, sections 4.2 to 4.4; RFC 4456, section 8.
 use Rattle.std.specs.Prelude.{ℕ, ◌==◌, ◌&&◌, Bool, if◌then◌else◌, List, [], ◌∷◌, map, Option, Some, None}
 use Rattle.std.specs.List.{flat_map}
 use Rattle.mn_base.specs.declared.numbers.NodeNo.{NodeNo}

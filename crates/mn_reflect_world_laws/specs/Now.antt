@@ -26,14 +26,14 @@ pub record ReflectNow : Type 0 where
   pub reflectors : List ℕ  -- by address, the least first
   pub edges : List (Option PeNow)  -- by node, none of a node that is no edge
   pub sessions : List (List (Option BgpSession))  -- by node and peer, none where no session lives
-  pub heard : List (List (List Heard))  -- by node and peer, the routes that were heard
+  pub heard : List (List (List Heard))  -- by node and peer, the routes that were received
   pub attachments : List ℕ  -- by node, how many its sites have had
   pub statics : ℕ  -- how many routes there are over sites
-  pub mail : Mail  -- the messages in flight, in the order of saying
+  pub mail : Mail  -- the messages in flight, in the order of sending
   pub done : ℕ  -- how many steps were done
   pub failed : Bool  -- whether memory was wanted
 
--- an end of a session goes by how many words it heard
+-- an end of a session goes by how many words it received
 abbrev pub session_in : Network → ReflectWorld → ℕ → ℕ → Option BgpSession
 session_in topology world node peer =
     if peers_live world.config node peer

@@ -1,4 +1,4 @@
--- What is said where routes are reflected, as bytes: RFC 4271, sections 4.2 to 4.4, and RFC 4456, section 8.
+-- What is sent where routes are reflected, as bytes: RFC 4271, sections 4.2 to 4.4, and RFC 4456, section 8.
 use Rattle.std.specs.Prelude.{ℕ, List, map, if◌then◌else◌}
 use Rattle.mn_topo.specs.Network.{Network}
 use Rattle.mn_bgp_wire.specs.Written.{open_bytes, keepalive_bytes, update_bytes, announced, withdrawn}

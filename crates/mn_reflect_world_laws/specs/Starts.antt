@@ -1,4 +1,4 @@
--- What is kept at the start: no session lives, nothing was heard, and each site of an edge has its label.
+-- What is kept at the start: no session lives, nothing was received, and each site of an edge has its label.
 use Rattle.std.specs.Prelude.{◌≡◌, ℕ, false, List, [], None, length, map, replicate}
 use Rattle.mn_wiring.specs.Wiring.{nodes_of}
 use Rattle.mn_topo.specs.Network.{Network, wiring_of}

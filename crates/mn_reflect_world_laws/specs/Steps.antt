@@ -40,7 +40,7 @@ pub record IsLawfulRun (topology : Network) (reflectors : List ℕ) (steps : Lis
   pub taken : AreTaken topology reflectors steps
   pub done : AreDone topology reflectors steps
 
--- the hearing of the word said first of all in flight
+-- the hearing of the word sent first of all in flight
 abbrev pub first_hearing : List Spoken → Option Step
 first_hearing [] = None
 first_hearing (spoken ∷ more) = Some (step.HearBgp (record { 0 = spoken.from }) (record { 0 = spoken.to }))

@@ -3,24 +3,24 @@ ghost use Rattle.mn_reflect_world_laws.specs.Laws.{KeepsWhatIsAnnounced, Letters
 ghost use Rattle.mn_reflect_world_laws.specs.AtRest.{ComeToRest};
 ghost use Rattle.mn_reflect_world_laws.specs.Onward.{GoesOn, Starts, FindsWhatIsReflected, FindsAsInAFullMesh};
 
-/// What a node keeps of a route is the last mention that it heard of each peer, where that is an announcement and the session lives.
+/// What a node keeps of a route is the last mention that it received from each peer, where that is an announcement and the session lives.
 pub fn a_node_keeps_what_is_announced()
     ensures { KeepsWhatIsAnnounced }
 {}
 
-/// What flies as letters is what was said: so is the first of a direction, what is left once it is taken, and what is left between all other
+/// What flies as letters is what was sent: so is the first of a direction, what is left once it is taken, and what is left between all other
 /// nodes once a session begins or ends.
 pub fn letters_are_what_is_said()
     ensures { LettersAreWords }
 {}
 
-/// As a node hears a word of a peer in a living session, what it keeps of that peer takes the word in, and what any node keeps of any other
+/// As a node receives a word of a peer in a living session, what it keeps of that peer takes the word in, and what any node keeps of any other
 /// peer stays.
 pub fn a_node_takes_in_what_it_hears()
     ensures { TakesInWhatIsHeard }
 {}
 
-/// As a session of two nodes begins or ends, each forgets what it heard of the other, and what any node keeps of any other peer stays.
+/// As a session of two nodes begins or ends, each forgets what it received from the other, and what any node keeps of any other peer stays.
 pub fn two_nodes_forget_as_their_session_turns()
     ensures { ForgetsAsSessionsTurn }
 {}

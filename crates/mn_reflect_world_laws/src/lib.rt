@@ -1,6 +1,6 @@
 //! What reflectors and edges keep, in the words of `mn_reflect_ledger_laws`: RFC 4456.
 //!
-//! - `specs/Labels`: the labels of attachments; `specs/Spelling`: what is said, as bytes
+//! - `specs/Labels`: the labels of attachments; `specs/Spelling`: what is sent, as bytes
 //! - `specs/Kept`: of each route, what each peer last announced
 //! - `specs/Edges`: an edge, as it is told what was decided of others' routes
 //! - `specs/Now`: what contracts see, and when it stands for the steps that were done
@@ -12,7 +12,7 @@
 //! RFC 4456, sections 6 to 8; RFC 4271, sections 3, 4 and 8.2.2; RFC 4364, sections 4.3 and 5.
 #![tactic(auto)]
 
-mod laws;
+mod laws; // the laws, each with its clause
 
 pub use laws::{
     a_node_keeps_what_is_announced, a_node_takes_in_what_it_hears,

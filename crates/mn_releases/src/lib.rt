@@ -2,7 +2,7 @@
 //! given to another FEC.
 //!
 //! A node that withdraws a FEC from a neighbour is owed a Release (RFC 5036, section 3.5.11). A FEC that isn't offered and of which
-//! nobody owes one is at rest; it rests since the last tick at which its offer ended, a Release of it was heard or a session ended.
+//! nobody owes one is at rest; it rests since the last tick at which its offer ended, a Release of it was received or a session ended.
 //!
 //! ```text
 //!  withdraw(n, f): n owes one more of f              +---------------------------+

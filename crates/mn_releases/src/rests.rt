@@ -83,7 +83,7 @@ impl Rests {
         }
     }
 
-    /// Notes how many.
+    /// Notes how many Releases of a FEC a neighbour owes.
     fn note(&mut self, from: NodeNo, fec: NodeNo, count: u64)
         ensures owed { self.new.owed ≡ slice_set self.old.owed from.0 (with_count (row_of self.old from.0) fec.0 count) }
         ensures rested { self.new.rested ≡ self.old.rested }
@@ -97,7 +97,7 @@ impl Rests {
         }
     }
 
-    /// A neighbour is told a Withdraw of a FEC.
+    /// A neighbour is sent a Withdraw of a FEC.
     pub fn withdraw(&mut self, from: NodeNo, fec: NodeNo)
         requires { count_in (row_of self.old from.0) fec.0 < 18446744073709551615 }
         ensures { self.new ≡ withdrawn self.old from.0 fec.0 }
@@ -106,7 +106,7 @@ impl Rests {
         self.note(from, fec, count);
     }
 
-    /// A neighbour's Release of a FEC is heard at this tick.
+    /// A neighbour's Release of a FEC is received at this tick.
     pub fn release(&mut self, from: NodeNo, fec: NodeNo, tick: u64)
         requires { fec.0 < length self.old.rested }
         ensures { self.new ≡ released self.old from.0 fec.0 tick }

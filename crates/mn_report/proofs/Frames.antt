@@ -39,12 +39,14 @@ read_row topology entries node number packet bytes reading is reads =
 -- so its line tells what was read
 pub read_line : (topology : Network) (entries : List JournalEntry) (node number : ℕ) (packet : Option (Bor (List ℕ))) (bytes : Bor (List ℕ))
     (reading : Result (List Entry × List ℕ) FrameBad) (s t : Stand) (r : Answer) → packet ≡ Some bytes → frame_of bytes.now ≡ reading
-    → Tells (said_line topology node number (read_text topology entries node reading)) s t r → Tells (frame_line topology entries node number (packet_of packet)) s t r
+    → Tells (said_line topology node number (read_text topology entries node reading)) s t r →
+    Tells (frame_line topology entries node number (packet_of packet)) s t r
 read_line topology entries node number packet bytes reading s t r is reads x =
     tells_as _ _ s t r x (read_row topology entries node number packet bytes reading is reads)
 
 -- and that of bytes that are no frame the rule
-pub unread_line : (topology other : Network) (entries : List JournalEntry) (node number : ℕ) (packet : Option (Bor (List ℕ))) (bytes : Bor (List ℕ)) (bad : FrameBad)
+pub unread_line : (topology other : Network) (entries : List JournalEntry) (node number : ℕ) (packet : Option (Bor (List ℕ))) (bytes : Bor (List ℕ))
+    (bad : FrameBad)
     (s t : Stand) (r : Answer) → other ≡ topology → packet ≡ Some bytes → frame_of bytes.now ≡ Err bad
     → Tells (said_line other node number (unread_text (unread_name bad))) s t r → Tells (frame_line topology entries node number (packet_of packet)) s t r
 unread_line topology other entries node number packet bytes bad s t r same is reads x =
@@ -52,8 +54,10 @@ unread_line topology other entries node number packet bytes bad s t r same is re
     (of_topology (λ (n : Network). said_line n node number (unread_text (unread_name bad))) topology other s t r same x)
 
 -- the capture hasn't the record
-pub no_line : (topology other : Network) (entries : List JournalEntry) (node number : ℕ) (packet : Option (Bor (List ℕ))) (s t : Stand) (r : Answer) → other ≡ topology
-    → packet ≡ None → Tells (said_line other node number (unread_text (codes "NoRecord"))) s t r → Tells (frame_line topology entries node number (packet_of packet)) s t r
+pub no_line : (topology other : Network) (entries : List JournalEntry) (node number : ℕ) (packet : Option (Bor (List ℕ))) (s t : Stand) (r : Answer) →
+    other ≡ topology
+    → packet ≡ None → Tells (said_line other node number (unread_text (codes "NoRecord"))) s t r →
+    Tells (frame_line topology entries node number (packet_of packet)) s t r
 no_line topology other entries node number packet s t r same is x =
     tells_as _ _ s t r (of_topology (λ (n : Network). said_line n node number (unread_text (codes "NoRecord"))) topology other s t r same x)
     (sym (ap (λ p. frame_line topology entries node number (packet_of p)) is))

@@ -55,7 +55,8 @@ best_has routes prefix x is =
     (its.0, same_exact x.prefix prefix its.1)
 
 -- no prefix of a route is without a best route
-pub none_best : (routes : List HeldRoute) (prefix : AddressBlock) → In (map (λ (route : HeldRoute). route.prefix) routes) prefix → best_for routes prefix ≡ None → ⊥
+pub none_best : (routes : List HeldRoute) (prefix : AddressBlock) → In (map (λ (route : HeldRoute). route.prefix) routes) prefix →
+    best_for routes prefix ≡ None → ⊥
 none_best routes prefix i none =
     let ys : List HeldRoute = filter (λ (route : HeldRoute). same_prefix route.prefix prefix) routes in
     let found = in_map (λ (route : HeldRoute). route.prefix) routes prefix i in

@@ -38,7 +38,8 @@ module _ (t : Network) (w : World) (g : Labelling) (v : ℕ) (routes : List Held
   }
 
   -- where it does, and a route of the prefix is resolved
-  pub by_resolved : t.resolve ≡ true → (source : Source) → Some source ≡ option_map (λ (r : HeldRoute). source_of g r r.source) (best_for (filter on routes) p) →
+  pub by_resolved : t.resolve ≡ true → (source : Source) →
+      Some source ≡ option_map (λ (r : HeldRoute). source_of g r r.source) (best_for (filter on routes) p) →
       IsShown t w g v routes p source false
   by_resolved resolves source is = by (best_for (filter on routes) p) refl is
     where

@@ -25,6 +25,7 @@ part_where S f s t (Ok x) told = tt
 part_where S f s t (Err e) told = λ i h. (told i h).part
 
 -- the table that is asked for
-pub as_shown : (topology : Network) (journal : List JournalEntry) (inputs : List (List ℕ)) (packet : Option (List ℕ)) (table asked : Show) (s t : Stand) (r : Answer)
+pub as_shown : (topology : Network) (journal : List JournalEntry) (inputs : List (List ℕ)) (packet : Option (List ℕ)) (table asked : Show) (s t : Stand)
+    (r : Answer)
     → table ≡ asked → Tells (table_text topology journal inputs packet asked) s t r → Tells (table_text topology journal inputs packet table) s t r
 as_shown topology journal inputs packet table asked s t r is x = subst (λ a. Tells (table_text topology journal inputs packet a) s t r) (sym is) x

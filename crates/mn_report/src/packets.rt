@@ -90,7 +90,7 @@ fn put_each<O: Sink>(
 }
 
 /// Puts a line for each packet, with the injections that sent them in order, of which the first was the first packet's: where
-/// it entered, what became of it, and at which nodes it was. `line` is written anew. A network that has failed is want of memory.
+/// it entered, what became of it, and at which nodes it was. `line` is written anew. A network that has failed is answered by out of memory.
 pub fn put_packets<O: Sink>(
     out: &mut O,
     page: &mut Page,

@@ -46,7 +46,7 @@ fn put_rows<O: Sink>(
 }
 
 /// Puts a table as the network stands. The packet is that of the record that a `Show::Frame` names, where the capture has it; the
-/// other tables don't look at it. `line` is written anew. A network that has failed is want of memory.
+/// other tables don't look at it. `line` is written anew. A network that has failed is answered by out of memory.
 pub fn put_table<O: Sink>(
     out: &mut O,
     page: &mut Page,

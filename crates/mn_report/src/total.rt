@@ -91,7 +91,7 @@ fn sum_up(net: &Net, refused: u32) -> Totals
 }
 
 /// Puts the last line of a report, where so many lines were refused. `line` is written anew. A network that has failed is
-/// want of memory.
+/// out of memory.
 pub fn put_total<O: Sink>(
     out: &mut O,
     page: &mut Page,

@@ -162,8 +162,10 @@ module _ (t : Network) (lawful : IsLawful t) (es : List JournalEntry) (ps : List
   unfolding before site entry
   came =
       subst (λ b. HasFate (packets_at t es ps to) s.packet (verdict_at_rest t (world_at t es from).config s.site b)) bytes_are
-      (subst (λ j. HasFate (packets_at t es ps to) j (verdict_at_rest t (world_at t es from).config s.site (next_of (left_after (before ++ earlier) ps)))) number_is
-      (subst (λ k. HasFate k (injections (before ++ earlier)) (verdict_at_rest t (world_at t es from).config s.site (next_of (left_after (before ++ earlier) ps)))) ends_at
+      (subst (λ j. HasFate (packets_at t es ps to) j (verdict_at_rest t (world_at t es from).config s.site (next_of (left_after (before ++ earlier) ps))))
+      number_is
+      (subst (λ k. HasFate k (injections (before ++ earlier))
+      (verdict_at_rest t (world_at t es from).config s.site (next_of (left_after (before ++ earlier) ps)))) ends_at
       (at_rest t before earlier later stands.sent.entry.tick stands.sent.number stands.sent.entry.damaged site ps lawful lawful_before stands.resting site_there
       moving (subst (λ (k : Packets). (at : ℕ) → k.flying at ≡ []) (sym ends_at) stands.landed))))
 

@@ -30,7 +30,8 @@ use Rattle.mn_reuse_laws.proofs.Relabelling.{goes_alike}
 use Rattle.mn_reuse_laws.specs.Answers.{heard_from}
 use Rattle.mn_labels.specs.Labels.{label_now}
 use Rattle.mn_reuse_laws.specs.Labels.{labels_of}
-use Rattle.mn_reuse_laws.specs.Relabelled.{Labelling, relabelled_from, session_with, sessions_with, node_with, labels_at, event_with, event_then, IsRelabelledAlike, GoesWithItsLabels}
+use Rattle.mn_reuse_laws.specs.Relabelled.{Labelling, relabelled_from, session_with, sessions_with, node_with, labels_at, event_with, event_then}
+use Rattle.mn_reuse_laws.specs.Relabelled.{IsRelabelledAlike, GoesWithItsLabels}
 use Rattle.mn_reuse_laws.specs.Laws.{StaysLabelled}
 use Rattle.mn_reuse_laws.proofs.Keeping.{keeps_what_is_said}
 
@@ -110,7 +111,8 @@ relabelled_alike t es ps e n lawful journal =
             let inner : l < length t.links = omega (arith, below) in
             let end = and_right (lives w.config l) (is_end (wiring_of t) l n) on in
             let other = across-end (wiring_of t) l n (lawful.ends_differ l inner) end in
-            (keeps_what_is_said t es ps e far p l lawful journal (ends_below t lawful.joins_nodes l far inner other.0) (omega (arith, inside)) apart inner other.0).kept
+            (keeps_what_is_said t es ps e far p l lawful journal (ends_below t lawful.joins_nodes l far inner other.0)
+            (omega (arith, inside)) apart inner other.0).kept
             (ap (is_mapped false p) (heard_other t w l n other.1) ∙ mapped)
 
 any_after : (w : Wiring) (g : Labelling) (node : Node) (o : Option Event)
@@ -124,7 +126,8 @@ any_said w g node None = refl
 any_said w g node (Some event) = (goes_alike w g node event).says
 
 pub goes_with_its_labels : (t : Network) (es : List JournalEntry) (ps : List (List ℕ)) (e : JournalEntry) (count : ℕ) (bytes : List ℕ) (n : ℕ)
-    → IsLawful t → IsLawfulJournal t es ps → fits t e.step ≡ true → refusal_at t (world_of t es) (packets_of t es ps) count e.step bytes ≡ None → n < length t.loopbacks
+    → IsLawful t → IsLawfulJournal t es ps → fits t e.step ≡ true → refusal_at t (world_of t es) (packets_of t es ps) count e.step bytes ≡ None →
+    n < length t.loopbacks
     → GoesWithItsLabels t es e n
 goes_with_its_labels t es ps e count bytes n lawful journal fit fine below = record {
   becomes = ap (λ node. after_any (wiring_of t) node (event_then t es e n)) alike
@@ -134,7 +137,8 @@ goes_with_its_labels t es ps e count bytes n lawful journal fit fine below = rec
       ∙ any_said (wiring_of t) (labels_at t (es ++ e ∷ [])) (node_at t (world_of t es) n) (event_of t (world_of t es) e.step n);
 }
   where
-    alike : node_with (wiring_of t) (labels_at t es) (node_at t (world_of t es) n) ≡ node_with (wiring_of t) (labels_at t (es ++ e ∷ [])) (node_at t (world_of t es) n)
+    alike : node_with (wiring_of t) (labels_at t es) (node_at t (world_of t es) n) ≡ node_with (wiring_of t) (labels_at t (es ++ e ∷ []))
+        (node_at t (world_of t es) n)
     alike = relabelled_alike t es ps e n lawful journal
 
     each : (node : ℕ) → node < length t.loopbacks → node_at t (after t (world_of t es) e.step) node ≡ node_then t (world_of t es) e.step node

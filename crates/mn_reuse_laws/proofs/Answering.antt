@@ -1,4 +1,4 @@
--- Each step of a lawful journal keeps that every end has said as many Releases of a FEC as it has heard Withdraws.
+-- Each step of a lawful journal keeps that every end has sent as many Releases of a FEC as it has received Withdraws.
 use Rattle.std.proofs.Common.{ℕ, ◌≡◌, ◌≢◌, ◌+◌, ◌<◌, ◌≤◌, ◌⊎◌, inl, inr, Bool, true, false, cond, List, [], ◌∷◌, ◌++◌, length, refl, arith, sym, ◌∙◌, ap, subst}
 use Rattle.std.specs.Prelude.{◌==◌, ◌&&◌, take, slice_index_or}
 use Rattle.std.specs.List.{flat_map}
@@ -29,16 +29,16 @@ use Rattle.mn_ledger.proofs.InTurn.{goes_step, begins, not_empty, link_there}
 use Rattle.mn_reuse_laws.specs.Answers.{count_by, is_withdraw, is_release}
 use Rattle.mn_reuse_laws.proofs.Counting.{count_append, answer_count, none_speakers, none_counted, count_on, count_opening}
 
--- each end has said as many Releases of a FEC as it has heard Withdraws
+-- each end has sent as many Releases of a FEC as it has received Withdraws
 abbrev pub Released : Network → Sessions → Type 0
 Released t s = (l m p : ℕ) → l < length t.links → is_end (wiring_of t) l m ≡ true →
     count_by (is_release p) (s.said l m) ≡ count_by (is_withdraw p) (take (s.heard l m) (s.said l (across (wiring_of t) l m)))
 
--- what was heard was said
+-- what was received was sent
 abbrev pub AreFar : Network → Sessions → Type 0
 AreFar t k = (l m : ℕ) → l < length t.links → is_end (wiring_of t) l m ≡ true → k.heard l m ≤ length (k.said l (across (wiring_of t) l m))
 
--- 1. One step in which something may be said
+-- 1. One step in which something may be sent
 
 module _ (t : Network) (c new : Config) (v nv : Views) (s k : Sessions) (step : Step) where
   abbrev told : List Said
@@ -100,7 +100,7 @@ anew_released t s at g l m p h e = elim (eqb_tells l at) [
       ∙ ap (λ ms. count_by (is_withdraw p) (take (s.heard l m) ms)) (anew_off s at l (across (wiring_of t) l m) q.1).0)
 ]
 
--- it hears a message more, and answers it
+-- it receives a message more, and answers it
 one : (b : Bool) (x : Message) → length (cond b (x ∷ []) []) ≡ cond b 1 0
 one true x = refl
 one false x = refl
@@ -108,7 +108,8 @@ one false x = refl
 abbrev pub heard_more : (t : Network) (s : Sessions) (at n : ℕ) → Sessions
 heard_more t s at n = record s { heard = put_pair s.heard at n (s.heard at n + 1) }
 
-pub more_far : (t : Network) (s : Sessions) (at n : ℕ) → s.heard at n < length (s.said at (across (wiring_of t) at n)) → AreFar t s → AreFar t (heard_more t s at n)
+pub more_far : (t : Network) (s : Sessions) (at n : ℕ) → s.heard at n < length (s.said at (across (wiring_of t) at n)) → AreFar t s →
+    AreFar t (heard_more t s at n)
 more_far t s at n more far l m h e = elim (eqb_tells l at) [
   | inr q ↦ off (inl q.1)
   | inl q ↦ elim (eqb_tells m n) [
@@ -223,7 +224,8 @@ released_on : (t : Network) → Apart t → JoinsNodes (wiring_of t) → EndsDif
 released_on t apart joins differ [] tick w k i ps lawful g h = h
 released_on t apart joins differ (e ∷ es) tick w k i ps lawful g h =
     let full : is_empty t w k e.step ≡ false = not_empty t w k i e.step (next_of ps) lawful.2 in
-    released_on t apart joins differ es (clock_after e) (after t w e.step) (packets_by t (after t w e.step) k e (next_of ps)) (i + 1) (left_by e.step ps) lawful.3
+    released_on t apart joins differ es (clock_after e) (after t w e.step) (packets_by t (after t w e.step) k e (next_of ps)) (i + 1)
+    (left_by e.step ps) lawful.3
     (goes_step t apart joins differ w k e.step lawful.0 full g)
     (released_step t w k e.step differ (link_there t e.step lawful.0) full g.ldp h)
 

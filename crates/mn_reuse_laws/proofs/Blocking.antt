@@ -21,14 +21,14 @@ use Rattle.mn_reuse_laws.specs.Resting.{is_released, is_at_rest}
 use Rattle.mn_reuse_laws.proofs.Counting.{count_parts, not_mapped}
 use Rattle.mn_reuse_laws.proofs.Answering.{Released}
 
--- 1. What is in flight, heard and kept of a FEC, at one end
+-- 1. What is in flight, received and kept of a FEC, at one end
 
 module _ (t : Network) (w : World) (l m p : ℕ) (below : l < length t.links) (differ : EndsDiffer (wiring_of t)) (e : is_end (wiring_of t) l m ≡ true)
     (released : Released t w.sessions) where
   far_end : ℕ
   far_end = across (wiring_of t) l m
 
-  -- the other end has said a Release for each Withdraw that it has heard
+  -- the other end has sent a Release for each Withdraw that it has received
   far_released : count_by (is_release p) (w.sessions.said l (across (wiring_of t) l m)) ≡ count_by (is_withdraw p) (heard_from t w l m)
   far_released =
       let other = across-end (wiring_of t) l m (differ l below) e in
@@ -103,7 +103,7 @@ over_mapped k p (Some at) hop h = split (is_operational k at.1 && is_mapped fals
     )
     split false off e = cc
 
--- a node that can send towards a FEC over a link has heard a Mapping of it last there
+-- a node that can send towards a FEC over a link has received a Mapping of it last there
 pub hop_mapped : (t : Network) (w : World) (n p : ℕ) (hop : ℕ × ℕ) → JoinsNodes (wiring_of t) → n < length t.loopbacks → n ≢ p →
     usable t w.config w.views w.sessions n p ≡ Some hop →
     (hop.1 < length t.links) × (is_end (wiring_of t) hop.1 n ≡ true) × (hop.0 ≡ across (wiring_of t) hop.1 n)
@@ -112,7 +112,8 @@ unfolding knowledge_of
 hop_mapped t w n p hop joins below apart h =
     let k : Knowledge = knowledge_of (wiring_of t) w.config w.views w.sessions n in
     let over = over_mapped k p (next (wiring_of t) k.view n p) hop h in
-    let is : IsNext (wiring_of t) k.view n p (Some hop) = subst (IsNext (wiring_of t) k.view n p) over.0 (next_is (wiring_of t) k.view p joins n below apart) in (
+    let is : IsNext (wiring_of t) k.view n p (Some hop) =
+    subst (IsNext (wiring_of t) k.view n p) over.0 (next_is (wiring_of t) k.view p joins n below apart) in (
       is.1.there,
       is.1.at_node,
       is.0,

@@ -14,7 +14,8 @@ use Rattle.mn_topo.specs.declared.steps.Step.{Step}
 use Rattle.mn_topo.specs.declared.steps.Step.TheVariants.{LinkUp, LinkDown, Learn, LdpAdmin, HearLdp}
 use Rattle.mn_topo.specs.declared.steps.JournalEntry.{JournalEntry}
 use Rattle.mn_ledger.specs.World.{World, Config, Views, Sessions, Message, Initialization, KeepAlive, Withdraw}
-use Rattle.mn_ledger.specs.Transport.{Said, lives, knowledge_of, is_operational, is_mapped, messages_of, said_on, answer, opening, ldp_replies, news, speakers, ldp_counted}
+use Rattle.mn_ledger.specs.Transport.{Said, lives, knowledge_of, is_operational, is_mapped, messages_of, said_on, answer, opening, ldp_replies, news, speakers}
+use Rattle.mn_ledger.specs.Transport.{ldp_counted}
 use Rattle.mn_ledger.specs.Transport.{with_said, offers, mention, sessions_after, views_after}
 use Rattle.mn_ledger.specs.Packets.{Packets}
 use Rattle.mn_ledger.specs.Time.{clock_after}
@@ -64,12 +65,12 @@ replies_plain p l m t c s (LdpAdmin at on) = opening_plain p l m t c at.0
 replies_plain p l m t c s (HearLdp at dir) = on_plain p l m at.0 (receiver (wiring_of t) at.0 dir) _ (answer_plain p _ _)
 replies_plain p l m t c s _ = refl
 
--- 2. One step in which something may be said
+-- 2. One step in which something may be sent
 
 abbrev pub InTurns : Network → Sessions → Type 0
 InTurns t s = (l m p : ℕ) → l < length t.links → is_end (wiring_of t) l m ≡ true → p < length t.loopbacks → AreByTurns false p (s.said l m)
 
--- nothing is counted yet that was said in the step, and a life that begins has said and heard nothing
+-- nothing is counted yet that was sent in the step, and a life that begins has sent and received nothing
 abbrev IsBefore : Network → Sessions → Sessions → Type 0
 IsBefore t s k = (l m : ℕ) → ((k.said l m ≡ []) × (k.heard l m ≡ 0)) ⊎ (k.said l m ≡ s.said l m)
 
@@ -102,7 +103,8 @@ module _ (t : Network) (c new : Config) (v nv : Views) (s k : Sessions) (step : 
         | inr q ↦ subst (AreByTurns false p) (sym q) (h l m p below e inside)
       ])
       (turns_of (is_mapped false p (k.said l m)) p (messages_of l m all_said)
-      (subst (AreByTurns (is_mapped false p (k.said l m)) p) (sym (says_of l m p below e inside)) (either (two_ways (is_operational (knowledge_of (wiring_of t) new nv k m) l)))))
+      (subst (AreByTurns (is_mapped false p (k.said l m)) p) (sym (says_of l m p below e inside))
+      (either (two_ways (is_operational (knowledge_of (wiring_of t) new nv k m) l)))))
     where
       was : Bool
       was = is_operational (knowledge_of (wiring_of t) c v s m) l && offers (wiring_of t) (knowledge_of (wiring_of t) c v s m) m p
@@ -123,7 +125,8 @@ module _ (t : Network) (c new : Config) (v nv : Views) (s k : Sessions) (step : 
             subst (λ b. AreByTurns (is_mapped false p (k.said l m)) p (if b then mention
             (is_operational (knowledge_of (wiring_of t) c v s m) l && offers (wiring_of t) (knowledge_of (wiring_of t) c v s m) m p)
             (offers (wiring_of t) (knowledge_of (wiring_of t) new nv k m) m p) p else [])) (sym on)
-            (subst (λ b. AreByTurns b p (mention (is_operational (knowledge_of (wiring_of t) c v s m) l && offers (wiring_of t) (knowledge_of (wiring_of t) c v s m) m p)
+            (subst (λ b. AreByTurns b p (mention
+            (is_operational (knowledge_of (wiring_of t) c v s m) l && offers (wiring_of t) (knowledge_of (wiring_of t) c v s m) m p)
             (offers (wiring_of t) (knowledge_of (wiring_of t) new nv k m) m p) p)) (sym (ap (is_mapped false p) q ∙ says l m p below e inside))
             (mention_turns p (is_operational (knowledge_of (wiring_of t) c v s m) l && offers (wiring_of t) (knowledge_of (wiring_of t) c v s m) m p)
             (offers (wiring_of t) (knowledge_of (wiring_of t) new nv k m) m p)))
@@ -141,7 +144,8 @@ turns_step : (t : Network) (w : World) (k : Packets) (step : Step) → JoinsNode
     → SaysItsOffers t w → InTurns t w.sessions → InTurns t (after t w step).sessions
 unfolding sessions_after
 turns_step t w k (LinkUp at) joins differ fit says h =
-    turns_then t w.config (config_after w.config (LinkUp at)) w.views (views_after w.views (LinkUp at)) w.sessions (anew w.sessions at.0) (LinkUp at) joins differ
+    turns_then t w.config (config_after w.config (LinkUp at)) w.views (views_after w.views (LinkUp at)) w.sessions (anew w.sessions at.0)
+    (LinkUp at) joins differ
     fit (anew_before t w.sessions at.0) says h
 turns_step t w k (LinkDown at) joins differ fit says h =
     turns_then t w.config (config_after w.config (LinkDown at)) w.views (views_after w.views (LinkDown at)) w.sessions (anew w.sessions at.0) (LinkDown at)

@@ -1,4 +1,4 @@
--- What is said in one step: no Release but the answer to a Withdraw.
+-- What is sent in one step: no Release but the answer to a Withdraw.
 use Rattle.std.proofs.Common.{ℕ, ◌≡◌, ◌+◌, inl, inr, Bool, true, false, cond, List, [], ◌∷◌, ◌++◌, map, filter, length, refl, arith, sym, ◌∙◌, ap}
 use Rattle.std.specs.Prelude.{◌==◌, ◌&&◌, ⊤, take, drop, if◌then◌else◌}
 use Rattle.std.specs.List.{flat_map}
@@ -11,7 +11,8 @@ use Rattle.mn_states.specs.declared.states.LdpState.{LdpState}
 use Rattle.mn_states.specs.declared.states.LdpState.TheVariants.{Initialized, OpenSent, OpenRec}
 use Rattle.mn_topo.specs.Network.{Network}
 use Rattle.mn_ledger.specs.World.{Config, Message, Initialization, KeepAlive, Address, Mapping, Withdraw, Release}
-use Rattle.mn_ledger.specs.Transport.{Said, Knowledge, lives, is_operational, is_by, messages_of, said_on, answer, mention, mentioned_on, mentioned_from, offered}
+use Rattle.mn_ledger.specs.Transport.{Said, Knowledge, lives, is_operational, is_by, messages_of, said_on, answer, mention, mentioned_on, mentioned_from}
+use Rattle.mn_ledger.specs.Transport.{offered}
 use Rattle.mn_ledger.specs.Transport.{by_neighbour, news, opening, is_mapped}
 use Rattle.mn_ledger.proofs.Turning.{opener, said-own, said-other}
 use Rattle.mn_reuse_laws.specs.Answers.{count_by, is_withdraw, is_release, is_mention}
@@ -74,7 +75,8 @@ none_links before after node fec was is (l ∷ ls) =
     (none_mention (is_operational before l && was) is l node fec))
     (none_links before after node fec was is ls)
 
-none_from : (before after : Knowledge) (node : ℕ) (ls : List ℕ) (fec : ℕ) (weres ares : List Bool) → HasNoRelease (mentioned_from before after node ls fec weres ares)
+none_from : (before after : Knowledge) (node : ℕ) (ls : List ℕ) (fec : ℕ) (weres ares : List Bool) →
+    HasNoRelease (mentioned_from before after node ls fec weres ares)
 none_from before after node ls fec [] ares = tt
 none_from before after node ls fec (was ∷ weres) [] = tt
 none_from before after node ls fec (was ∷ weres) (is ∷ ares) =
@@ -110,12 +112,14 @@ none_counted p l m (x ∷ xs) h = split (is_by l m x) (none_counted p l m xs h.1
 
 -- 3. Replies
 
--- what is said on one link by one end is counted there alone
-pub count_on : (q : Message → Bool) (l m k n : ℕ) (ms : List Message) → count_by q (messages_of l m (said_on k n ms)) ≡ (cond ((k == l) && (n == m)) (count_by q ms) 0)
+-- what is sent on one link by one end is counted there alone
+pub count_on : (q : Message → Bool) (l m k n : ℕ) (ms : List Message) →
+    count_by q (messages_of l m (said_on k n ms)) ≡ (cond ((k == l) && (n == m)) (count_by q ms) 0)
 count_on q l m k n ms = elim (eqb_tells k l) [
   | inr e ↦ ap (count_by q) (said-other l m k n ms (inl e.1)) ∙ sym (ap (λ b. cond (b && (n == m)) (count_by q ms) 0) e.0)
   | inl e ↦ elim (eqb_tells n m) [
-    | inr f ↦ ap (count_by q) (said-other l m k n ms (inr f.1)) ∙ sym (ap (λ b. cond (b && (n == m)) (count_by q ms) 0) e.0 ∙ ap (λ b. cond b (count_by q ms) 0) f.0)
+    | inr f ↦ ap (count_by q) (said-other l m k n ms (inr f.1))
+        ∙ sym (ap (λ b. cond (b && (n == m)) (count_by q ms) 0) e.0 ∙ ap (λ b. cond b (count_by q ms) 0) f.0)
     | inl f ↦ ap (λ j. count_by q (messages_of l m (said_on j n ms))) e.1 ∙ ap (λ j. count_by q (messages_of l m (said_on l j ms))) f.1
         ∙ ap (count_by q) (said-own l m ms)
         ∙ sym (ap (λ b. cond (b && (n == m)) (count_by q ms) 0) e.0 ∙ ap (λ b. cond b (count_by q ms) 0) f.0)
@@ -135,7 +139,8 @@ count_opening p l m t c at = either (lives c at)
 
 -- 4. Where nothing is mapped at the end of a list without Withdraws, nothing was mentioned in it, nor mapped before it
 
-pub not_mapped : (z : Bool) (p : ℕ) (ms : List Message) → count_by (is_withdraw p) ms ≡ 0 → is_mapped z p ms ≡ false → (z ≡ false) × (count_by (is_mention p) ms ≡ 0)
+pub not_mapped : (z : Bool) (p : ℕ) (ms : List Message) → count_by (is_withdraw p) ms ≡ 0 → is_mapped z p ms ≡ false →
+    (z ≡ false) × (count_by (is_mention p) ms ≡ 0)
 not_mapped z p [] none off = (off, refl)
 not_mapped z p (Initialization ∷ ms) none off = not_mapped z p ms none off
 not_mapped z p (KeepAlive ∷ ms) none off = not_mapped z p ms none off

@@ -55,7 +55,8 @@ to_hop t v l n p d hop differ below end over =
     let one = one_channel l hop.1 d (away_from t hop.1 n) over in
     ap (λ x. receiver (wiring_of t) x d) one.0 ∙ ap (receiver (wiring_of t) hop.1) one.1 ∙ by (eqb_tells (link (wiring_of t) hop.1).a.0 n)
   where
-    by : (((link (wiring_of t) hop.1).a.0 == n) ≡ true) × ((link (wiring_of t) hop.1).a.0 ≡ n) ⊎ (((link (wiring_of t) hop.1).a.0 == n) ≡ false) × ((link (wiring_of t) hop.1).a.0 ≢ n)
+    by : (((link (wiring_of t) hop.1).a.0 == n) ≡ true) × ((link (wiring_of t) hop.1).a.0 ≡ n) ⊎ (((link (wiring_of t) hop.1).a.0 == n) ≡ false)
+        × ((link (wiring_of t) hop.1).a.0 ≢ n)
         → receiver (wiring_of t) hop.1 (away_from t hop.1 n) ≡ across (wiring_of t) hop.1 n
     by (inl x) = ap (λ b. receiver (wiring_of t) hop.1 (if b then Forth else Back)) x.0
         ∙ sym (ap (λ b. if b then (link (wiring_of t) hop.1).b.0 else (link (wiring_of t) hop.1).a.0) x.0)
@@ -67,7 +68,8 @@ alive_link : (t : Network) (w : World) (n l : ℕ) → is_operational (known t w
 unfolding knowledge_of
 alive_link t w n l on = elim (leb_tells (length t.links) l) [
   | inl past ↦ absurd (clash (sym (and_left (hearing (known t w n) l).alive (nat_le 2 (hearing (known t w n) l).count) on)
-      ∙ ap (λ h. h.alive) (get_or_past (map (hearing_at (wiring_of t) w.config w.sessions n) (links_of (wiring_of t))) l (record { alive = false; count = 0; messages = [] })
+      ∙ ap (λ h. h.alive) (get_or_past (map (hearing_at (wiring_of t) w.config w.sessions n) (links_of (wiring_of t))) l
+      (record { alive = false; count = 0; messages = [] })
       (subst (λ m. m ≤ l) (sym (length-map-range_with_len (hearing_at (wiring_of t) w.config w.sessions n) 0 (length t.links))) past.1))))
   | inr below ↦ (
     below.1,
@@ -108,7 +110,8 @@ module _ (t : Network) (e : JournalEntry) (w : World) (k : Packets) (rested : �
         | inr j ↦
             let there = sender_there t (after t w e.step) (sends_in t e.step) token.edge j.hop joins j.way in
             let way = hop_mapped t (after t w e.step) (sends_in t e.step) token.edge j.hop joins there.2 j.apart j.way in
-            absurd (rest_blocks t (after t w e.step) (receiver (wiring_of t) l d) (sends_in t e.step) token.edge j.hop joins differ there.2 j.apart inside says released
+            absurd (rest_blocks t (after t w e.step) (receiver (wiring_of t) l d) (sends_in t e.step) token.edge j.hop joins differ there.2 j.apart inside says
+            released
             rest j.way (way.2 ∙ sym (to_hop t (after t w e.step) l (sends_in t e.step) token.edge d j.hop differ there.0 there.1 j.over)))
       ]
 
@@ -138,7 +141,8 @@ timed_on t apart joins differ lasting (e ∷ es) tick w k i ps rested lawful clo
     (λ m. rested_after t w e.tick e.step m (rested m)) lawful.3 (clock_then t w k e (next_of ps))
     (goes_step t apart joins differ w k e.step lawful.0 may.there g) offers later
     (record {
-      young = grown_young t (after t w e.step) (sends_in t e.step) (timed t e k) (packets_by t (after t w e.step) k e (next_of ps)) grown (timed_all t e k lasting h.young on);
+      young = grown_young t (after t w e.step) (sends_in t e.step) (timed t e k) (packets_by t (after t w e.step) k e (next_of ps)) grown
+          (timed_all t e k lasting h.young on);
       old = old_step t e w k rested joins differ lasting h.young on (next_of ps) offers later
           (λ m p before rest. rest_begins t w k e.step m p differ there may.changes may.there g.ldp r before rest) h.old;
     })
@@ -156,7 +160,8 @@ longest_at : (t : Network) (ls : List ℕ) (l : ℕ) → In ls l → (link (wiri
 longest_at t [] l i = absurd i
 longest_at t (x ∷ xs) l i = elim i [
   | inl e ↦
-      subst (λ y. (link (wiring_of t) y).life ≤ max (link (wiring_of t) x).life (longest_life t xs)) e (le-max_left (link (wiring_of t) x).life (longest_life t xs))
+      subst (λ y. (link (wiring_of t) y).life ≤ max (link (wiring_of t) x).life (longest_life t xs)) e
+      (le-max_left (link (wiring_of t) x).life (longest_life t xs))
   | inr j ↦ between (longest_at t xs l j) (le-max_right (link (wiring_of t) x).life (longest_life t xs))
 ]
   where

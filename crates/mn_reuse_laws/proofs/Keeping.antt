@@ -35,7 +35,8 @@ pub keeps_what_is_said : (t : Network) (es : List JournalEntry) (ps : List (List
     n < length t.loopbacks → p < length t.loopbacks → p ≢ n → l < length t.links → is_end (wiring_of t) l n ≡ true → KeepsWhatIsSaid t es e n p l
 keeps_what_is_said t es ps e n p l lawful journal there below apart inside at = record {
   kept = λ h. by (λ gone. clash (sym h ∙ gone.kept));
-  mention = λ m c h. by (λ gone. some_counted (is_mention p) (flying_from t (world_of t es) l n) m (in_contained (flying_from t (world_of t es) l n) m c) h gone.mentions);
+  mention = λ m c h. by (λ gone. some_counted (is_mention p) (flying_from t (world_of t es) l n) m (in_contained (flying_from t (world_of t es) l n) m c) h
+      gone.mentions);
   release = λ m c h. by (λ gone. some_counted (is_release p) (flying_from t (world_of t es) l (across (wiring_of t) l n)) m
       (in_contained (flying_from t (world_of t es) l (across (wiring_of t) l n)) m c) h gone.releases);
 }

@@ -133,7 +133,8 @@ given_fit : (labels : Labels) (fec label : ℕ) → label_now labels fec ≡ Non
     AreFit (record { given = labels.given ++ record { label = label; what = fec_of fec } ∷ []; fecs = slice_set labels.fecs fec (Some label) })
 given_fit labels fec label none fresh fit = record {
   given = λ p a e. elim (which p a e) [
-    | inl x ↦ in_rest labels.given _ _ (inl (ap (λ n. record { label = n; what = fec_of fec }) (sym x.1) ∙ ap (λ n. record { label = a; what = fec_of n }) (sym x.0)))
+    | inl x ↦ in_rest labels.given _ _ (inl (ap (λ n. record { label = n; what = fec_of fec }) (sym x.1)
+        ∙ ap (λ n. record { label = a; what = fec_of n }) (sym x.0)))
     | inr x ↦ in_front labels.given _ _ (fit.given p a x.1)
   ];
   once = λ p q a e f. elim (which p a e) [
@@ -145,7 +146,10 @@ given_fit labels fec label none fresh fit = record {
     | inr j ↦ no (ap (λ (x : Given). is_attachment x.what) (sym j) ∙ h)
   ];
   sites = λ g h i j x y same. elim (last_in labels.given _ g i) [
-    | inl a ↦ elim (last_in labels.given _ h j) [ inl b ↦ fit.sites g h a b x y same | inr b ↦ absurd (no (ap (λ (z : Given). is_attachment z.what) (sym b) ∙ y)) ]
+    | inl a ↦ elim (last_in labels.given _ h j) [
+      | inl b ↦ fit.sites g h a b x y same
+      | inr b ↦ absurd (no (ap (λ (z : Given). is_attachment z.what) (sym b) ∙ y))
+    ]
     | inr a ↦ absurd (no (ap (λ (z : Given). is_attachment z.what) (sym a) ∙ x))
   ];
   reserved = λ g i. elim (last_in labels.given _ g i) [
@@ -154,7 +158,8 @@ given_fit labels fec label none fresh fit = record {
   ];
 }
   where
-    which : (p a : ℕ) → slice_index_or (slice_set labels.fecs fec (Some label)) p None ≡ Some a → ((p ≡ fec) × (a ≡ label)) ⊎ ((p ≢ fec) × (label_now labels p ≡ Some a))
+    which : (p a : ℕ) → slice_index_or (slice_set labels.fecs fec (Some label)) p None ≡ Some a →
+        ((p ≡ fec) × (a ≡ label)) ⊎ ((p ≢ fec) × (label_now labels p ≡ Some a))
     which p a e = elim (eqb_tells p fec) [
       | inl x ↦ inl (x.1, set_gave labels.fecs fec label a (sym (ap (λ i. slice_index_or (slice_set labels.fecs fec (Some label)) i None) x.1) ∙ e))
       | inr x ↦ inr (x.1, sym (get_or-set_other labels.fecs fec p (Some label) None x.1) ∙ e)
@@ -186,7 +191,8 @@ pub all_fit : (labels : Labels) (fecs : List ℕ) → AreFit labels → AreFit (
 all_fit labels [] fit = fit
 all_fit labels (fec ∷ fecs) fit = all_fit (offered_one labels fec) fecs (one_fit labels fec fit)
 
-kept_was : (free : ℕ → Bool) (fec : ℕ) (xs : List (Option ℕ)) (p a : ℕ) → slice_index_or (kept_from free fec xs) p None ≡ Some a → slice_index_or xs p None ≡ Some a
+kept_was : (free : ℕ → Bool) (fec : ℕ) (xs : List (Option ℕ)) (p a : ℕ) → slice_index_or (kept_from free fec xs) p None ≡ Some a →
+    slice_index_or xs p None ≡ Some a
 kept_was free fec [] p a e = e
 kept_was free fec (x ∷ xs) zero a e = by (free fec) e
   where
@@ -196,7 +202,8 @@ kept_was free fec (x ∷ xs) zero a e = by (free fec) e
 kept_was free fec (x ∷ xs) (suc p) a e = kept_was free (fec + 1) xs p a e
 
 -- what isn't free is kept
-pub kept_at : (free : ℕ → Bool) (fec : ℕ) (xs : List (Option ℕ)) (p : ℕ) → free (fec + p) ≡ false → slice_index_or (kept_from free fec xs) p None ≡ slice_index_or xs p None
+pub kept_at : (free : ℕ → Bool) (fec : ℕ) (xs : List (Option ℕ)) (p : ℕ) → free (fec + p) ≡ false →
+    slice_index_or (kept_from free fec xs) p None ≡ slice_index_or xs p None
 kept_at free fec [] p off = refl
 kept_at free fec (x ∷ xs) zero off = ap (λ b. if b then None else x) (ap free same ∙ off)
   where

@@ -137,7 +137,12 @@ unfolding labels_of
 has_labels t es ps n inside lawful journal =
     labels_on t n (loopbacks_apart t lawful) lawful.joins_nodes lawful.ends_differ es 0 (start t) no_packets 0 ps (λ fec. 0) (first_labels t n) journal
     (begins t) (λ l m p h e. refl)
-    (record { fit = first_fit (sites_at t n) (length t.loopbacks); long = length-replicate (length t.loopbacks) None; had = λ p below apart awake. absurd (clash (sym (all_rest t n p lawful.joins_nodes inside (λ e. apart (sym e))) ∙ awake)) })
+    (record {
+      fit = first_fit (sites_at t n) (length t.loopbacks);
+      long = length-replicate (length t.loopbacks) None;
+      had =
+          λ p below apart awake. absurd (clash (sym (all_rest t n p lawful.joins_nodes inside (λ e. apart (sym e))) ∙ awake));
+    })
 
 pub are_sound : (t : Network) (es : List JournalEntry) (ps : List (List ℕ)) (n : ℕ) → n < length t.loopbacks → IsLawful t → IsLawfulJournal t es ps →
     AreSound t es n

@@ -1,10 +1,12 @@
 -- What a node says and does goes by which FECs have labels, and not by which labels these are.
-use Rattle.std.specs.Prelude.{ℕ, zero, suc, ◌≡◌, ◌+◌, List, [], ◌∷◌, ◌++◌, length, map, replicate, slice_index_or, slice_set, refl, Option, Some, None, option_map}
+use Rattle.std.specs.Prelude.{ℕ, zero, suc, ◌≡◌, ◌+◌, List, [], ◌∷◌, ◌++◌, length, map, replicate, slice_index_or, slice_set, refl, Option, Some, None}
+use Rattle.std.specs.Prelude.{option_map}
 use Rattle.std.proofs.Common.{ap, sym, ◌∙◌, arith}
 use Rattle.mn_wiring.specs.Wiring.{Wiring, across}
 use Rattle.mn_node.specs.Ldp.{Message, Initialization, KeepAlive, Address, Mapping, Withdraw, Release, Said, messages_of, news, state_by}
 use Rattle.mn_node.specs.Node.{Session, Node, session_at, mappings_from, hearing_in, knowledge_in}
-use Rattle.mn_node.specs.Machine.{Event, Learns, Opens, Closes, Hears, labels_after, session_after, speaks_first, with_session, changed, answer_in, answers, said, with_count}
+use Rattle.mn_node.specs.Machine.{Event, Learns, Opens, Closes, Hears, labels_after, session_after, speaks_first, with_session, changed, answer_in, answers}
+use Rattle.mn_node.specs.Machine.{said, with_count}
 use Rattle.mn_node.specs.Machine.{counted_from, having_said, after_event}
 use Rattle.mn_reuse_laws.specs.Relabelled.{Labelling, relabelled_from, session_with, sessions_with, node_with, label_with, event_with, GoesAlike}
 
@@ -15,7 +17,8 @@ same_mappings labels [] fec = refl
 same_mappings labels (None ∷ ls) fec = same_mappings labels ls (fec + 1)
 same_mappings labels (Some x ∷ ls) fec = ap (λ ms. Mapping fec ∷ ms) (same_mappings labels ls (fec + 1))
 
-set_some : (labels : ℕ → ℕ) (ls : List (Option ℕ)) (fec p x : ℕ) → relabelled_from labels fec (slice_set ls p (Some x)) ≡ slice_set (relabelled_from labels fec ls) p (Some (labels (fec + p)))
+set_some : (labels : ℕ → ℕ) (ls : List (Option ℕ)) (fec p x : ℕ) →
+    relabelled_from labels fec (slice_set ls p (Some x)) ≡ slice_set (relabelled_from labels fec ls) p (Some (labels (fec + p)))
 set_some labels [] fec p x = refl
 set_some labels (None ∷ ls) fec zero x = ap (λ n. Some (labels n) ∷ relabelled_from labels (fec + 1) ls) (plus fec)
   where
@@ -36,7 +39,8 @@ set_some labels (Some y ∷ ls) fec (suc p) x = ap (λ zs. Some (labels fec) ∷
     more : (n m : ℕ) → n + 1 + m ≡ n + suc m
     more n m = omega arith
 
-set_none : (labels : ℕ → ℕ) (ls : List (Option ℕ)) (fec p : ℕ) → relabelled_from labels fec (slice_set ls p None) ≡ slice_set (relabelled_from labels fec ls) p None
+set_none : (labels : ℕ → ℕ) (ls : List (Option ℕ)) (fec p : ℕ) →
+    relabelled_from labels fec (slice_set ls p None) ≡ slice_set (relabelled_from labels fec ls) p None
 set_none labels [] fec p = refl
 set_none labels (None ∷ ls) fec zero = refl
 set_none labels (Some y ∷ ls) fec zero = refl
@@ -49,7 +53,8 @@ no_labels labels (suc n) fec = ap (λ zs. None ∷ zs) (no_labels labels n (fec 
 
 heard_labels : (labels : ℕ → ℕ) (message : Message) (label : ℕ) (ls : List (Option ℕ))
     → labels_after (relabelled_from labels 0 ls) message (label_with labels message) ≡ relabelled_from labels 0 (labels_after ls message label)
-heard_labels labels (Mapping fec) label ls = sym (set_some labels ls 0 fec label ∙ ap (λ n. slice_set (relabelled_from labels 0 ls) fec (Some (labels n))) (none fec))
+heard_labels labels (Mapping fec) label ls = sym (set_some labels ls 0 fec label
+    ∙ ap (λ n. slice_set (relabelled_from labels 0 ls) fec (Some (labels n))) (none fec))
   where
     none : (n : ℕ) → 0 + n ≡ n
     none n = omega arith
@@ -60,15 +65,18 @@ heard_labels labels Address label ls = refl
 heard_labels labels (Release fec) label ls = refl
 
 heard_session : (labels : ℕ → ℕ) (message : Message) (label : ℕ) (session : Option Session)
-    → option_map (session_after message (label_with labels message)) (option_map (session_with labels) session) ≡ option_map (session_with labels) (option_map (session_after message label) session)
+    → option_map (session_after message (label_with labels message)) (option_map (session_with labels) session) ≡ option_map (session_with labels)
+    (option_map (session_after message label) session)
 heard_session labels message label None = refl
-heard_session labels message label (Some session) = ap (λ ls. Some (record (session_after message label session) { labels = ls })) (heard_labels labels message label session.labels)
+heard_session labels message label (Some session) =
+    ap (λ ls. Some (record (session_after message label session) { labels = ls })) (heard_labels labels message label session.labels)
 
 same_hearing : (labels : ℕ → ℕ) (session : Option Session) → hearing_in (option_map (session_with labels) session) ≡ hearing_in session
 same_hearing labels None = refl
 same_hearing labels (Some session) = ap (λ ms. record (hearing_in (Some session)) { messages = ms }) (same_mappings labels session.labels 0)
 
-same_answer : (labels : ℕ → ℕ) (session : Option Session) (message : Message) → answer_in (option_map (session_with labels) session) message ≡ answer_in session message
+same_answer : (labels : ℕ → ℕ) (session : Option Session) (message : Message) →
+    answer_in (option_map (session_with labels) session) message ≡ answer_in session message
 same_answer labels None message = refl
 same_answer labels (Some session) message = refl
 
@@ -82,7 +90,8 @@ module _ (wiring : Wiring) (given : Labelling) (me : ℕ) where
       ∙ ap (λ hs. hearing_in session ∷ hs) (same_hearings sessions (l + 1))
 
   at_link : (sessions : List (Option Session)) (l k : ℕ)
-      → slice_index_or (sessions_with wiring given me l sessions) k None ≡ option_map (session_with (given (across wiring (l + k) me))) (slice_index_or sessions k None)
+      → slice_index_or (sessions_with wiring given me l sessions) k None ≡ option_map (session_with (given (across wiring (l + k) me)))
+      (slice_index_or sessions k None)
   at_link [] l k = refl
   at_link (session ∷ sessions) l zero = ap (λ n. option_map (session_with (given (across wiring n me))) session) (plus l)
     where
@@ -98,7 +107,8 @@ module _ (wiring : Wiring) (given : Labelling) (me : ℕ) where
       → sessions_with wiring given me l (slice_set sessions k session)
       ≡ slice_set (sessions_with wiring given me l sessions) k (option_map (session_with (given (across wiring (l + k) me))) session)
   set_link [] l k session = refl
-  set_link (x ∷ xs) l zero session = ap (λ n. option_map (session_with (given (across wiring n me))) session ∷ sessions_with wiring given me (l + 1) xs) (plus l)
+  set_link (x ∷ xs) l zero session =
+      ap (λ n. option_map (session_with (given (across wiring n me))) session ∷ sessions_with wiring given me (l + 1) xs) (plus l)
     where
       plus : (n : ℕ) → n ≡ n + 0
       plus n = omega arith
@@ -133,10 +143,12 @@ none_before : (n : ℕ) → 0 + n ≡ n
 none_before n = omega arith
 
 here : (wiring : Wiring) (given : Labelling) (node : Node) (l : ℕ) (session : Option Session)
-    → with_session (node_with wiring given node) l (option_map (session_with (given (across wiring l node.me))) session) ≡ node_with wiring given (with_session node l session)
+    → with_session (node_with wiring given node) l (option_map (session_with (given (across wiring l node.me))) session) ≡ node_with wiring given
+    (with_session node l session)
 here wiring given node l session =
     ap (λ ss. record node { sessions = ss }) (sym (set_link wiring given node.me node.sessions 0 l session
-    ∙ ap (λ n. slice_set (sessions_with wiring given node.me 0 node.sessions) l (option_map (session_with (given (across wiring n node.me))) session)) (none_before l)))
+    ∙ ap (λ n. slice_set (sessions_with wiring given node.me 0 node.sessions) l (option_map (session_with (given (across wiring n node.me))) session))
+    (none_before l)))
 
 at_node : (wiring : Wiring) (given : Labelling) (node : Node) (l : ℕ)
     → session_at (node_with wiring given node) l ≡ option_map (session_with (given (across wiring l node.me))) (session_at node l)
@@ -150,9 +162,15 @@ changed_with wiring given node (Closes l) = here wiring given node l None
 changed_with wiring given node (Opens l) =
     ap (λ ls. with_session (node_with wiring given node) l (Some (record { state = state_by (speaks_first wiring l node.me) 0; said = 0; labels = ls })))
     (sym (no_labels (given (across wiring l node.me)) (length wiring.loopbacks) 0))
-    ∙ here wiring given node l (Some (record { state = state_by (speaks_first wiring l node.me) 0; said = 0; labels = replicate (length wiring.loopbacks) None }))
+    ∙ here wiring given node l (Some (record {
+      state = state_by (speaks_first wiring l node.me) 0;
+      said = 0;
+      labels =
+          replicate (length wiring.loopbacks) None;
+    }))
 changed_with wiring given node (Hears l message label) =
-    ap (λ s. with_session (node_with wiring given node) l (option_map (session_after message (label_with (given (across wiring l node.me)) message)) s)) (at_node wiring given node l)
+    ap (λ s. with_session (node_with wiring given node) l (option_map (session_after message (label_with (given (across wiring l node.me)) message)) s))
+    (at_node wiring given node l)
     ∙ ap (with_session (node_with wiring given node) l) (heard_session (given (across wiring l node.me)) message label (session_at node l))
     ∙ here wiring given node l (option_map (session_after message label) (session_at node l))
 

@@ -1,5 +1,6 @@
 -- A FEC comes to rest at a node only in a step that ends its offer, brings a Release of it, or ends a session of the node.
-use Rattle.std.proofs.Common.{ℕ, zero, suc, ◌≡◌, ◌≢◌, ◌+◌, ◌<◌, ◌≤◌, ◌⊎◌, inl, inr, Bool, true, false, cond, List, [], ◌∷◌, ◌++◌, length, refl, arith, sym, ◌∙◌, ap, subst}
+use Rattle.std.proofs.Common.{ℕ, zero, suc, ◌≡◌, ◌≢◌, ◌+◌, ◌<◌, ◌≤◌, ◌⊎◌, inl, inr, Bool, true, false, cond, List, [], ◌∷◌, ◌++◌, length, refl, arith, sym, ◌∙◌}
+use Rattle.std.proofs.Common.{ap, subst}
 use Rattle.std.specs.Prelude.{◌==◌, ◌&&◌, ◌||◌, not, take, nat_le, slice_index_or}
 use Rattle.std.specs.List.{flat_map, list_all}
 use Rattle.std.proofs.lemmas.Bool.Decides.{eqb_tells, leb_tells}
@@ -100,12 +101,14 @@ module _ (t : Network) (c new : Config) (v nv : Views) (s k : Sessions) (step : 
   stayed e h far =
       ap (λ n. count_by (is_release p) (take n (k.said l (across (wiring_of t) l m) ++ messages_of l (across (wiring_of t) l m) all_said))) h
       ∙ ap (λ ms. count_by (is_release p) (take (s.heard l m) (ms ++ messages_of l (across (wiring_of t) l m) all_said))) e
-      ∙ ap (count_by (is_release p)) (take-append-le (s.heard l m) (s.said l (across (wiring_of t) l m)) (messages_of l (across (wiring_of t) l m) all_said) far)
+      ∙ ap (count_by (is_release p)) (take-append-le (s.heard l m) (s.said l (across (wiring_of t) l m)) (messages_of l (across (wiring_of t) l m) all_said)
+      far)
 
   lives_on : k.said l m ≡ s.said l m → k.said l (across (wiring_of t) l m) ≡ s.said l (across (wiring_of t) l m) → k.heard l m ≡ s.heard l m →
       s.heard l m ≤ length (s.said l (across (wiring_of t) l m)) →
       count_by (is_release p) (take (s.heard l m) (s.said l (across (wiring_of t) l m))) < count_by (is_withdraw p) (s.said l m) →
-      count_by (is_release p) (take (k.heard l m) ((with_said k all_said).said l (across (wiring_of t) l m))) < count_by (is_withdraw p) ((with_said k all_said).said l m)
+      count_by (is_release p) (take (k.heard l m) ((with_said k all_said).said l (across (wiring_of t) l m))) < count_by (is_withdraw p)
+      ((with_said k all_said).said l m)
   lives_on own far heard within less = omega (arith, grown own, stayed far heard within, less)
 
 -- 3. Each kind of step
@@ -126,7 +129,8 @@ brought t w step m p h = ap (λ b. ends_offer t w step m p || (b || ends_session
 
 elsewhere : (t : Network) (w : World) (new : Config) (nv : Views) (step : Step) (at l m p : ℕ) → EndsAreInTurn t w.config w.sessions → l < length t.links
     → is_end (wiring_of t) l m ≡ true → owes t w l m p → l ≢ at
-    → count_by (is_release p) (take ((anew w.sessions at).heard l m) ((with_said (anew w.sessions at) (all_said t w.config new w.views nv w.sessions (anew w.sessions at) step l m p)).said l (across (wiring_of t) l m)))
+    → count_by (is_release p) (take ((anew w.sessions at).heard l m)
+    ((with_said (anew w.sessions at) (all_said t w.config new w.views nv w.sessions (anew w.sessions at) step l m p)).said l (across (wiring_of t) l m)))
     < count_by (is_withdraw p) ((with_said (anew w.sessions at) (all_said t w.config new w.views nv w.sessions (anew w.sessions at) step l m p)).said l m)
 elsewhere t w new nv step at l m p g below e less d =
     lives_on t w.config new w.views nv w.sessions (anew w.sessions at) step l m p (anew_off w.sessions at l m d).0
@@ -185,7 +189,8 @@ heard_on t w k at dir l m p differ there full g below e less = elim (eqb_tells l
         ap (λ i. count_by (is_release p) (take i (s.said at.0 (across (wiring_of t) at.0 n) ++ others))) (pair_here s.heard at.0 n (s.heard at.0 n + 1))
         ∙ ap (count_by (is_release p)) (take-append-le (s.heard at.0 n + 1) (s.said at.0 (across (wiring_of t) at.0 n)) others (reach more))
         ∙ length-filter_more (is_release p) (s.said at.0 (across (wiring_of t) at.0 n)) (s.heard at.0 n) Address more
-        ∙ ap (λ i. count_by (is_release p) (take (s.heard at.0 n) (s.said at.0 (across (wiring_of t) at.0 n))) + cond (is_release p (slice_index_or (s.said at.0 i) (s.heard at.0 n) Address)) 1 0) ends.1
+        ∙ ap (λ i. count_by (is_release p) (take (s.heard at.0 n) (s.said at.0 (across (wiring_of t) at.0 n))) + cond
+        (is_release p (slice_index_or (s.said at.0 i) (s.heard at.0 n) Address)) 1 0) ends.1
       where
         reach : {x y : ℕ} → x < y → x + 1 ≤ y
         reach f = omega (arith, f)
@@ -228,7 +233,8 @@ owed_step t w k (LdpAdmin at on) l m p differ there new full g below e less = el
       ∙ is_off (w.config.is_up l)))
 ]
 owed_step t w k (Learn n at) l m p differ there new full g below e less =
-    inr (lives_on t w.config w.config w.views (views_after w.views (Learn n at)) w.sessions w.sessions (Learn n at) l m p refl refl refl (g l m below e).heard less)
+    inr (lives_on t w.config w.config w.views (views_after w.views (Learn n at)) w.sessions w.sessions (Learn n at) l m p refl refl refl
+    (g l m below e).heard less)
 owed_step t w k (HearLdp at dir) l m p differ there new full g below e less = heard_on t w k at dir l m p differ there full g below e less
 owed_step t w k _ l m p differ there new full g below e less = inr less
 

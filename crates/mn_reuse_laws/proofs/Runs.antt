@@ -29,7 +29,7 @@ giving label what = record { label = label; what = what }
 
 -- 1. The journals
 
--- LDP of p and pe2 is switched off, and all that they say of it is heard
+-- LDP of p and pe2 is switched off, and all that they say of it is received
 abbrev pub withdrawing : List Step
 withdrawing =
     LdpAdmin (link_no 1) false ∷
@@ -42,7 +42,7 @@ withdrawing =
 abbrev pub quieting : List Step
 quieting = withdrawing ++ LdpAdmin (link_no 0) false ∷ []
 
--- LDP of pe1 and p is switched on again, and all is heard
+-- LDP of pe1 and p is switched on again, and all is received
 abbrev pub beginning : List Step
 beginning =
     LdpAdmin (link_no 0) true ∷

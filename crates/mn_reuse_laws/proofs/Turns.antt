@@ -14,7 +14,8 @@ use Rattle.mn_topo.specs.Steps.{fits}
 use Rattle.mn_topo.specs.declared.steps.Step.{Step}
 use Rattle.mn_topo.specs.declared.steps.Step.TheVariants as step
 use Rattle.mn_ledger.specs.World.{Message, Initialization, KeepAlive, Address, Mapping, Withdraw, Release}
-use Rattle.mn_ledger.specs.Transport.{Said, Knowledge, is_operational, messages_of, said_on, mention, mentioned_on, mentioned_from, offers, offered, by_neighbour}
+use Rattle.mn_ledger.specs.Transport.{Said, Knowledge, is_operational, messages_of, said_on, mention, mentioned_on, mentioned_from, offers, offered}
+use Rattle.mn_ledger.specs.Transport.{by_neighbour}
 use Rattle.mn_ledger.specs.Transport.{news, ends_first, speakers, is_mapped, mapped_after}
 use Rattle.mn_ledger.proofs.Mentions.{messages-append}
 use Rattle.mn_ledger.proofs.Turning.{said-own, said-other, end_is}
@@ -91,7 +92,8 @@ module _ (before after : Knowledge) (p l m : ℕ) where
   one_fec q was is ks once i = ap (of_fec p) (links q was is ks once i) ∙ if_mention q (is_operational after l) (is_operational before l && was) is
 
   -- all FECs from one on
-  past : (q : ℕ) (weres ares : List Bool) (ks : List ℕ) → IsOnce l ks → In ks l → p < q → of_fec p (messages_of l m (mentioned_from before after m ks q weres ares)) ≡ []
+  past : (q : ℕ) (weres ares : List Bool) (ks : List ℕ) → IsOnce l ks → In ks l → p < q →
+      of_fec p (messages_of l m (mentioned_from before after m ks q weres ares)) ≡ []
   past q [] ares ks once i h = refl
   past q (was ∷ weres) [] ks once i h = refl
   past q (was ∷ weres) (is ∷ ares) ks once i h =
@@ -119,7 +121,8 @@ module _ (before after : Knowledge) (p l m : ℕ) where
       ∙ ap (λ ms. of_fec p (messages_of l m (on q was is ks)) ++ ms) (past (q + 1) weres ares ks once j (omega (arith, pq)))
       ∙ append-nil (of_fec p (messages_of l m (on q was is ks)))
       ∙ one_fec q was is ks once j
-      ∙ ap (λ b. if b then (if is_operational after l then mention (is_operational before l && was) is q else []) else []) (ap (λ x. p == x) (sym pq) ∙ same_test p)
+      ∙ ap (λ b. if b then (if is_operational after l then mention (is_operational before l && was) is q else []) else []) (ap (λ x. p == x) (sym pq)
+      ∙ same_test p)
       ∙ ap (λ x. if is_operational after l then mention (is_operational before l && was) is x else []) (sym pq)
   all (was ∷ weres) (is ∷ ares) q (suc i) ks e h n once j =
       of_append p l m (on q was is ks) (mentioned_from before after m ks (q + 1) weres ares)
@@ -152,7 +155,8 @@ news_of w before after l m p h at_end below inside =
 -- 3. What all say
 
 module _ (w : Wiring) (before after : ℕ → Knowledge) (l m : ℕ) where
-  pub speaks_once : (ns : List ℕ) → IsOnce m ns → In ns m → messages_of l m (flat_map (λ n. news w (before n) (after n) n) ns) ≡ messages_of l m (news w (before m) (after m) m)
+  pub speaks_once : (ns : List ℕ) → IsOnce m ns → In ns m →
+      messages_of l m (flat_map (λ n. news w (before n) (after n) n) ns) ≡ messages_of l m (news w (before m) (after m) m)
   speaks_once [] once i = absurd i
   speaks_once (n ∷ ns) once i = elim (eqb_tells n m) [
     | inl e ↦ messages-append l m (news w (before n) (after n) n) (flat_map (λ x. news w (before x) (after x) x) ns)
@@ -175,7 +179,8 @@ all_speak t joins l m h e = range_in 0 (length t.loopbacks) m (omega arith) (ome
       | inr p ↦ subst (λ n. n < length t.loopbacks) p (joins l h).1
     ]
 
-first_speak : (t : Network) → JoinsNodes (wiring_of t) → (at l m : ℕ) → l < length t.links → is_end (wiring_of t) l m ≡ true → In (ends_first (wiring_of t) at) m
+first_speak : (t : Network) → JoinsNodes (wiring_of t) → (at l m : ℕ) → l < length t.links → is_end (wiring_of t) l m ≡ true →
+    In (ends_first (wiring_of t) at) m
 first_speak t joins at l m h e = elim (two_ways (is_end (wiring_of t) at m)) [
   | inl q ↦ elim (end_is (wiring_of t) at m q) [ inl x ↦ inl x | inr x ↦ inr (inl x) ]
   | inr q ↦ inr (inr (filter_in (λ node. not (is_end (wiring_of t) at node)) (nodes_of (wiring_of t)) m (all_speak t joins l m h e) (ap not q)))
@@ -192,7 +197,8 @@ speaker_in t _ joins l m h e = all_speak t joins l m h e
 pub told_of : (t : Network) (s : Step) (before after : ℕ → Knowledge) (l m p : ℕ) → JoinsNodes (wiring_of t) → EndsDiffer (wiring_of t) → fits t s ≡ true
     → l < length t.links → is_end (wiring_of t) l m ≡ true → across (wiring_of t) l m < length t.loopbacks → p < length t.loopbacks →
     of_fec p (messages_of l m (flat_map (λ n. news (wiring_of t) (before n) (after n) n) (speakers (wiring_of t) s)))
-    ≡ (if is_operational (after m) l then mention (is_operational (before m) l && offers (wiring_of t) (before m) m p) (offers (wiring_of t) (after m) m p) p else [])
+    ≡ (if is_operational (after m) l then mention (is_operational (before m) l && offers (wiring_of t) (before m) m p)
+    (offers (wiring_of t) (after m) m p) p else [])
 told_of t s before after l m p joins differ fit h e below inside =
     ap (of_fec p) (speaks_once (wiring_of t) before after l m (speakers (wiring_of t) s) (once-speaker t s m differ fit) (speaker_in t s joins l m h e))
     ∙ news_of (wiring_of t) (before m) (after m) l m p h e below inside

@@ -15,7 +15,8 @@ use Rattle.mn_topo.specs.declared.steps.Step.{Step}
 use Rattle.mn_topo.specs.declared.steps.Step.TheVariants.{LinkUp, LinkDown, Learn, LdpAdmin, HearLdp}
 use Rattle.mn_ledger.specs.Tables.{put_pair}
 use Rattle.mn_ledger.specs.World.{World, Config, Views, Sessions, Message, Initialization, KeepAlive, Withdraw}
-use Rattle.mn_ledger.specs.Transport.{Said, lives, knowledge_of, is_operational, messages_of, said_on, answer, opening, ldp_replies, news, speakers, ldp_counted, with_said}
+use Rattle.mn_ledger.specs.Transport.{Said, lives, knowledge_of, is_operational, messages_of, said_on, answer, opening, ldp_replies, news, speakers}
+use Rattle.mn_ledger.specs.Transport.{ldp_counted, with_said}
 use Rattle.mn_ledger.specs.Transport.{offers, mention, sessions_after, views_after}
 use Rattle.mn_ledger.specs.Packets.{Packets}
 use Rattle.mn_ledger.specs.Ledger.{config_after, after}
@@ -83,7 +84,8 @@ module _ (t : Network) (c new : Config) (v nv : Views) (s k : Sessions) (step : 
       (offers (wiring_of t) (knowledge_of (wiring_of t) new nv k m) m p)
       (told_of t step (λ n. knowledge_of (wiring_of t) c v s n) (λ n. knowledge_of (wiring_of t) new nv k n) l m p joins differ fit below e
       (ends_below t joins l (across (wiring_of t) l m) below other.0) inside
-      ∙ ap (λ b. if is_operational (knowledge_of (wiring_of t) new nv k m) l then mention b (offers (wiring_of t) (knowledge_of (wiring_of t) new nv k m) m p) p else [])
+      ∙ ap (λ b. if is_operational (knowledge_of (wiring_of t) new nv k m) l then mention b (offers (wiring_of t) (knowledge_of (wiring_of t) new nv k m) m p) p
+      else [])
       (ap (λ b. is_operational (knowledge_of (wiring_of t) c v s m) l && b) off ∙ is_off (is_operational (knowledge_of (wiring_of t) c v s m) l)))
 
   same_withdraws : count_by (is_withdraw p) ((with_said k all_said).said l m) ≡ count_by (is_withdraw p) (k.said l m)
@@ -96,7 +98,7 @@ module _ (t : Network) (c new : Config) (v nv : Views) (s k : Sessions) (step : 
     told_none,
   )
 
--- no fewer Releases were heard
+-- no fewer Releases were received
 more_heard : (p i j : ℕ) (xs ys : List Message) → i ≤ j → i ≤ length xs → count_by (is_release p) (take i xs) ≤ count_by (is_release p) (take j (xs ++ ys))
 more_heard p i j xs ys h within = omega (
   arith,
@@ -145,13 +147,16 @@ restarted : (t : Network) (w : World) (new : Config) (nv : Views) (step : Step) 
     (differ : EndsDiffer (wiring_of t)) (fit : fits t step ≡ true) (below : l < length t.links) (e : is_end (wiring_of t) l m ≡ true)
     (inside : p < length t.loopbacks) (off : offers_in t w m p ≡ false)
     → EndsAreInTurn t w.config w.sessions → withdraws w l m p ≡ releases t w l m p
-    → count_by (is_release p) (take ((anew w.sessions at).heard l m) ((then_said t w new nv (anew w.sessions at) step l m p joins differ fit below e inside off).said l (across (wiring_of t) l m)))
+    → count_by (is_release p) (take ((anew w.sessions at).heard l m)
+    ((then_said t w new nv (anew w.sessions at) step l m p joins differ fit below e inside off).said l (across (wiring_of t) l m)))
     ≤ count_by (is_withdraw p) ((then_said t w new nv (anew w.sessions at) step l m p joins differ fit below e inside off).said l m)
     → count_by (is_withdraw p) ((then_said t w new nv (anew w.sessions at) step l m p joins differ fit below e inside off).said l m)
-    ≡ count_by (is_release p) (take ((anew w.sessions at).heard l m) ((then_said t w new nv (anew w.sessions at) step l m p joins differ fit below e inside off).said l (across (wiring_of t) l m)))
+    ≡ count_by (is_release p) (take ((anew w.sessions at).heard l m)
+    ((then_said t w new nv (anew w.sessions at) step l m p joins differ fit below e inside off).said l (across (wiring_of t) l m)))
 restarted t w new nv step at l m p joins differ fit below e inside off g same bound = elim (eqb_tells l at) [
   | inl x ↦ begun t w new nv (anew w.sessions at) step l m p joins differ fit below e inside off
-      (ap (λ j. (anew w.sessions at).said j m) x.1 ∙ (anew_here w.sessions at m).0) (ap (λ j. (anew w.sessions at).heard j m) x.1 ∙ (anew_here w.sessions at m).1)
+      (ap (λ j. (anew w.sessions at).said j m) x.1 ∙ (anew_here w.sessions at m).0) (ap (λ j. (anew w.sessions at).heard j m) x.1
+      ∙ (anew_here w.sessions at m).1)
   | inr x ↦ living t w new nv (anew w.sessions at) step l m p joins differ fit below e inside off (anew_off w.sessions at l m x.1).0
       (anew_off w.sessions at l (across (wiring_of t) l m) x.1).0 (least (anew_off w.sessions at l m x.1).1) (g l m below e).heard bound same
 ]

@@ -30,7 +30,7 @@ use Rattle.mn_ledger.proofs.Running.{a_run}
 a_lawful_topology : IsLawful two_links
 a_lawful_topology = the_topology_is_lawful
 
--- 1. p has ceased to offer pe2's FEC, and its Release was heard
+-- 1. p has ceased to offer pe2's FEC, and its Release was received
 
 abbrev released_world : World
 released_world = world_of two_links (settling ++ at 0 withdrawing)

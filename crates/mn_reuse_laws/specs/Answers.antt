@@ -34,7 +34,7 @@ abbrev pub AreByTurns : Bool → ℕ → List Message → Type 0
 AreByTurns mapped fec [] = ⊤
 AreByTurns mapped fec (message ∷ messages) = HasItsTurn mapped fec message × AreByTurns (mapped_after mapped fec message) fec messages
 
--- 2. In the present life of a link's session, by an end: what it said, what the other end has heard of it, and what is in flight
+-- 2. In the present life of a link's session, by an end: what it sent, what the other end has received from it, and what is in flight
 
 abbrev pub said_to : World → ℕ → ℕ → List Message
 said_to world l node = world.sessions.said l node
@@ -45,7 +45,7 @@ heard_from topology world l node = take (world.sessions.heard l (across (wiring_
 abbrev pub flying_from : Network → World → ℕ → ℕ → List Message
 flying_from topology world l node = drop (world.sessions.heard l (across (wiring_of topology) l node)) (world.sessions.said l node)
 
--- the Withdraws of a FEC that it said, and those of its Releases that it heard
+-- the Withdraws of a FEC that it sent, and those of its Releases that it received
 abbrev pub withdraws : World → ℕ → ℕ → ℕ → ℕ
 withdraws world l node fec = count_by (is_withdraw fec) (world.sessions.said l node)
 
@@ -60,11 +60,11 @@ pub record IsAnswered (topology : Network) (world : World) (l node fec : ℕ) : 
   pub by_turns : AreByTurns false fec (said_to world l node)
   -- where the end is OPERATIONAL the last one is a Mapping exactly where the node offers the FEC
   pub last : is_operational_on topology world node l ≡ true → has_mapped world l node fec ≡ offers_in topology world node fec
-  -- each Withdraw is in flight, or its Release is, or that was heard
+  -- each Withdraw is in flight, or its Release is, or that was received
   pub counted : withdraws world l node fec
       ≡ count_by (is_withdraw fec) (flying_from topology world l node)
       + (count_by (is_release fec) (flying_from topology world l (across (wiring_of topology) l node)) + releases topology world l node fec)
-  -- and where all were heard of a FEC that isn't offered, the other end keeps no label of it, and no mention and no Release of it flies
+  -- and where all were received for a FEC that isn't offered, the other end keeps no label of it, and no mention and no Release of it flies
   pub forgotten : offers_in topology world node fec ≡ false → withdraws world l node fec ≡ releases topology world l node fec →
       (is_mapped false fec (heard_from topology world l node) ≡ false) × (count_by (is_mention fec) (flying_from topology world l node) ≡ 0)
       × (count_by (is_release fec) (flying_from topology world l (across (wiring_of topology) l node)) ≡ 0)

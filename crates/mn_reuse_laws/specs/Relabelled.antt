@@ -51,7 +51,8 @@ pub record GoesAlike (wiring : Wiring) (given : Labelling) (node : Node) (event 
   pub knows : knowledge_in (node_with wiring given node) ≡ knowledge_in node
   pub changes : changed wiring (node_with wiring given node) (event_with wiring given node.me event) ≡ node_with wiring given (changed wiring node event)
   pub says : said wiring (node_with wiring given node) (event_with wiring given node.me event) ≡ said wiring node event
-  pub then_is : after_event wiring (node_with wiring given node) (event_with wiring given node.me event) ≡ node_with wiring given (after_event wiring node event)
+  pub then_is : after_event wiring (node_with wiring given node) (event_with wiring given node.me event) ≡ node_with wiring given
+      (after_event wiring node event)
 
 -- by a journal, the label that a FEC has at a node (RFC 3032, section 2.1: 3 for the node's own)
 abbrev pub labels_at : Network → List JournalEntry → Labelling
@@ -73,7 +74,8 @@ event_then topology entries entry node =
 pub record GoesWithItsLabels (topology : Network) (entries : List JournalEntry) (entry : JournalEntry) (node : ℕ) : Type 0 where
   pub becomes : after_any (wiring_of topology) (node_with (wiring_of topology) (labels_at topology entries) (node_at topology (world_of topology entries) node))
       (event_then topology entries entry node)
-      ≡ node_with (wiring_of topology) (labels_at topology (entries ++ entry ∷ [])) (node_at topology (after topology (world_of topology entries) entry.step) node)
+      ≡ node_with (wiring_of topology) (labels_at topology (entries ++ entry ∷ []))
+      (node_at topology (after topology (world_of topology entries) entry.step) node)
   pub says : said_any (wiring_of topology) (node_with (wiring_of topology) (labels_at topology entries) (node_at topology (world_of topology entries) node))
       (event_then topology entries entry node)
       ≡ node_says topology (world_of topology entries) entry.step node

@@ -14,7 +14,7 @@ use Rattle.mn_reuse_laws.specs.Answers.{is_release, withdraws, releases}
 
 -- 1. At rest
 
--- each Withdraw of the FEC that the node said on the link has had its Release heard: of a session that has ended none counts
+-- each Withdraw of the FEC that the node sent on the link has had its Release received: of a session that has ended none counts
 abbrev pub is_released : Network → World → ℕ → ℕ → ℕ → Bool
 is_released topology world node fec l = withdraws world l node fec == releases topology world l node fec
 

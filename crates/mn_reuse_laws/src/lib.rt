@@ -2,18 +2,18 @@
 //! message and no frame then goes by the old meaning.
 //!
 //! A node gives a FEC a label as it first offers it. When it ceases to offer the FEC, the label rests, and stays the FEC's; it is
-//! free once every neighbour that was told the label has released it (or the session with that neighbour has ended), and a frame
+//! free once every neighbour that was sent the label has released it (or the session with that neighbour has ended), and a frame
 //! that was sent meanwhile can't fly any more.
 //!
 //! ```text
-//!             offers p             withdraws p                    the last Release is heard     longer than a frame may fly
+//!             offers p             withdraws p                    the last Release is received  longer than a frame may fly
 //!   no label ----------> offered ---------------> rests, owed ----------------------------> at rest -----------------> free
 //!                           ^                         |                                        |                        |
 //!                           +-------------------------+----------- offers p again -------------+                        v
 //!                                                                                                        another FEC may have it
 //! ```
 //!
-//! - `specs/Answers`: each Withdraw is in flight, or its Release is, or that was heard (RFC 5036, sections 3.5.10 and 3.5.11)
+//! - `specs/Answers`: each Withdraw is in flight, or its Release is, or that was received (RFC 5036, sections 3.5.10 and 3.5.11)
 //! - `specs/Resting`: when a FEC is at rest at a node, and since when
 //! - `specs/Labels`: which labels a node has given, and which its FECs have, by the journal
 //! - `specs/Relabelled`: a node whose neighbours' FECs have other labels
@@ -31,10 +31,10 @@ ghost use Rattle.mn_reuse_laws.specs.Laws.{WereSentBefore, FramesKeepTheirLabels
 
 // 1. Answers and rest
 
-/// After a lawful journal, of each FEC the mentions that an end of a session said come by turns, a Mapping first, and where the
+/// After a lawful journal, of each FEC the mentions that an end of a session sent come by turns, a Mapping first, and where the
 /// end is OPERATIONAL the last one is a Mapping exactly where its node offers the FEC; and each Withdraw is in flight, or its
-/// Release is, or that was heard. So the other end keeps no label of a FEC that isn't offered and of which every Release was
-/// heard.
+/// Release is, or that was received. So the other end keeps no label of a FEC that isn't offered and of which every Release was
+/// received.
 pub fn each_withdraw_is_answered()
     ensures { (topology : Network) (entries : List JournalEntry) (inputs : List (List ℕ)) →
         IsLawful topology → IsLawfulJournal topology entries inputs → AreAnswered topology (world_of topology entries) }
@@ -74,7 +74,7 @@ pub fn a_label_stays_until_it_is_free()
 {}
 
 /// A label that a FEC had before a lawful step means something else after it only where the FEC was free: the node didn't offer it,
-/// every neighbour that was told the label had released it or its session had ended, and since the last of these more ticks had
+/// every neighbour that was sent the label had released it or its session had ended, and since the last of these more ticks had
 /// passed than a frame may fly on any link of the node.
 pub fn a_label_changes_its_meaning_only_once_free()
     ensures { (topology : Network) (entries : List JournalEntry) (inputs : List (List ℕ)) (entry : JournalEntry) (node : ℕ) →

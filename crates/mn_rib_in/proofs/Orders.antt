@@ -1,4 +1,4 @@
--- Routes that were heard stand in an order.
+-- Routes that were received stand in an order.
 use Rattle.std.specs.Prelude.{nat_lt}
 use Rattle.mn_base.specs.Ordered.{first_by, IsOrder}
 use Rattle.mn_base.proofs.Orders.{by_number, by_number_then}

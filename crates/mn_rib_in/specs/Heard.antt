@@ -1,4 +1,4 @@
--- RFC 4271, section 3.2, and RFC 4364, section 4.3.2: the routes that were heard of one peer, each by its last mention.
+-- RFC 4271, section 3.2, and RFC 4364, section 4.3.2: the routes that were received from one peer, each by its last mention.
 use Rattle.std.specs.Prelude.{ℕ, Bool, List, []}
 use Rattle.mn_base.specs.declared.numbers.Rd.{Rd}
 use Rattle.mn_base.specs.declared.numbers.Rt.{Rt}

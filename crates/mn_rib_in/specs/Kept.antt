@@ -1,4 +1,4 @@
--- How heard routes are kept: each in an ordered map, at its distinguisher and prefix.
+-- How received routes are kept: each in an ordered map, at its distinguisher and prefix.
 use Rattle.std.specs.Prelude.{List}
 use Rattle.mn_base.specs.declared.numbers.Rd.{Rd}
 use Rattle.mn_by_key_laws.specs.ByKey.{AreByKey}

@@ -1,6 +1,6 @@
-//! The routes that an edge has heard of one peer (the Adj-RIB-In of RFC 4271, section 3.2).
+//! The routes that an edge has received from one peer (the Adj-RIB-In of RFC 4271, section 3.2).
 //!
-//! A peer tells routes by announcements and withdrawals (RFC 4271, section 3.1). Of each distinguisher and prefix the
+//! A peer advertises routes by announcements and withdrawals (RFC 4271, section 3.1). Of each distinguisher and prefix the
 //! last of them counts: after an announcement the route is here with its label and targets, after a withdrawal it is
 //! gone. All routes are kept, whatever VRFs import now, so that a change of an import set needs no message.
 //!
@@ -15,7 +15,7 @@
 //! ```
 //!
 //! - `route`: `HeardRoute`, a route as its last mention announced it
-//! - `rib`: `RibIn`, all that was heard of one peer
+//! - `rib`: `RibIn`, all that was received from one peer
 #![tactic(auto)]
 
 mod rib;

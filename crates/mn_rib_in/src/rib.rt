@@ -11,7 +11,7 @@ use std::collections::BTreeMap;
 use std::collections::btree_map::Values;
 use std::marker::Model;
 
-/// The routes heard of one peer. Contracts see the list of them, which ascends.
+/// The routes received from one peer. Contracts see the list of them, which ascends.
 #[derive(Drop)]
 pub struct RibIn {
     alloc: Global,
@@ -32,7 +32,7 @@ impl Model for RibIn {
 }
 
 impl RibIn {
-    /// Nothing was heard yet. It takes no memory.
+    /// Nothing was received yet. It takes no memory.
     pub fn new(alloc: Global) -> RibIn
         ensures { result ≡ [] }
     {

@@ -44,7 +44,7 @@ impl HeardRoute {
         self.label
     }
 
-    /// Its targets, in the order in which they were told.
+    /// Its targets, in the order in which they were advertised.
     pub fn targets(&self) -> &[Rt]
         ensures { result.now ≡ self.now.targets }
     {

@@ -55,7 +55,7 @@ fn news(net: &Net) -> Option<Step> {
     }
 }
 
-/// Brings up the links and the session, and lets all be learned and heard.
+/// Brings up the links and the session, and lets all be learned and received.
 fn settle(net: &mut Net) -> Result<(), Refused> {
     done(net, Step::LinkUp(LinkNo(0)), &[])?;
     done(net, Step::LinkUp(LinkNo(1)), &[])?;

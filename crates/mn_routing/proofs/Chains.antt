@@ -1,4 +1,4 @@
--- An edge hears a message: one change after another.
+-- An edge receives a message: one change after another.
 use Rattle.std.proofs.Common.{ℕ, zero, suc, ◌≡◌, ◌<◌, true, false, List, [], ◌∷◌, length, refl, arith, sym, ◌∙◌, ap, subst, Option, Some}
 use Rattle.std.proofs.Common.{None, Result, Ok, Err}
 use Rattle.std.specs.Prelude.{IfOk, slice_get, slice_set, slice_index_or, option_map}
@@ -42,7 +42,7 @@ pub reads_so : (t : Network) (peer edge : ℕ) (old : Routed) (m : BgpMessage) (
 reads_so t peer edge old m answer may taken read found first all reads =
     reads m (subst (λ bytes. IsBgp bytes m) (sym (all ∙ first may.item may.flies)) may.spells)
 
--- an edge that may answer what it heard, of routes as they were before it heard
+-- an edge that may answer what it received, of routes as they were before it received
 pub record MayAnswer (t : Network) (edge : ℕ) (old now : Routed) (reply : BgpReply) : Type 0 where
   pub has : HasEdge t now edge
   pub below : (n : ℕ) → All (λ item. item.number < n) old.messages → All (λ item. item.number < n) now.messages

@@ -47,7 +47,7 @@ pub sent_below : {T E : Type 0} (r : Result ℕ E) (n : ℕ) (items new : List (
 sent_below (Err e) n items new x put next is below = tt
 sent_below (Ok m) n items new x put next is below = below_next n m items new x next put is below
 
--- bytes that spell a message are refused for want of memory alone
+-- bytes that spell a message are refused only where memory runs out
 pub fails_only : (bad : BgpWireBad) (m : BgpMessage) → Fails bad (Ok m) → bad ≡ bads.NoMemory
 fails_only bads.NoMemory m h = refl
 fails_only bads.Short m h = cc

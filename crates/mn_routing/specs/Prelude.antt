@@ -14,7 +14,10 @@ pub use Rattle.mn_pe.specs.Exports.{exports_at, exports_over, export_of}
 pub use Rattle.mn_pe.specs.Header.{destination_of}
 pub use Rattle.mn_pe.specs.Held.{exports_of}
 pub use Rattle.mn_pe.specs.Pe.{found_in}
-pub use Rattle.mn_routing_laws.specs.Doing.{HasEdge, AreSayable, Puts, AreNews, edge_at, with_edge, those_of, export_set, static_added, static_deleted, MaySetImport, SetsImport, MaySetExport, SetsExport, MayAdd, Adds, MayDel, Dels, MayAttach, Attaches, MayDetach, Detaches, IsSayable, AreLabelledIn, with_end, open_to, forgotten, next_on, taken, channel_from, MayTurn, Opens, Ends, IsAnswered, MayHear, CanHear, Hears, answers_in}
+pub use Rattle.mn_routing_laws.specs.Doing.{HasEdge, AreSayable, Puts, AreNews, edge_at, with_edge, those_of, export_set, static_added, static_deleted}
+pub use Rattle.mn_routing_laws.specs.Doing.{MaySetImport, SetsImport, MaySetExport, SetsExport, MayAdd, Adds, MayDel, Dels, MayAttach, Attaches, MayDetach}
+pub use Rattle.mn_routing_laws.specs.Doing.{Detaches, IsSayable, AreLabelledIn, with_end, open_to, forgotten, next_on, taken, channel_from, MayTurn, Opens}
+pub use Rattle.mn_routing_laws.specs.Doing.{Ends, IsAnswered, MayHear, CanHear, Hears, answers_in}
 pub use Rattle.mn_routing_laws.specs.Routed.{working, IsRoutes}
 pub use Rattle.mn_routing_laws.specs.Sending.{news_in, put_all, to_each, news_to, spelled_in, is_steady, is_established, peers_from, bgp_state_by}
 pub use Rattle.mn_routing_laws.specs.Sources.{as_held}

@@ -13,7 +13,7 @@ use mn_topo::Topology;
 use mn_vrf::VrfBad;
 use std::alloc::{AllocError, Global};
 
-/// An answer of an edge that can only be for want of memory.
+/// An answer of an edge that can only be out of memory.
 fn done(answer: Result<(), VrfBad>) -> Result<(), AllocError>
     requires { refusal_of answer ≡ None }
     ensures { IsOk result ↔ IsOk answer }
@@ -25,7 +25,7 @@ fn done(answer: Result<(), VrfBad>) -> Result<(), AllocError>
     }
 }
 
-/// What an edge tells, or want of memory.
+/// What an edge advertises, or out of memory.
 fn told(answer: Result<Vec<Export>, NoMemory>) -> Result<Vec<Export>, AllocError>
     ensures told { IfOk result (λ exports. answer ≡ Ok exports) }
     ensures asked { IsOk answer → IsOk result }
@@ -129,7 +129,7 @@ impl Routes {
         done(pe.import(vrf, target, on))
     }
 
-    /// A VRF exports routes with a target, or doesn't. It answers what the edge is to tell then: what the VRF exports now, or
+    /// A VRF exports routes with a target, or doesn't. It answers what the edge is to advertise then: what the VRF exports now, or
     /// where that is nothing what it did.
     fn export_on_edge(
         &mut self,
@@ -153,7 +153,7 @@ impl Routes {
         Ok(news_of(come, gone))
     }
 
-    /// A VRF exports routes with a target, or doesn't, and its edge tells of what changes.
+    /// A VRF exports routes with a target, or doesn't, and its edge advertises what changes.
     pub(crate) fn set_export(
         &mut self,
         topology: &Topology,

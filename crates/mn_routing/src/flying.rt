@@ -153,7 +153,7 @@ pub(crate) fn tell(
     ensures channels { messages.new.channels ≡ messages.old.channels }
     ensures flight { IsFlight messages.new.channels messages.new.items }
 {
-    // Nothing is spelled where nobody hears it.
+    // Nothing is spelled where nobody receives it.
     if peers.is_empty() {
         return Ok(clock.number);
     }

@@ -2,17 +2,17 @@
 //!
 //! ```text
 //!  a session opens --> OPEN --> KEEPALIVE --> all exports --+
-//!                                                           +--> messages in flight --> a peer hears them, and its VRFs
+//!                                                           +--> messages in flight --> a peer receives them, and its VRFs
 //!  a route, a target or a site comes or goes --> news ------+                            hold what they import
 //! ```
 //!
 //! An edge's news goes to each peer with which its session is Established, export by export and peer after peer. Each two
-//! edges have a channel in each direction, on which messages arrive in the order in which they were told.
+//! edges have a channel in each direction, on which messages arrive in the order in which they were advertised.
 //!
 //! - `flying`: messages in flight
 //! - `routes`: `Routes`, and what its edges and sessions are
 //! - `changes`: the steps of one edge, which has news then
-//! - `sessions`: a session opens or ends, and a message is heard
+//! - `sessions`: a session opens or ends, and a message is received
 //! - `start`: the routes at the start
 //! - `steps`: one call for each step
 //!

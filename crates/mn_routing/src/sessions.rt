@@ -1,4 +1,4 @@
-//! A session opens or ends, and a message is heard.
+//! A session opens or ends, and a message is received.
 ghost use Rattle.std.specs.Prelude.{◌≡◌, ◌<◌, ◌≤◌, ◌^◌, ◌∷◌, [], ℕ, List, true, false, length, IfOk, OnOk, None, Some, option_map, slice_get, slice_index_or};
 ghost use Rattle.std.specs.List.{All};
 ghost use Rattle.mn_routing.specs.Prelude.{IsFlight, Item, IsBgp, NoMemory, loopback, after_message, exports_of, opened, update_of, working, HasEdge, AreSayable, AreLabelledIn, Puts, edge_at, with_edge, with_end, open_to, forgotten, next_on, taken, channel_from, MayTurn, Opens, Ends, IsAnswered, MayHear, CanHear, Hears, answers_in};
@@ -16,7 +16,7 @@ use mn_flight::{Clock, Flight};
 use mn_topo::Topology;
 use std::alloc::{AllocError, Global};
 
-/// An end of a session of two edges, which has said OPEN.
+/// An end of a session of two edges, which has sent OPEN.
 fn opened(topology: &Topology, edge: NodeNo, peer: NodeNo) -> BgpSession
     requires edge { edge.0 < length topology.now.loopbacks }
     requires peer { peer.0 < length topology.now.loopbacks }
@@ -29,13 +29,13 @@ fn opened(topology: &Topology, edge: NodeNo, peer: NodeNo) -> BgpSession
     )
 }
 
-/// Bytes that spell a message are refused for want of memory alone.
+/// Bytes that spell a message are refused only where memory runs out.
 fn want(bad: BgpWireBad) -> AllocError
     requires { bad ≡ NoMemory }
 {
     match bad {
         BgpWireBad::NoMemory => AllocError,
-        // What flies is what was told.
+        // What flies is what was sent.
         _ => unreachable!(),
     }
 }
@@ -70,7 +70,7 @@ impl Routes {
         cut(&mut self.messages, topology, a, b);
     }
 
-    /// An edge says OPEN to a peer.
+    /// An edge sends OPEN to a peer.
     fn say_open(
         &mut self,
         topology: &Topology,
@@ -91,7 +91,7 @@ impl Routes {
         send(&mut self.messages, topology, edge, peer, bytes, clock)
     }
 
-    /// The session of two edges opens: each has said OPEN to the other.
+    /// The session of two edges opens: each has sent OPEN to the other.
     pub(crate) fn open(
         &mut self,
         topology: &Topology,
@@ -118,7 +118,7 @@ impl Routes {
         self.say_open(topology, b, a, clock)
     }
 
-    /// An edge forgets what it heard of a peer.
+    /// An edge forgets what it received from a peer.
     fn forget(&mut self, edge: NodeNo, peer: NodeNo) -> Result<(), AllocError>
         requires { slice_get self.old.edges edge.0 ≡ Some (Some (working (edge_at self.old edge.0))) }
         ensures { OnOk result (self.new ≡ forgotten edge.0 peer.0 self.old) }
@@ -132,7 +132,7 @@ impl Routes {
         }
     }
 
-    /// The session of two edges ends: each forgets what it heard of the other, and nothing flies between them.
+    /// The session of two edges ends: each forgets what it received from the other, and nothing flies between them.
     pub(crate) fn end(
         &mut self,
         topology: &Topology,
@@ -192,12 +192,12 @@ impl Routes {
         };
         match end.hear(message) {
             Ok(answer) => answer,
-            // What flies is what was told, and comes in turn.
+            // What flies is what was sent, and comes in turn.
             Err(_) => unreachable!(),
         }
     }
 
-    /// What a session does as a message is heard: it says KEEPALIVE, or its edge tells the peer all its exports.
+    /// What a session does as a message is received: it sends KEEPALIVE, or its edge advertises all its exports to the peer.
     fn answer(
         &mut self,
         topology: &Topology,
@@ -257,7 +257,7 @@ impl Routes {
         }
     }
 
-    /// An edge hears the next message of a peer, and answers.
+    /// An edge receives the next message of a peer, and answers.
     pub(crate) fn hear_next(
         &mut self,
         topology: &Topology,

@@ -12,10 +12,10 @@ use mn_topo::Topology;
 use std::alloc::AllocError;
 
 impl Routes {
-    /// The session of two edges opens, and each says OPEN to the other.
+    /// The session of two edges opens, and each sends OPEN to the other.
     ///
-    /// It answers how many messages that made, of which the first has the clock's number. After want of memory nothing
-    /// is said of the routes.
+    /// It answers how many messages that made, of which the first has the clock's number. After running out of memory nothing
+    /// is promised of the routes.
     pub fn bgp_up(
         &mut self,
         topology: &Topology,
@@ -34,10 +34,10 @@ impl Routes {
         Ok(next - clock.number)
     }
 
-    /// It ends: nothing flies between them any more, and each forgets what it heard of the other.
+    /// It ends: nothing flies between them any more, and each forgets what it received from the other.
     ///
-    /// It answers how many messages that made, of which the first has the clock's number. After want of memory nothing
-    /// is said of the routes.
+    /// It answers how many messages that made, of which the first has the clock's number. After running out of memory nothing
+    /// is promised of the routes.
     pub fn bgp_down(
         &mut self,
         topology: &Topology,
@@ -55,10 +55,10 @@ impl Routes {
         Ok(0)
     }
 
-    /// The second edge hears the next message of the first. It is never refused.
+    /// The second edge receives the next message of the first. It is never refused.
     ///
-    /// It answers how many messages that made, of which the first has the clock's number. After want of memory nothing
-    /// is said of the routes.
+    /// It answers how many messages that made, of which the first has the clock's number. After running out of memory nothing
+    /// is promised of the routes.
     pub fn hear_bgp(
         &mut self,
         topology: &Topology,
@@ -79,8 +79,8 @@ impl Routes {
 
     /// A site's VRF has a prefix over the site, which its edge announces.
     ///
-    /// It answers how many messages that made, of which the first has the clock's number. After want of memory nothing
-    /// is said of the routes.
+    /// It answers how many messages that made, of which the first has the clock's number. After running out of memory nothing
+    /// is promised of the routes.
     #[tactic(auto, using(mn_routing_laws::proofs::Can::site_added, mn_routing_laws::proofs::Dids::did_add))]
     pub fn add_route(
         &mut self,
@@ -102,8 +102,8 @@ impl Routes {
 
     /// It has it no longer, and its edge withdraws it.
     ///
-    /// It answers how many messages that made, of which the first has the clock's number. After want of memory nothing
-    /// is said of the routes.
+    /// It answers how many messages that made, of which the first has the clock's number. After running out of memory nothing
+    /// is promised of the routes.
     #[tactic(auto, using(mn_routing_laws::proofs::Can::site_deleted, mn_routing_laws::proofs::Dids::did_del))]
     pub fn del_route(
         &mut self,
@@ -125,8 +125,8 @@ impl Routes {
 
     /// A VRF imports routes that have a target, or no longer does.
     ///
-    /// It answers how many messages that made, of which the first has the clock's number. After want of memory nothing
-    /// is said of the routes.
+    /// It answers how many messages that made, of which the first has the clock's number. After running out of memory nothing
+    /// is promised of the routes.
     pub fn import(
         &mut self,
         topology: &Topology,
@@ -148,8 +148,8 @@ impl Routes {
 
     /// A VRF exports its routes with a target, or no longer does. Its edge announces what changes by that, or withdraws it where no target is left.
     ///
-    /// It answers how many messages that made, of which the first has the clock's number. After want of memory nothing
-    /// is said of the routes.
+    /// It answers how many messages that made, of which the first has the clock's number. After running out of memory nothing
+    /// is promised of the routes.
     #[tactic(auto, using(mn_routing_laws::proofs::Can::vrf_of_export, mn_routing_laws::proofs::Exporting::did_export))]
     pub fn export(
         &mut self,
@@ -172,8 +172,8 @@ impl Routes {
 
     /// A site is detached, and its edge withdraws the routes over it.
     ///
-    /// It answers how many messages that made, of which the first has the clock's number. After want of memory nothing
-    /// is said of the routes.
+    /// It answers how many messages that made, of which the first has the clock's number. After running out of memory nothing
+    /// is promised of the routes.
     pub fn detach(
         &mut self,
         topology: &Topology,
@@ -193,8 +193,8 @@ impl Routes {
 
     /// A site is attached anew with a label, which is the next one of its edge, and the edge announces the routes over it.
     ///
-    /// It answers how many messages that made, of which the first has the clock's number. After want of memory nothing
-    /// is said of the routes.
+    /// It answers how many messages that made, of which the first has the clock's number. After running out of memory nothing
+    /// is promised of the routes.
     #[tactic(auto, using(mn_routing_laws::proofs::Can::site_attached, mn_routing_laws::proofs::Dids::did_attach))]
     pub fn attach(
         &mut self,

@@ -59,7 +59,8 @@ same_heard : (t : Network) (l m : Labels) (c : Config) (p : Peerings) (edge q : 
 same_heard t l m c p edge q h = ap (λ xs. if q == edge then [] else if peers_live c edge q then xs else [])
     (same_fold t l m q [] (heard_of p edge q) (λ x i. h x (in_take (p.heard edge q) (p.told q edge) x i)))
 
-pub agrees : (t : Network) (gives : ℕ → ℕ) (c : Config) (l : Labels) (s : SiteNo) (x : Telling) → IsKnown c x → AgreeOn (labels_after gives c l (step.Attach s)) l x
+pub agrees : (t : Network) (gives : ℕ → ℕ) (c : Config) (l : Labels) (s : SiteNo) (x : Telling) → IsKnown c x →
+    AgreeOn (labels_after gives c l (step.Attach s)) l x
 unfolding AgreeOn
 agrees t gives c l s (Announcement e) h = elim (eqb_tells e.site s.0) [
   | inr d ↦ pair_off l s.0 (c.attaches s.0 + 2) (gives s.0) e.site e.attachment (inl d.1)

@@ -78,7 +78,7 @@ drop_front zero xs ys h = refl
 drop_front (suc n) [] ys h = absurd (let none : suc n ≤ 0 → ⊥ = (λ p. omega (arith, p)) in none h)
 drop_front (suc n) (x ∷ xs) ys h = drop_front n xs ys (omega (arith, h))
 
--- nobody has heard more than was told
+-- nobody has received more than was told
 abbrev pub IsHeard : Peerings → Type 0
 IsHeard p = (a b : ℕ) → a ≢ b → p.heard b a ≤ length (p.told a b)
 
@@ -92,7 +92,7 @@ flies_told t l k due number xs messages heard nodes flies a b first second apart
     ∙ sym (map-append (bytes_in t l a) (drop (k.heard b a) (k.told a b)) (tellings_of a b xs))
     ∙ ap (map (bytes_in t l a)) (sym (drop_front (k.heard b a) (k.told a b) (tellings_of a b xs) (heard a b apart)))
 
--- with labels that are the same for what was told
+-- with labels that are the same for what was sent
 pub flies_alike : (t : Network) (l m : Labels) (p : Peerings) (messages : List (Item (List ℕ)))
     → ((a b : ℕ) (x : Telling) → In (p.told a b) x → bytes_in t l a x ≡ bytes_in t m a x) → FliesAs t l p messages → FliesAs t m p messages
 flies_alike t l m p messages alike flies a b first second apart = flies a b first second apart ∙ same (p.heard b a) (p.told a b) (alike a b)

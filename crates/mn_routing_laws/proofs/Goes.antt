@@ -90,7 +90,8 @@ same_bytes t gives c l (step.Attach s) a BgpKeepAlive h = refl
 same_bytes t gives c l (step.Attach s) a (Withdrawal v p) h = refl
 same_bytes t gives c l _ a m h = refl
 
-pub flies_now : (t : Network) (gives : ℕ → ℕ) (l : Labels) (w : World) (s : Step) (messages : List (Item (List ℕ))) → Rests t w → FliesAs t l w.peerings messages →
+pub flies_now : (t : Network) (gives : ℕ → ℕ) (l : Labels) (w : World) (s : Step) (messages : List (Item (List ℕ))) → Rests t w →
+    FliesAs t l w.peerings messages →
     FliesAs t (labels_after gives w.config l s) w.peerings messages
 flies_now t gives l w s messages rest flies =
     flies_alike t l (labels_after gives w.config l s) w.peerings messages (λ a b m i. same_bytes t gives w.config l s a m (rest.sound a b m i).1) flies
@@ -171,7 +172,8 @@ module _ (t : Network) (lawful : IsLawful t) (es : List JournalEntry) (s : Step)
     parcels_are comes exports spelled =
         ap (map (parcel_of t later)) (one.no_replies
         ∙ news_at_home t w.config (config_after w.config s) w.peerings (bgp_counted w.peerings s) s one.among
-        (λ e. tells_what_is_touched t es turn.inputs (record { tick = tick; step = s; damaged = Undamaged }) turn.bytes e lawful turn.lawful turn.fitting turn.allowed))
+        (λ e. tells_what_is_touched t es turn.inputs (record { tick = tick; step = s; damaged = Undamaged }) turn.bytes e lawful turn.lawful turn.fitting
+        turn.allowed))
         ∙ to_all_peers t later (home_in t s) (steady_peers t w.config w.peerings (config_after w.config s) (bgp_counted w.peerings s) (home_in t s))
         (told_of t w.config s (home_in t s))
         ∙ ap (λ ps. to_all (home_in t s * length t.loopbacks) ps (map (bytes_in t later (home_in t s)) (told_of t w.config s (home_in t s))))

@@ -87,7 +87,8 @@ static_there s p xs bad false e h = absurd (let none : Some bad ≡ None → ⊥
 pub next_there : (heard told : ℕ) → nat_le told heard ≡ false → heard < told
 next_there heard told h = grind (arith, nat_tests, h)
 
-pub go_by : (t : Network) (gives : ℕ → ℕ) (l : Labels) (w : World) (k : Packets) (n : ℕ) (b : List ℕ) (s : Step) → IsLawful t → Rests t w → IsInTurn t w → fits t s ≡ true →
+pub go_by : (t : Network) (gives : ℕ → ℕ) (l : Labels) (w : World) (k : Packets) (n : ℕ) (b : List ℕ) (s : Step) → IsLawful t → Rests t w → IsInTurn t w →
+    fits t s ≡ true →
     IsFree t w k n s b
     → routes_in t (labels_after gives w.config l s) (config_after w.config s) (peerings_after t w.config (config_after w.config s) w.peerings s)
     ≡ routes_after t gives l w (routes_in t l w.config w.peerings) s
@@ -129,5 +130,6 @@ goes_by_parts t es ps e b lawful journal fit none =
     let w : World = world_of t es in
     ap (λ (v : World). routes_in t (labels_of t (es ++ e ∷ [])) v.config v.peerings) (world_from-push t es (start t) e)
     ∙ ap (λ l. routes_in t l (config_after w.config e.step) (peerings_after t w.config (config_after w.config e.step) w.peerings e.step)) (table_grows t es e)
-    ∙ go_by t (next_label t es) (labels_of t es) w (packets_of t es ps) (length es) b e.step lawful (rests t es ps lawful journal) (in_turn t es ps lawful journal) fit
+    ∙ go_by t (next_label t es) (labels_of t es) w (packets_of t es ps) (length es) b e.step lawful (rests t es ps lawful journal)
+    (in_turn t es ps lawful journal) fit
     (free t w (packets_of t es ps) (length es) e.step b none)

@@ -7,7 +7,8 @@ use Rattle.std.proofs.lemmas.Bool.Decides.{eqb_tells}
 use Rattle.mn_base.specs.declared.numbers.SiteNo.{SiteNo}
 use Rattle.mn_labels.specs.declared.meaning.Bind.{Bind}
 use Rattle.mn_labels.specs.declared.meaning.Given.{Given}
-use Rattle.mn_labels.specs.Labels.{Labels as NodeLabels, label_now, fec_of, greatest, attached, offered_one, offered_all, given_up, offered, next_label as least_free}
+use Rattle.mn_labels.specs.Labels.{Labels as NodeLabels, label_now, fec_of, greatest, attached, offered_one, offered_all, given_up, offered}
+use Rattle.mn_labels.specs.Labels.{next_label as least_free}
 use Rattle.mn_topo.specs.Network.{Network}
 use Rattle.mn_topo.specs.declared.steps.Step.{Step}
 use Rattle.mn_topo.specs.declared.steps.Step.TheVariants as step

@@ -1,4 +1,4 @@
--- What was heard of a peer, as more is told and heard.
+-- What was received from a peer, as more is sent and received.
 use Rattle.std.proofs.Common.{ℕ, suc, ◌≡◌, ◌≢◌, ◌+◌, ◌<◌, ◌≤◌, inl, inr, true, List, [], ◌∷◌, ◌++◌, length, take, sym, ◌∙◌, ap, add-one, take-suc}
 use Rattle.std.specs.Prelude.{◌==◌, slice_index_or, if◌then◌else◌}
 use Rattle.std.proofs.lemmas.Bool.Decides.{eqb_tells}
@@ -11,7 +11,7 @@ use Rattle.mn_ledger.specs.Held.{heard_of}
 use Rattle.mn_bgp_spelling_laws.specs.Spelling.{Labels}
 use Rattle.mn_routing_laws.specs.Standing.{says_of, heard_if, heard_from, heard_live, heard_in}
 
--- nobody has heard more than was told
+-- nobody has received more than was told
 abbrev pub IsInTurn : Peerings → Type 0
 IsInTurn peerings = (edge peer : ℕ) → edge ≢ peer → peerings.heard edge peer ≤ length (peerings.told peer edge)
 
@@ -35,7 +35,7 @@ heard_same t l c new p k edge peer more alive heard told turn = elim (eqb_tells 
   | inr e ↦ ap (λ xs. if peer == edge then [] else xs) (live_same t l c new p k edge peer more alive heard told (turn (λ f. e.1 (sym f))))
 ]
 
--- 2. One more is heard
+-- 2. One more is received
 
 take_next : {A : Type 0} (n : ℕ) (xs ys : List A) (d : A) → n < length xs → take (suc n) (xs ++ ys) ≡ take n xs ++ slice_index_or xs n d ∷ []
 take_next n xs ys d h = take-append-le (suc n) xs ys h ∙ take-suc xs n d h

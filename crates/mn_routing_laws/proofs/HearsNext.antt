@@ -1,4 +1,4 @@
--- An edge hears the next message of a peer.
+-- An edge receives the next message of a peer.
 use Rattle.std.proofs.Common.{ℕ, zero, suc, ◌≡◌, ◌≢◌, ◌+◌, ◌-◌, ◌*◌, ◌<◌, ◌≤◌, ◌⊎◌, inl, inr, Bool, true, false, cond, not, List, [], ◌∷◌, ◌++◌, map}
 use Rattle.std.proofs.Common.{filter, length, drop, refl, arith, sym, ◌∙◌, ap, subst, Option, Some, None, append-nil, add-one}
 use Rattle.std.specs.Prelude.{◌==◌, ◌&&◌, nat_le, slice_get, slice_set, slice_index_or, option_map, if◌then◌else◌}
@@ -110,7 +110,7 @@ answer_parcels t l e peer answer xs ys h =
     by false true = all_to t l e peer xs ys h
     by false false = refl
 
--- what an edge exports doesn't depend on what it heard
+-- what an edge exports doesn't depend on what it received
 same_exports : (now : Edge) (peer : ℕ) (says : Option Says) → exports_of (after_message now peer says) ≡ exports_of now
 same_exports now peer None = refl
 same_exports now peer (Some says) = refl

@@ -46,7 +46,7 @@ vrfs_ascend : (t : Network) (c : Config) (us : List ℕ) → Ascends nat_lt us �
 vrfs_ascend t c [] h = tt
 vrfs_ascend t c (u ∷ us) h = (all_numbers t c u us h.0, vrfs_ascend t c us h.1)
 
--- what was heard
+-- what was received
 withdrawn_ascends : (hs : List Heard) (routes : List VpnRoute) → Ascends heard_before hs → Ascends heard_before (after_withdrawn hs routes)
 withdrawn_ascends hs [] h = h
 withdrawn_ascends hs (r ∷ routes) h = withdrawn_ascends (without_heard r.rd r.prefix hs) routes (ascends_without heard_before (place_of r.rd r.prefix) hs h)

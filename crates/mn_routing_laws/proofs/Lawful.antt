@@ -301,7 +301,8 @@ rests_from t [] tick w k i ps topology lawful h = h
 rests_from t (e ∷ es) tick w k i ps topology lawful h =
     let statics = statics_go t w k i e.step (next_of ps) lawful.2 h.statics in
     let forms = forms_go t w e.step lawful.0 h.forms in
-    rests_from t es (clock_after e) (after t w e.step) (packets_by t (after t w e.step) k e (next_of ps)) (i + 1) (left_by e.step ps) topology lawful.3 (record {
+    rests_from t es (clock_after e) (after t w e.step) (packets_by t (after t w e.step) k e (next_of ps)) (i + 1) (left_by e.step ps) topology lawful.3
+    (record {
       numbered = numbered_go t w.config e.step h.numbered;
       sound = sound_go t w e.step h.numbered h.sound;
       sited = sited_go t w.config e.step lawful.0 h.sited;

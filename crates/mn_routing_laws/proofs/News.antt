@@ -1,4 +1,4 @@
--- What an edge tells in a step is the news of the exports that it is asked for.
+-- What an edge advertises in a step is the news of the exports that it is asked for.
 use Rattle.std.proofs.Common.{ℕ, zero, suc, ◌≡◌, ◌<◌, inl, inr, Bool, true, false, List, [], ◌∷◌, map, filter, length, refl}
 use Rattle.std.proofs.Common.{arith, sym, ◌∙◌, ap, subst}
 use Rattle.std.specs.Prelude.{◌==◌, ◌&&◌, slice_index_or, nat_lt}

@@ -26,7 +26,8 @@ pub labels_then : (t : Network) (es : List JournalEntry) (tick : ℕ) (s : Step)
 labels_then t es tick s = table_grows t es (record { tick = tick; step = s; damaged = Undamaged })
 
 pub then_stands : (t : Network) (es : List JournalEntry) (tick : ℕ) (s : Step) (routed : Routed) →
-    StandsFor t (labels_after (next_label t es) (world_of t es).config (labels_of t es) s) (after t (world_of t es) s) routed → IsRoutes t (pushed es tick s) routed
+    StandsFor t (labels_after (next_label t es) (world_of t es).config (labels_of t es) s) (after t (world_of t es) s) routed →
+    IsRoutes t (pushed es tick s) routed
 then_stands t es tick s routed h =
     subst (λ l. StandsFor t l (world_of t (pushed es tick s)) routed) (sym (labels_then t es tick s))
     (subst (λ w. StandsFor t (labels_after (next_label t es) (world_of t es).config (labels_of t es) s) w routed) (sym (world_then t es tick s)) h)

@@ -108,9 +108,11 @@ del_whole t l c p s prefix below turn has there =
     (λ now. after_vrf now (vrf_of t s.0) (without_static (record { prefix = prefix; site = s.0 }))) below
     (del_here t c s prefix l p (home_of t s.0) turn has there) (λ x d. del_off t c s prefix l p x d turn has there) (λ n m. refl)
 
-pub attach_whole : (t : Network) (gives : ℕ → ℕ) (l : Labels) (c : Config) (p : Peerings) (s : SiteNo) → home_of t s.0 < length t.loopbacks → s.0 < length t.sites →
+pub attach_whole : (t : Network) (gives : ℕ → ℕ) (l : Labels) (c : Config) (p : Peerings) (s : SiteNo) → home_of t s.0 < length t.loopbacks →
+    s.0 < length t.sites →
     IsInTurn p → AllKnown c p
-    → routes_in t (labels_after gives c l (step.Attach s)) (config_after c (step.Attach s)) (peerings_after t c (config_after c (step.Attach s)) p (step.Attach s))
+    → routes_in t (labels_after gives c l (step.Attach s)) (config_after c (step.Attach s))
+    (peerings_after t c (config_after c (step.Attach s)) p (step.Attach s))
     ≡ at_edge (home_of t s.0) (λ now. after_attach now s.0 (gives s.0)) (routes_in t l c p)
 unfolding peerings_after
 attach_whole t gives l c p s below there turn known =
@@ -130,7 +132,7 @@ detach_whole t l c p s below there turn =
 
 -- 2. A session opens or ends
 
--- whatever the step tells, after it the two ends have heard nothing in the new life
+-- whatever the step tells, after it the two ends have received nothing in the new life
 later : Network → Config → Peerings → ℕ → ℕ → Bool → Step → Peerings
 later t c p a b on s = with_told (bgp_restarted p a b) (told_in t c p (with_session c a b on) (bgp_restarted p a b) s)
 
@@ -144,7 +146,7 @@ module _ (t : Network) (c : Config) (p : Peerings) (a b : ℕ) (on : Bool) (s : 
   abbrev row_later : ℕ → List (Option BgpSession)
   row_later n = map (session_or_none t (with_session c a b on) (later t c p a b on s) n) (nodes_of (wiring_of t))
 
-  -- an end, by whether it lives and how much it has heard
+  -- an end, by whether it lives and how much it has received
   end_as : ℕ → ℕ → Bool → ℕ → Option BgpSession
   end_as n m live heard = if live then Some (record {
     asn = t.asn;

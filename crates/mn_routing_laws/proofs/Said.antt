@@ -37,7 +37,7 @@ module _ (t : Network) (tick number : ℕ) (old mid new : Routed) (edge home : �
       (subst (λ e. Puts t tick number (news_in t old e comes given) (with_edge e (now e) old) new next) at
       (subst (λ m. Puts t tick number (news_in t m edge comes given) m new next) mid_is h))
 
--- what is told of either can be said
+-- what is told of either can be sent
 pub either_sayable : (comes : Bool) (come gone given : List Exported) → AreNews comes given come gone → AreSayable come → AreSayable gone → AreSayable given
 either_sayable comes [] gone given news a b = subst AreSayable (sym news.1) b
 either_sayable comes (x ∷ xs) gone given news a b = subst AreSayable (sym news.1) a

@@ -1,4 +1,4 @@
--- What an edge tells can be said: sets of targets ascend and are of their form, 16 at most, and labels have 20 bits.
+-- What an edge advertises can be sent: sets of targets ascend and are of their form, 16 at most, and labels have 20 bits.
 use Rattle.std.proofs.Common.{ℕ, zero, suc, ◌≡◌, ◌+◌, ◌<◌, ◌≤◌, ◌^◌, inl, inr, Bool, true, false, List, [], ◌∷◌, map}
 use Rattle.std.proofs.Common.{length, refl, arith, sym, ◌∙◌, ap, subst, Option, Some, None}
 use Rattle.std.specs.Prelude.{◌==◌, nat_lt, slice_index_or, option_map, if◌then◌else◌}

@@ -1,4 +1,4 @@
--- As a session begins or ends, its two edges forget what they heard of each other.
+-- As a session begins or ends, its two edges forget what they received from each other.
 use Rattle.std.proofs.Common.{ℕ, suc, ◌≡◌, ◌≢◌, ◌<◌, ◌⊎◌, inl, inr, Bool, true, false, List, [], ◌++◌, map, length, take, refl, sym, ◌∙◌, ap}
 use Rattle.std.specs.Prelude.{◌==◌, nat_lt, if◌then◌else◌}
 use Rattle.std.specs.List.{range_with_len}
@@ -43,7 +43,7 @@ live_off c a b edge peer on d e = elim (less_or_not edge peer) [
       ∙ sym (ap (λ x. if x then c.bgp_on edge peer else c.bgp_on peer edge) p)
 ]
 
--- nothing was heard in a life that begins, or in none
+-- nothing was received in a life that begins, or in none
 nothing_heard : (t : Network) (l : Labels) (c : Config) (k : Peerings) (edge peer : ℕ) → k.heard edge peer ≡ 0 → heard_in t l c k edge peer ≡ []
 nothing_heard t l c k edge peer h = ap (λ n. if peer == edge then [] else if peers_live c edge peer then heard_from t l peer
     (take n (k.told peer edge)) else []) h ∙ ap (λ xs. if peer == edge then [] else xs) (either (peers_live c edge peer)) ∙ neither (peer == edge)
@@ -153,7 +153,7 @@ pub down_off : (t : Network) (l : Labels) (c : Config) (p : Peerings) (a b : Nod
 unfolding peerings_after with_session after_it
 down_off t l c p a b edge d e turn = other_edge t l c p a.0 b.0 false (step.BgpDown a b) turn edge d e
 
--- where one begins nothing changes, since nothing is heard without a session
+-- where one begins nothing changes, since nothing is received without a session
 pub up_same : (t : Network) (l : Labels) (c : Config) (p : Peerings) (a b : NodeNo) (edge : ℕ) → a.0 ≢ b.0 → peers_live c a.0 b.0 ≡ false →
     peers_live c b.0 a.0 ≡ false → IsInTurn p
     → edge_in t l (config_after c (step.BgpUp a b)) (peerings_after t c (config_after c (step.BgpUp a b)) p (step.BgpUp a b)) edge ≡ edge_in t l c p edge

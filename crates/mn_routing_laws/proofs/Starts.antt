@@ -1,4 +1,4 @@
--- At the start each edge has what the topology says of it, each of its sites has its label, and nothing was heard.
+-- At the start each edge has what the topology says of it, each of its sites has its label, and nothing was received.
 use Rattle.std.proofs.Common.{ℕ, zero, suc, ◌≡◌, ◌≢◌, ◌+◌, ◌*◌, ◌<◌, Bool, true, false, cond, List, [], ◌∷◌, ◌++◌, map, length, refl, arith, sym}
 use Rattle.std.proofs.Common.{◌∙◌, ap, subst, Option, None, Some, inl, inr}
 use Rattle.std.specs.Prelude.{◌==◌, ◌&&◌, ◌||◌, nat_lt, filter, fold, slice_get, replicate, option_map, if◌then◌else◌}
@@ -237,7 +237,8 @@ first_label p k on zero (suc n) b a e h = by (p b) (ap p (here e) ∙ on)
     here : k ≡ b + 0 → b ≡ k
     here e = omega (arith, e)
 
-    by : (x : Bool) → x ≡ true → label_given (attachment_of k 1) (first_given a (cond x (b ∷ filter p (range_with_len (b + 1) n)) (filter p (range_with_len (b + 1) n)))) ≡ a + 0
+    by : (x : Bool) → x ≡ true → label_given (attachment_of k 1)
+        (first_given a (cond x (b ∷ filter p (range_with_len (b + 1) n)) (filter p (range_with_len (b + 1) n)))) ≡ a + 0
     by true f = ap (λ m. cond ((k == m) && (1 == 1)) a (label_given (attachment_of k 1) (first_given (a + 1) (filter p (range_with_len (b + 1) n))))) (here e)
         ∙ ap (λ x. cond (x && (1 == 1)) a (label_given (attachment_of k 1) (first_given (a + 1) (filter p (range_with_len (b + 1) n))))) (same_test k)
         ∙ (let plain : a ≡ a + 0 = omega arith in plain)
@@ -253,10 +254,12 @@ first_label p k on (suc d) (suc n) b a e h = by (p b) (λ c. first_label p k on 
     more : (m : ℕ) → a + 1 + m ≡ a + suc m
     more m = omega arith
 
-    by : (x : Bool) → ((c : ℕ) → label_given (attachment_of k 1) (first_given c (filter p (range_with_len (b + 1) n))) ≡ c + length (filter p (range_with_len (b + 1) d))) →
+    by : (x : Bool) → ((c : ℕ) → label_given (attachment_of k 1) (first_given c (filter p (range_with_len (b + 1) n))) ≡ c + length
+        (filter p (range_with_len (b + 1) d))) →
         label_given (attachment_of k 1) (first_given a (cond x (b ∷ filter p (range_with_len (b + 1) n)) (filter p (range_with_len (b + 1) n))))
         ≡ a + length (cond x (b ∷ filter p (range_with_len (b + 1) d)) (filter p (range_with_len (b + 1) d)))
-    by true rest = ap (λ x. cond (x && (1 == 1)) a (label_given (attachment_of k 1) (first_given (a + 1) (filter p (range_with_len (b + 1) n))))) (other_test k b apart)
+    by true rest = ap (λ x. cond (x && (1 == 1)) a (label_given (attachment_of k 1) (first_given (a + 1) (filter p (range_with_len (b + 1) n)))))
+        (other_test k b apart)
         ∙ rest (a + 1) ∙ more (length (filter p (range_with_len (b + 1) d)))
     by false rest = rest a
 

@@ -36,9 +36,9 @@ use Rattle.mn_routing_laws.specs.Standing.{static_of, vrf_in, site_label_now, sa
 use Rattle.mn_routing_laws.proofs.Tables.{map_same, map_numbers_set, map_numbers_at}
 use Rattle.mn_routing_laws.proofs.Hearing.{IsInTurn, heard_same, heard_next}
 
--- 1. A message is heard
+-- 1. A message is received
 
--- what was heard, in place
+-- what was received, in place
 heard_list : (t : Network) (l : Labels) (c : Config) (p : Peerings) (edge : ℕ) → List (List Heard)
 heard_list t l c p edge = map (heard_in t l c p edge) (nodes_of (wiring_of t))
 
@@ -71,7 +71,7 @@ heard_edge t l c p k edge peer (Some says) here off below =
     (map_numbers_set (heard_in t l c p edge) (heard_in t l c k edge) (length t.loopbacks) peer _ below
     (here ∙ ap (λ xs. heard_if xs (Some says)) (sym (map_numbers_at (heard_in t l c p edge) (length t.loopbacks) peer [] below))) off)
 
--- the edge that hears takes what the message says
+-- the edge that receives takes what the message says
 pub hear_here : (t : Network) (l : Labels) (c : Config) (p : Peerings) (a b : NodeNo) → a.0 ≢ b.0 → a.0 < length t.loopbacks → peers_live c b.0 a.0 ≡ true →
     p.heard b.0 a.0 < length (p.told a.0 b.0) → IsInTurn p
     → edge_in t l c (peerings_after t c c p (step.HearBgp a b)) b.0 ≡ after_message (edge_in t l c p b.0) a.0
@@ -116,7 +116,7 @@ pub same_parts : (ss : List VrfNo) (vs ws : List VrfState) (ls ms : List (Option
 same_parts ss vs ws ls ms addresses hs ks e f g = ap (λ z. made ss z ls addresses hs) e ∙ ap (λ z. made ss ws z addresses hs) f
     ∙ ap (λ z. made ss ws ms addresses z) g
 
--- whatever is told, with the same sessions as much is heard
+-- whatever is told, with the same sessions as much is received
 pub still_heard : (t : Network) (l : Labels) (c new : Config) (p : Peerings) (s : Step) (edge : ℕ) → new.bgp_on ≡ c.bgp_on → bgp_counted p s ≡ p → IsInTurn p
     → map (heard_in t l new (with_told (bgp_counted p s) (told_in t c p new (bgp_counted p s) s)) edge) (nodes_of (wiring_of t)) ≡ map (heard_in t l c p edge)
     (nodes_of (wiring_of t))

@@ -114,7 +114,7 @@ module _ (t : Network) (a b : ℕ) (first : a < length t.loopbacks) (second : b 
       swapped : {P Q : Type 0} → P ⊎ Q → Q ⊎ P
       swapped d = elim d [ inl p ↦ inr p | inr q ↦ inl q ]
 
-  -- nobody has heard more than was told
+  -- nobody has received more than was told
   pub anew_heard : (p : Peerings) → IsHeard p → IsHeard (bgp_restarted p a b)
   unfolding Which
   anew_heard p heard x y d = elim (which a b y x) [

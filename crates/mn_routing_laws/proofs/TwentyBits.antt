@@ -32,7 +32,8 @@ use Rattle.mn_ledger.specs.Time.{clock_after}
 use Rattle.mn_ledger.proofs.Refusals.{free}
 use Rattle.mn_ledger_laws.proofs.There.{home_there}
 use Rattle.mn_frame_laws.specs.Resting.{rested_after}
-use Rattle.mn_frame_laws.specs.Labels.{begins_offer, new_offers, is_free, attached_in, labels_after, first_given, first_labels, labels_from, labels_of as node_labels}
+use Rattle.mn_frame_laws.specs.Labels.{begins_offer, new_offers, is_free, attached_in, labels_after, first_given, first_labels, labels_from}
+use Rattle.mn_frame_laws.specs.Labels.{labels_of as node_labels}
 use Rattle.mn_frame_laws.proofs.Labelling.{bounded}
 use Rattle.mn_frame_laws.specs.Given.{given, label_in}
 use Rattle.mn_frame_laws.specs.Numbers.{labels_of}
@@ -61,11 +62,13 @@ without_shorter (y ∷ ys) x i = split (y == x) refl (without_shorter ys x) i
     keeps [] = omega arith
     keeps (z ∷ zs) = by (z == x) (keeps zs)
       where
-        by : (b : Bool) → length (filter (λ y. not (y == x)) zs) ≤ length zs → length (cond (not b) (z ∷ filter (λ y. not (y == x)) zs) (filter (λ y. not (y == x)) zs)) ≤ length (z ∷ zs)
+        by : (b : Bool) → length (filter (λ y. not (y == x)) zs) ≤ length zs →
+            length (cond (not b) (z ∷ filter (λ y. not (y == x)) zs) (filter (λ y. not (y == x)) zs)) ≤ length (z ∷ zs)
         by true h = omega (arith, h)
         by false h = omega (arith, h)
 
-    split : (b : Bool) → (y == x) ≡ b → (In ys x → length (filter (λ y. not (y == x)) ys) + 1 ≤ length ys) → In (y ∷ ys) x → length (cond (not b) (y ∷ filter (λ z. not (z == x)) ys) (filter (λ z. not (z == x)) ys)) + 1 ≤ length (y ∷ ys)
+    split : (b : Bool) → (y == x) ≡ b → (In ys x → length (filter (λ y. not (y == x)) ys) + 1 ≤ length ys) → In (y ∷ ys) x →
+        length (cond (not b) (y ∷ filter (λ z. not (z == x)) ys) (filter (λ z. not (z == x)) ys)) + 1 ≤ length (y ∷ ys)
     split true e more j = let k = keeps ys in omega (arith, k)
     split false e more j = elim j [
       | inl q ↦ absurd (other_numbers y x e q)
@@ -149,12 +152,13 @@ site_labels gs = map (λ (g : Given). g.label) (filter (λ (g : Given). is_attac
 in_sites : (gs : List Given) (label : ℕ) → list_any (λ (g : Given). is_attachment g.what && (g.label == label)) gs ≡ true → In (site_labels gs) label
 unfolding site_labels
 in_sites [] label h = absurd (clash (sym h))
-in_sites (g ∷ gs) label h = elim (or_cases (is_attachment g.what && (g.label == label)) (list_any (λ (x : Given). is_attachment x.what && (x.label == label)) gs) h) [
-  | inl e ↦ subst (In (site_labels (g ∷ gs))) (same_numbers g.label label (and_right (is_attachment g.what) (g.label == label) e))
-      (map_in (λ (x : Given). x.label) (filter (λ (x : Given). is_attachment x.what) (g ∷ gs)) g
-      (filter_in (λ (x : Given). is_attachment x.what) (g ∷ gs) g (inl refl) (and_left (is_attachment g.what) (g.label == label) e)))
-  | inr e ↦ behind (is_attachment g.what) (in_sites gs label e)
-]
+in_sites (g ∷ gs) label h = elim (or_cases (is_attachment g.what && (g.label == label))
+    (list_any (λ (x : Given). is_attachment x.what && (x.label == label)) gs) h) [
+      | inl e ↦ subst (In (site_labels (g ∷ gs))) (same_numbers g.label label (and_right (is_attachment g.what) (g.label == label) e))
+          (map_in (λ (x : Given). x.label) (filter (λ (x : Given). is_attachment x.what) (g ∷ gs)) g
+          (filter_in (λ (x : Given). is_attachment x.what) (g ∷ gs) g (inl refl) (and_left (is_attachment g.what) (g.label == label) e)))
+      | inr e ↦ behind (is_attachment g.what) (in_sites gs label e)
+    ]
   where
     behind : (b : Bool) → In (site_labels gs) label →
         In (map (λ (x : Given). x.label) (cond b (g ∷ filter (λ (x : Given). is_attachment x.what) gs) (filter (λ (x : Given). is_attachment x.what) gs))) label
@@ -207,12 +211,20 @@ attaches_few node labels s k h = record {
 
     more : attachments_in (labels.given ++ record { label = greatest labels.given + 1; what = attachment_of s k } ∷ []) ≡ attachments_in labels.given + 1 →
         greatest labels.given ≤ 15 + (attachments_in labels.given + (length labels.fecs - 1)) →
-        greatest labels.given ≤ 15 + (attachments_in (labels.given ++ record { label = greatest labels.given + 1; what = attachment_of s k } ∷ []) + (length labels.fecs - 1))
+        greatest labels.given ≤ 15 + (attachments_in (labels.given ++ record {
+          label = greatest labels.given + 1;
+          what =
+              attachment_of s k;
+        } ∷ []) + (length labels.fecs - 1))
     more e f = omega (arith, e, f)
 
     next : attachments_in (labels.given ++ record { label = greatest labels.given + 1; what = attachment_of s k } ∷ []) ≡ attachments_in labels.given + 1 →
         greatest labels.given ≤ 15 + (attachments_in labels.given + (length labels.fecs - 1)) →
-        greatest labels.given + 1 ≤ 15 + (attachments_in (labels.given ++ record { label = greatest labels.given + 1; what = attachment_of s k } ∷ []) + (length labels.fecs - 1))
+        greatest labels.given + 1 ≤ 15 + (attachments_in (labels.given ++ record {
+          label = greatest labels.given + 1;
+          what =
+              attachment_of s k;
+        } ∷ []) + (length labels.fecs - 1))
     next e f = omega (arith, e, f)
 
 none_left : (q : ℕ → Bool) (xs : List ℕ) → filter (λ x. not (q x)) xs ≡ [] → (x : ℕ) → In xs x → q x ≡ true
@@ -241,7 +253,8 @@ least_few labels node p d inside below none h = by (filter (λ x. not (is_had la
             x ≤ 15 + (attachments_in labels.given + (length labels.fecs - 1))
         within a b c = omega (arith, a, b, c)
 
-offers_few : (node p : ℕ) (labels : Labels) → node ≢ p → node < length labels.fecs → p < length labels.fecs → AreFew node labels → AreFew node (offered_one labels p)
+offers_few : (node p : ℕ) (labels : Labels) → node ≢ p → node < length labels.fecs → p < length labels.fecs → AreFew node labels →
+    AreFew node (offered_one labels p)
 offers_few node p labels d inside below h = by (label_now labels p) refl
   where
     one : Given
@@ -261,7 +274,11 @@ offers_few node p labels d inside below h = by (label_now labels p) refl
     }
       where
         same : {a : ℕ} → a ≤ 15 + (attachments_in labels.given + (length labels.fecs - 1)) →
-            a ≤ 15 + (attachments_in (labels.given ++ record { label = least_free labels; what = fec_of p } ∷ []) + (length (slice_set labels.fecs p (Some (least_free labels))) - 1))
+            a ≤ 15 + (attachments_in (labels.given ++ record {
+              label = least_free labels;
+              what =
+                  fec_of p;
+            } ∷ []) + (length (slice_set labels.fecs p (Some (least_free labels))) - 1))
         same {a} q = let e = more_attachments labels.given one in let f = length-set labels.fecs p (Some (least_free labels)) in
             subst (λ n. a ≤ 15 + (attachments_in (labels.given ++ record { label = least_free labels; what = fec_of p } ∷ []) + (n - 1))) (sym f)
             (subst (λ n. a ≤ 15 + (n + (length labels.fecs - 1))) (sym (e ∙ plain (attachments_in labels.given))) q)
@@ -338,7 +355,8 @@ from_few : (t : Network) (node : ℕ) → node < length t.loopbacks → (es : Li
 from_few t node inside [] w rested labels long h = h
 from_few t node inside (e ∷ es) w rested labels long h =
     from_few t node inside es (after t w e.step) (rested_after t w e.tick e.step node rested) (labels_after t w e.tick e.step node rested labels)
-    (offered_long (is_free t w node rested e.tick) (attached_in t w e.step node labels) (new_offers t w e.step node) ∙ attached_long t w e.step node labels ∙ long)
+    (offered_long (is_free t w node rested e.tick) (attached_in t w e.step node labels) (new_offers t w e.step node) ∙ attached_long t w e.step node labels
+    ∙ long)
     (offered_few (is_free t w node rested e.tick) node (length t.loopbacks) (new_offers t w e.step node) (attached_in t w e.step node labels)
     (offers_others t w e.step node) inside (attached_long t w e.step node labels ∙ long) (attached_few t w e.step node labels h))
 
@@ -386,7 +404,8 @@ AreWithin t c = (node : ℕ) → labels_given t c node ≤ 1048560
 
 first_within : (t : Network) → IsLawful t → AreWithin t (first_config t)
 first_within t lawful node =
-    let fewer : length (sites_at t node) ≤ length (range_with_len 0 (length t.sites)) = no_longer (λ s. home_of t s == node) (range_with_len 0 (length t.sites)) in
+    let fewer : length (sites_at t node) ≤ length (range_with_len 0 (length t.sites)) =
+    no_longer (λ s. home_of t s == node) (range_with_len 0 (length t.sites)) in
     let few : length (range_with_len 0 (length t.sites)) ≡ length t.sites = length_numbers 0 (length t.sites) in
     let sites : length t.sites ≤ 4096 = lawful.few_sites in
     let nodes : length t.loopbacks ≤ 256 = lawful.few_nodes in

@@ -1,4 +1,4 @@
--- A message that is heard changes the routes of a network as it changes one edge and one end of a session.
+-- A message that is received changes the routes of a network as it changes one edge and one end of a session.
 use Rattle.std.proofs.Common.{ℕ, ◌≡◌, ◌≢◌, ◌+◌, ◌<◌, ◌⊎◌, inl, inr, Bool, true, false, List, [], map, length, refl, sym, ◌∙◌, ap, Option, Some, None}
 use Rattle.std.specs.Prelude.{if◌then◌else◌, slice_set, slice_index_or, option_map}
 use Rattle.std.specs.List.{range_with_len}
@@ -25,7 +25,7 @@ use Rattle.mn_routing_laws.proofs.Hearing.{IsInTurn}
 use Rattle.mn_routing_laws.proofs.Steps.{hear_here, hear_off}
 use Rattle.mn_bgp_spelling_laws.proofs.Wire.{hears}
 
--- the update of what was told
+-- the update of what was sent
 update_is : (t : Network) (l : Labels) (q : ℕ) (m : Telling) → update_of (message_in t l q m) ≡ says_of t l q m
 update_is t l q Open = refl
 update_is t l q BgpKeepAlive = refl

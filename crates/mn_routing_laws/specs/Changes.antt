@@ -23,7 +23,7 @@ use Rattle.mn_routing_laws.specs.Whole.{RoutesNow, routes_in, at_edge, after_hea
 use Rattle.mn_routing_laws.specs.Labels.{next_label}
 use Rattle.mn_routing_laws.specs.Touched.{told_of}
 
--- The routes after a step in a world, by the next labels of sites: sessions open and end, the next message is heard, or one edge is told one
+-- The routes after a step in a world, by the next labels of sites: sessions open and end, the next message is received, or one edge is told one
 -- thing.
 abbrev pub routes_after : Network → (ℕ → ℕ) → Labels → World → RoutesNow → Step → RoutesNow
 routes_after topology gives labels world routes (BgpUp a b) = after_opening topology routes a.0 b.0

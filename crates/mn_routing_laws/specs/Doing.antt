@@ -171,7 +171,7 @@ abbrev pub cut : Network → ℕ → ℕ → Routed → Routed
 cut topology a b routed =
     record routed { messages = off_channel (b * length topology.loopbacks + a) (off_channel (a * length topology.loopbacks + b) routed.messages) }
 
--- an edge says OPEN to a peer, and each of two to the other
+-- an edge sends OPEN to a peer, and each of two to the other
 abbrev pub open_to : Network → ℕ → ℕ → Parcel
 open_to topology edge peer = (edge * length topology.loopbacks + peer, open_bytes topology.asn (loopback topology edge))
 
@@ -188,14 +188,14 @@ Opens topology tick number a b old new next =
     Puts topology tick number (opens_in topology a b)
     (cut topology a b (with_end b a (Some (opened topology b a)) (with_end a b (Some (opened topology a b)) old))) new next
 
--- each forgets what it heard of the other
+-- each forgets what it received from the other
 abbrev pub forgotten : ℕ → ℕ → Routed → Routed
 forgotten edge peer routed = with_edge edge (after_forget (edge_at routed edge) peer) routed
 
 abbrev pub Ends : Network → ℕ → ℕ → Routed → Routed → Type 0
 Ends topology a b old new = new ≡ cut topology a b (with_end b a None (with_end a b None (forgotten b a (forgotten a b old))))
 
--- 4. An edge hears the next message of a peer
+-- 4. An edge receives the next message of a peer
 
 abbrev pub next_on : Routed → ℕ → Option (Item (List ℕ))
 next_on routed channel = slice_get (on_channel channel routed.messages) 0

@@ -27,7 +27,7 @@ pub record HasChannels (routed : Routed) (channels : ℕ) : Type 0 where
 abbrev pub working : Edge → PeNow
 working edge = record { edge = edge; failed = false }
 
--- what an edge told a peer that the peer hasn't heard, in bytes
+-- what an edge sent a peer that the peer hasn't received, in bytes
 abbrev pub unheard : Network → Labels → Peerings → ℕ → ℕ → List (List ℕ)
 unheard topology labels peerings edge peer = map (bytes_in topology labels edge) (drop (peerings.heard peer edge) (peerings.told edge peer))
 
@@ -35,7 +35,7 @@ unheard topology labels peerings edge peer = map (bytes_in topology labels edge)
 abbrev pub bytes_on : ℕ → List (Item (List ℕ)) → List (List ℕ)
 bytes_on channel items = map (λ item. item.item) (on_channel channel items)
 
--- The edges and the sessions are the ledger's, and from each edge to each peer fly, in order, the messages that the peer hasn't heard.
+-- The edges and the sessions are the ledger's, and from each edge to each peer fly, in order, the messages that the peer hasn't received.
 pub record StandsFor (topology : Network) (labels : Labels) (world : World) (routed : Routed) : Type 0 where
   pub edges : routed.edges ≡ map (option_map working) (routes_in topology labels world.config world.peerings).edges
   pub sessions : routed.sessions ≡ (routes_in topology labels world.config world.peerings).sessions

@@ -49,14 +49,14 @@ abbrev pub heard_if : List Heard → Option Says → List Heard
 heard_if heard None = heard
 heard_if heard (Some says) = heard_after heard says
 
--- after these were heard of a peer
+-- after these were received from a peer
 abbrev pub heard_from : Network → Labels → ℕ → List Telling → List Heard
 heard_from topology labels peer tellings = fold (λ heard telling. heard_if heard (says_of topology labels peer telling)) [] tellings
 
 abbrev pub heard_live : Network → Labels → Config → Peerings → ℕ → ℕ → List Heard
 heard_live topology labels config peerings edge peer = if peers_live config edge peer then heard_from topology labels peer (heard_of peerings edge peer) else []
 
--- what an edge has heard of a peer in the session's present life; it is no peer of its own
+-- what an edge has received from a peer in the session's present life; it is no peer of its own
 abbrev pub heard_in : Network → Labels → Config → Peerings → ℕ → ℕ → List Heard
 heard_in topology labels config peerings edge peer = if peer == edge then [] else heard_live topology labels config peerings edge peer
 

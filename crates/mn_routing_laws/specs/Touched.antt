@@ -30,7 +30,7 @@ abbrev pub by_set : List ℕ → List Telling → List Telling → List Telling
 by_set [] coming going = going
 by_set (target ∷ targets) coming going = coming
 
--- what an edge tells of its exports in a step
+-- what an edge advertises of its exports in a step
 abbrev pub told_of : Network → Config → Step → ℕ → List Telling
 told_of topology config (AddRoute s prefix) edge = comes topology config (AddRoute s prefix) edge
 told_of topology config (DelRoute s prefix) edge = goes topology config (DelRoute s prefix) edge

@@ -51,19 +51,19 @@ at_end edge peer change routes = record routes {
       (change (slice_index_or (slice_index_or routes.sessions edge []) peer None)));
 }
 
--- as an edge hears a message of a peer: what it says of routes is taken, and the session goes on by the table
+-- as an edge receives a message of a peer: what it says of routes is taken, and the session goes on by the table
 abbrev pub after_hearing : RoutesNow → ℕ → ℕ → BgpMessage → RoutesNow
 after_hearing routes edge peer message =
     at_end edge peer (option_map (λ session. table.after_message session message)) (at_edge edge (λ now. after_message now peer (update_of message)) routes)
 
--- as the session of two edges opens: each has said OPEN
+-- as the session of two edges opens: each has sent OPEN
 abbrev pub opened : Network → ℕ → ℕ → BgpSession
 opened topology edge peer = record { asn = topology.asn; me = loopback topology edge; peer = loopback topology peer; state = OpenSent }
 
 abbrev pub after_opening : Network → RoutesNow → ℕ → ℕ → RoutesNow
 after_opening topology routes a b = at_end b a (λ end. Some (opened topology b a)) (at_end a b (λ end. Some (opened topology a b)) routes)
 
--- as it ends: each edge forgets what it heard of the other
+-- as it ends: each edge forgets what it received from the other
 abbrev pub after_ending : RoutesNow → ℕ → ℕ → RoutesNow
 after_ending routes a b =
     at_end b a (λ end. None) (at_end a b (λ end. None) (at_edge b (λ now. after_forget now a) (at_edge a (λ now. after_forget now b) routes)))

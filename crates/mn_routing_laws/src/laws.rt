@@ -11,7 +11,7 @@ pub fn an_edge_stands_for_the_ledger()
 {}
 
 /// With one step more the routes of a network are those of before with what the step changes: the session of two edges, the
-/// next message heard, or one thing that one edge is told.
+/// next message received, or one thing that one edge is told.
 pub fn a_step_changes_its_parts()
     ensures { GoByParts }
 {}

@@ -4,8 +4,8 @@
 //! ledger's world says of both is `routes_in`, and each step changes a few of them:
 //!
 //! ```text
-//! BgpUp a b            both ends have said OPEN
-//! BgpDown a b          both ends are gone, and each edge forgets what it heard of the other
+//! BgpUp a b            both ends have sent OPEN
+//! BgpDown a b          both ends are gone, and each edge forgets what it received from the other
 //! HearBgp a b          b's end goes on by the table, and b takes the routes that the message says
 //! AddRoute .. Detach   one edge is told one thing
 //! ```

@@ -15,10 +15,10 @@
 //!
 //! - `words`: the words of a row, as numbers, addresses, prefixes and bytes
 //! - `printed`: a result as text
-//! - `rows`: the loop over the files, and what is told of a row that differs
+//! - `rows`: the loop over the files, and what is reported of a row that differs
 #![tactic(auto)]
 
-mod hex;
+mod hex; // bytes in hexadecimal
 mod printed;
 mod rows;
 mod words;

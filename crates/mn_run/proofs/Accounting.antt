@@ -20,7 +20,8 @@ use Rattle.mn_course_laws.specs.Expansion.{Expansion, expanded}
 use Rattle.mn_course_laws.specs.Lawful.{IsLawfulRun}
 use Rattle.mn_answer.specs.declared.outcome.Limit.TheVariants.{Steps}
 use Rattle.mn_answer.specs.declared.outcome.Outcome.{Outcome}
-use Rattle.mn_answer.specs.declared.outcome.Outcome.TheVariants.{Done, Usage, BadTopology, BadScript, BadCapture, BadSecond, BadJoints, TooLarge, ReadFault, WriteFault, NoMemory}
+use Rattle.mn_answer.specs.declared.outcome.Outcome.TheVariants.{Done, Usage, BadTopology, BadScript, BadCapture, BadSecond, BadJoints, TooLarge, ReadFault}
+use Rattle.mn_answer.specs.declared.outcome.Outcome.TheVariants.{WriteFault, NoMemory}
 use Rattle.mn_run.specs.declared.words.Job.{Job}
 use Rattle.mn_run.specs.declared.words.Job.TheVariants.{Run, Check, Flood, Reflect, Join, Reach, Generate}
 use Rattle.mn_run.specs.Words.{word, failures_name}
@@ -76,11 +77,13 @@ promise topology script capture folder files before after written inputs read is
 -- where a run is done its promise is kept
 pub kept : (words : List (List ℕ)) (files : Files) (before : List ℕ) (after : Option Files) (written : Option (List ℕ)) (outcome : Outcome) (inputs : Inputs)
     (read : AreRead (word words 1) (word words 2) (word words 3) files inputs) → IsLawful inputs.topology → AllFit inputs.topology inputs.lines.items
-    → length inputs.lines.items ≤ most_script_lines → FilesAre (Some (run_done (word words 4) inputs.topology inputs.lines.items (packets_in inputs.capture read.over.bytes))) files after outcome
+    → length inputs.lines.items ≤ most_script_lines →
+    FilesAre (Some (run_done (word words 4) inputs.topology inputs.lines.items (packets_in inputs.capture read.over.bytes))) files after outcome
     → TextIs (Some (run_done (word words 4) inputs.topology inputs.lines.items (packets_in inputs.capture read.over.bytes))) before written outcome
     → IsKept Run words files before after written outcome
 kept words files before after written Done inputs read is_lawful fits few f t =
-    promise (word words 1) (word words 2) (word words 3) (word words 4) files before after written inputs read is_lawful fits few read.over.bytes read.over.there
+    promise (word words 1) (word words 2) (word words 3) (word words 4) files before after written inputs read is_lawful fits few read.over.bytes
+    read.over.there
     read.over.capture_read f t
 kept words files before after written Usage inputs read is_lawful fits few f t = tt
 kept words files before after written ReadFault inputs read is_lawful fits few f t = tt

@@ -61,7 +61,8 @@ pub run_ends : (words : List (List ℕ)) (inputs : Inputs) (files after : Option
     Ends Run words files after before written o
 run_ends words inputs files after before written o read named is_lawful fits few played = record {
   answers = λ m is.
-      subst (λ a. Answers a m after before written o) (sym (answer_is (word words 1) (word words 2) (word words 3) m inputs (read m is) (word words 4))) (done m is);
+      subst (λ a. Answers a m after before written o) (sym (answer_is (word words 1) (word words 2) (word words 3) m inputs (read m is) (word words 4)))
+      (done m is);
   kept = λ m is text begun. kept words m text after written o inputs (read m is) is_lawful fits few (done m is).files_are ((done m is).text_is text begun);
   told = λ number same. absurd (run_makes_none number same);
 }
@@ -118,7 +119,8 @@ reach_ends words files after before written o answers told same = record {
 
 -- two joined networks were told
 pub join_ends : (words : List (List ℕ)) (files after : Option Files) (before written : Option (List ℕ)) (o : Outcome) →
-    ForSome files (λ m. Answers (join_answer (word words 1) (word words 2) (word words 3) (word words 4) (word words 5) (word words 6) m) m after before written o) →
+    ForSome files (λ m. Answers (join_answer (word words 1) (word words 2) (word words 3) (word words 4) (word words 5) (word words 6) m) m after before written
+    o) →
     ForSome files (λ m. ForSome before (λ text.
     IsJoinTold (word words 1) (word words 2) (word words 3) (word words 4) (word words 5) (word words 6) m text after written o)) →
     Ends Join words files after before written o

@@ -41,5 +41,6 @@ each_is_drained t lawful packets script fits few before after line is drain goes
     let paced : IsPaced (1000000 * length before) (record { clock = 0; entries = [] }) past = expanded_paced t lawful packets before fit in
     let more : length script ≡ length before + suc (length after) = ap length is ∙ length-append before (line ∷ after) in
     let clock : past.clock ≤ 2 ^ 61 =
-    early past.clock (length before) (length past.entries) (omega (paced.within, arith)) (omega (few, more, arith)) (few_entries t past.entries (inputs_of packets past.entries) run.past.journal) in
+    early past.clock (length before) (length past.entries) (omega (paced.within, arith)) (omega (few, more, arith))
+    (few_entries t past.entries (inputs_of packets past.entries) run.past.journal) in
     subst (λ command. DrainsAll t past (played t packets past command)) (sym drain) (drains_all t lawful packets past run.past clock)

@@ -38,7 +38,8 @@ joined_apart words join =
     outside false false false false true h = cc
 
 -- the generator's words are two, so none of a run, of a flood, of reflected routes or of two joined networks
-no_number : (k n : ℕ) (a b : Bool) (x : Option ℕ) (number : ℕ) → (k == 2) ≡ false → ((n == k) && a) ≡ true → (if (n == 2) && b then x else None) ≡ Some number → ⊥
+no_number : (k n : ℕ) (a b : Bool) (x : Option ℕ) (number : ℕ) → (k == 2) ≡ false → ((n == k) && a) ≡ true → (if (n == 2) && b then x else None) ≡ Some number →
+    ⊥
 no_number k n a b x number other h e =
     let many : (n == k) ≡ true = and_left (n == k) a h in
     let is : n ≡ k = grind (arith, nat_tests) in

@@ -1,5 +1,6 @@
 -- The words of the command line.
-use Rattle.std.specs.Prelude.{◌≡◌, ◌≤◌, ℕ, Bool, true, false, not, if◌then◌else◌, Option, Some, None, ◌&&◌, ◌||◌, ◌==◌, nat_eq, List, [], length, slice_index_or, codes, ⊤}
+use Rattle.std.specs.Prelude.{◌≡◌, ◌≤◌, ℕ, Bool, true, false, not, if◌then◌else◌, Option, Some, None, ◌&&◌, ◌||◌, ◌==◌, nat_eq, List, [], length}
+use Rattle.std.specs.Prelude.{slice_index_or, codes, ⊤}
 use lib.Pointwise.{pointwise}
 use Rattle.mn_text.specs.Numbers.{number_up_to}
 use Rattle.mn_join_run.specs.Inside.{is_inside}

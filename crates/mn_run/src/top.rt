@@ -30,9 +30,9 @@ pub fn command<S: Shelf, O: Sink>(
 ) -> Outcome
     // The outcome is the answer's. A fault or out of memory may come in its place.
     ensures outcome { ForSome (S.files shelf.old) (λ files. OutcomeIs (answer_of (texts words.now) files) result) }
-    // The files are the answer's, laid over those of before; after a fault or out of memory a first part of them.
+    // The files are the answer's, laid over those of before; after a fault, or running out of memory, a first part of them.
     ensures files { ForSome (S.files shelf.old) (λ files. FilesAre (answer_of (texts words.now) files) files (S.files shelf.new) result) }
-    // What was put is the answer's text; after a fault or out of memory a first part of it.
+    // What was put is the answer's text; after a fault, or running out of memory, a first part of it.
     ensures text { ForSome (S.files shelf.old) (λ files. ForSome (O.written out.old) (λ before.
         TextIs (answer_of (texts words.now) files) before (O.written out.new) result)) }
     // Nothing is reported of a packet, and no total, but where every file is whole.

@@ -1,5 +1,6 @@
 -- What items that arrive one after another come to.
-use Rattle.std.proofs.Common.{◌≡◌, ℕ, zero, suc, ◌+◌, ◌-◌, ◌<◌, arith, Bool, true, false, List, [], ◌++◌, Option, Some, None, Ok, Err, refl, sym, ◌∙◌, ap, subst}
+use Rattle.std.proofs.Common.{◌≡◌, ℕ, zero, suc, ◌+◌, ◌-◌, ◌<◌, arith, Bool, true, false, List, [], ◌++◌, Option, Some, None, Ok, Err, refl, sym, ◌∙◌, ap}
+use Rattle.std.proofs.Common.{subst}
 use Rattle.std.proofs.Common.{append_assoc}
 use Rattle.std.proofs.lemmas.List.{append-nil}
 use Rattle.mn_topo.specs.Network.{Network}
@@ -86,6 +87,7 @@ keeps kept was stands all past same on h = (
       (subst (λ (p : Past). stands was.topology p.entries (inputs_of all p.entries)) (sym past) h.1),
 )
 
-pub stands_on : (kept was : NetNow) (all : List (List ℕ)) → past_of kept ≡ past_of was → ((inputs : List (List ℕ)) → StandsFor was inputs → StandsFor kept inputs) →
+pub stands_on : (kept was : NetNow) (all : List (List ℕ)) → past_of kept ≡ past_of was →
+    ((inputs : List (List ℕ)) → StandsFor was inputs → StandsFor kept inputs) →
     StandsFor was (inputs_of all was.journal) → StandsFor kept (inputs_of all kept.journal)
 stands_on kept was all past on h = subst (λ (p : Past). StandsFor kept (inputs_of all p.entries)) (sym past) (on _ h)

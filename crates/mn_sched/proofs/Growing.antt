@@ -197,7 +197,8 @@ takes_by old new entry clock why (Err q) ended answer long left finished =
 pub one_entry : (mid new : NetNow) (entry : JournalEntry) (clock : ℕ) → IsMore mid new entry clock → length new.journal ≡ length mid.journal + 1
 one_entry mid new entry clock long = ap length long.journal ∙ length-append mid.journal (entry ∷ [])
 
-pub entry_paced : (stepped : Result Done Refused) (ended : Result Played Stopped) (old new : NetNow) (entry : JournalEntry) (clock : ℕ) → clock ≤ old.tick + 1000000 →
+pub entry_paced : (stepped : Result Done Refused) (ended : Result Played Stopped) (old new : NetNow) (entry : JournalEntry) (clock : ℕ) →
+    clock ≤ old.tick + 1000000 →
     OnOk stepped (IsMore old new entry clock) → Leaves old new stepped → Finished stepped ended → OnOk ended (IsPaced 1000000 old new)
 entry_paced (Ok made) ended old new entry clock few long left finished = on_ok ended (IsPaced 1000000 old new)
     (let more = one_entry old new entry clock long in (omega (arith, more), omega (arith, more, long.tick, few)))

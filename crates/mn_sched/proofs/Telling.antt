@@ -28,7 +28,8 @@ use Rattle.mn_course_laws.specs.Coming.{delivery, earlier, is_due_before, next_a
 use Rattle.mn_edge.specs.Faults.{GrewUnless}
 use Rattle.mn_edge.specs.FaultLaws.{grew_by}
 use Rattle.mn_sched.specs.Arriving.{ArrivesNext}
-use Rattle.mn_course_laws.specs.Course.{Past, Course, ends, as_due, arrived, with_step, one_by_one, is_journal_full, inputs_of, input_before, bytes_of, record_of}
+use Rattle.mn_course_laws.specs.Course.{Past, Course, ends, as_due, arrived, with_step, one_by_one, is_journal_full, inputs_of, input_before, bytes_of}
+use Rattle.mn_course_laws.specs.Course.{record_of}
 use Rattle.mn_course_laws.specs.Course.{injected, tried, unless_refused, stepped, with_damage, damage_refused_by, damaged, refusal_now, until, on_to}
 use Rattle.mn_entry.specs.Damages.{number_of}
 use Rattle.mn_topo.specs.declared.steps.Damage.{Damage}
@@ -45,10 +46,12 @@ use Rattle.mn_sched.specs.declared.line.Stopped.TheVariants.{TooManySteps, Read,
 use Rattle.mn_sched.specs.declared.watch.WatchBad.{WatchBad}
 use Rattle.mn_sched.specs.declared.watch.WatchBad.TheVariants as bad
 use Rattle.mn_sched.specs.Watching.{Counts, Together, Stood, Begun, MadeLast, LastFits}
-use Rattle.mn_sched.specs.Playing.{past_of, IsFirstPart, Arrives, Takes, After, Caused, Finished, MissingIff, names_no_record, arrived_by, stopped_by, IsOwnCause}
+use Rattle.mn_sched.specs.Playing.{past_of, IsFirstPart, Arrives, Takes, After, Caused, Finished, MissingIff, names_no_record, arrived_by, stopped_by}
+use Rattle.mn_sched.specs.Playing.{IsOwnCause}
 use Rattle.mn_sched.specs.Playing.{as_played, IsPaced, IsOneLonger, GoesOnFor}
 use Rattle.mn_sched.proofs.Delivering.{first_part_refl, one_more}
-use Rattle.mn_sched.proofs.Growing.{ok_then, IsMore, plain, by_step, inputs_of-push, Names, Moves, stood_by, standing_by, on_ok, made_by, fits_by, tried_more, takes_by, entry_paced, grown_by}
+use Rattle.mn_sched.proofs.Growing.{ok_then, IsMore, plain, by_step, inputs_of-push, Names, Moves, stood_by, standing_by, on_ok, made_by, fits_by, tried_more}
+use Rattle.mn_sched.proofs.Growing.{takes_by, entry_paced, grown_by}
 
 -- what holds of two holds of the earlier
 pub earlier_has : (P : Coming → Type 0) (one other : Option Coming) → IfSome one P → IfSome other P → IfSome (earlier one other) P
@@ -74,7 +77,8 @@ pub takes_no_input : (capture : List (List ℕ)) (entries : List JournalEntry) (
     with_packet step bytes (inputs_of capture entries) ≡ inputs_of capture (entries ++ record { tick = tick; step = step; damaged = Undamaged } ∷ [])
 takes_no_input capture entries tick step bytes h =
     same_inputs step bytes (inputs_of capture entries) h
-    ∙ sym (inputs_of-push capture entries (record { tick = tick; step = step; damaged = Undamaged }) ∙ ap (λ l. inputs_of capture entries ++ l) (no_input capture step h)
+    ∙ sym (inputs_of-push capture entries (record { tick = tick; step = step; damaged = Undamaged })
+    ∙ ap (λ l. inputs_of capture entries ++ l) (no_input capture step h)
     ∙ append-nil (inputs_of capture entries))
 
 -- 2. The net and the watch, before the watch is told
@@ -398,8 +402,10 @@ pub takes_input : (capture : List (List ℕ)) (entries : List JournalEntry) (tic
     step ≡ Inject s number → record_of capture number ≡ Some bytes →
     with_packet step bytes (inputs_of capture entries) ≡ inputs_of capture (entries ++ record { tick = tick; step = step; damaged = Undamaged } ∷ [])
 takes_input capture entries tick step s number bytes is found =
-    subst (λ x. with_packet x bytes (inputs_of capture entries) ≡ inputs_of capture (entries ++ record { tick = tick; step = x; damaged = Undamaged } ∷ [])) (sym is)
-    (sym (inputs_of-push capture entries (record { tick = tick; step = Inject s number; damaged = Undamaged }) ∙ ap (λ o. inputs_of capture entries ++ bytes_of o ∷ []) found))
+    subst (λ x. with_packet x bytes (inputs_of capture entries) ≡ inputs_of capture (entries ++ record { tick = tick; step = x; damaged = Undamaged } ∷ []))
+    (sym is)
+    (sym (inputs_of-push capture entries (record { tick = tick; step = Inject s number; damaged = Undamaged })
+    ∙ ap (λ o. inputs_of capture entries ++ bytes_of o ∷ []) found))
 
 pub stepped_inject : (topology : Network) (capture : List (List ℕ)) (past : Past) (step : Step) (s : SiteNo) (number : ℕ) (bytes : List ℕ) →
     step ≡ Inject s number → record_of capture number ≡ Some bytes →

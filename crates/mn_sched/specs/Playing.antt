@@ -70,7 +70,7 @@ Caused excuse old new (Err Read) = GrewUnless excuse old.0 new.0 × (new.1 ≡ o
 Caused excuse old new (Err Write) = GrewUnless excuse old.1 new.1 × (new.0 ≡ old.0)
 Caused excuse old new result = (new.0 ≡ old.0) × (new.1 ≡ old.1)
 
--- a line is refused neither for a full journal nor for want of memory
+-- a line is refused neither for a full journal nor because memory ran out
 abbrev pub IsOwnCause : Played → Type 0
 IsOwnCause (Refused cause.TooManySteps) = ⊥
 IsOwnCause (Refused cause.NoMemory) = ⊥
@@ -82,7 +82,7 @@ names_no_record records (Do (Inject s number)) = not (is_record records number)
 names_no_record records (Damage damage) = not (is_record records (number_of damage))
 names_no_record records command = false
 
--- that answer comes exactly there, but for faults and want of memory
+-- that answer comes exactly there, but for faults and out of memory
 abbrev pub MissingIff : Bool → Result Played Stopped → Type 0
 MissingIff missing (Ok NoRecord) = missing ≡ true
 MissingIff missing (Err Read) = ⊤

@@ -85,7 +85,7 @@ pub(crate) fn set_clock(net: &mut Net, arrivals: Arrivals, due: u64)
 }
 
 /// What comes next by a line arrives, if anything comes: its step is done with the clock set on. A full journal stops it, and
-/// want of memory; nothing else does.
+/// out of memory; nothing else does.
 pub fn arrive(net: &mut Net, arrivals: Arrivals) -> Option<Result<Done, Refused>>
     requires early { net.old.tick ≤ 2 ^ 62 }
     requires within { limit_of arrivals ≤ 2 ^ 62 }

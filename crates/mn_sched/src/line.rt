@@ -21,7 +21,7 @@ use mn_topo::{Damage, Step};
 pub enum Played {
     /// All that it asks for was done.
     All,
-    /// Its step was refused: never for a full journal or want of memory.
+    /// Its step was refused: never for a full journal, nor because memory ran out.
     Refused(Refused),
     /// It names a record that the capture hasn't: of a packet to inject, or to come in place of a message.
     NoRecord,
@@ -203,6 +203,7 @@ fn all_items() -> u32
     4_000_001
 }
 
+/// How many items arrive at most: none named is more than there may be.
 fn most_of(most: Option<u32>) -> u32
     ensures { result ≡ most_of most }
 {
@@ -322,7 +323,7 @@ fn pass_ticks<W: Watch>(net: &mut Net, ticks: u32, watch: &mut W) -> Result<Play
     Ok(Played::All)
 }
 
-/// Notices are learned, and once none is in flight messages are heard: so many in all, or until none is in flight.
+/// Notices are learned, and once none is in flight messages are received: so many in all, or until none is in flight.
 fn drain<W: Watch>(net: &mut Net, most: Option<u32>, watch: &mut W) -> Result<Played, Stopped>
     requires early { net.old.tick ≤ 2 ^ 61 }
     requires together { Together net.old (W.packets watch.old) (W.stands watch.old) }
@@ -364,12 +365,12 @@ pub fn play<W: Watch>(net: &mut Net, command: &Command, watch: &mut W) -> Result
     // Where it tells them, `drain` without a number takes no more steps than its bound, leaves no notice and no message in flight, and settles
     // the network where LDP is switched on for each link that is up and BGP between all edges.
     ensures drained { ForSome (W.packets watch.old) (λ capture. DrainsBy command.now capture net.old net.new result) }
-    // And there net and watch stand together afterwards; after a fault or want of memory the watch begins the journal.
+    // And there net and watch stand together afterwards; after a fault, or running out of memory, the watch begins the journal.
     ensures after { After net.new (W.packets watch.old) (W.stands watch.new) (W.begins watch.new) result }
-    // For every watch: that there is no such record is answered exactly there, but for faults and want of memory.
+    // For every watch: that there is no such record is answered exactly there, but for faults and out of memory.
     ensures missing { MissingIff (names_no_record (W.records watch.old) command.now) result }
     ensures topology { net.new.topology ≡ net.old.topology }
-    // A line that isn't done leaves the network as it was, and is refused neither for a full journal nor for want of memory.
+    // A line that isn't done leaves the network as it was, and is refused neither for a full journal nor because memory ran out.
     ensures kept { IfOk result (λ played. played ≢ Played.All → net.new ≡ net.old) }
     ensures refused { IfOk result IsOwnCause }
     // The journal before it begins the journal afterwards, also where playing stops.

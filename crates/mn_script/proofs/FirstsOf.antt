@@ -130,7 +130,8 @@ read_from [] i all = refl
 read_from (Err rule ∷ said) i all = let wrong : false ≡ true = all 0 (omega arith) in cc
 read_from (Ok None ∷ said) i all = collected_next i None said ∙ ap (before []) (read_from said (i + 1) (λ k h. all (suc k) (omega arith)))
 read_from (Ok (Some command) ∷ said) i all =
-    collected_next i (Some command) said ∙ ap (before (line_of (numbered (number_at i) (Some command)))) (read_from said (i + 1) (λ k h. all (suc k) (omega arith)))
+    collected_next i (Some command) said
+    ∙ ap (before (line_of (numbered (number_at i) (Some command)))) (read_from said (i + 1) (λ k h. all (suc k) (omega arith)))
 
 -- what follows a line that is read is read where the whole is
 rest_read : (front : List Line) (rest : Result (List Line) (ScriptRule × ℕ)) (script : List Line) → before front rest ≡ Ok script →
@@ -154,4 +155,5 @@ read_whole network bytes all =
 
 pub all_are_read : (network : Network) (bytes : List ℕ) (script : List Line) → script_of network bytes ≡ Ok script → AllAreRead network bytes
 all_are_read network bytes script h k below =
-    all_from (all_say network (lines bytes)) 0 script (sym (as_collected network 1 (lines bytes)) ∙ h) k (omega (arith, below, length-map (lines bytes) (λ text. line_says network (line_words text))))
+    all_from (all_say network (lines bytes)) 0 script (sym (as_collected network 1 (lines bytes))
+    ∙ h) k (omega (arith, below, length-map (lines bytes) (λ text. line_says network (line_words text))))

@@ -78,11 +78,13 @@ target_more : (network : Network) (a b c d e f : List ℕ) (ws : List (List ℕ)
 unfolding target_operands
 target_more network a b c d e f ws = rw (many a b c d e f ws 1 (lit< tt), many a b c d e f ws 4 (lit< tt)) refl
 
-import_more : (network : Network) (a b c d e f : List ℕ) (ws : List (List ℕ)) → import_line network (six a b c d e f ws) ≡ import_line network (six a b c d e f [])
+import_more : (network : Network) (a b c d e f : List ℕ) (ws : List (List ℕ)) →
+    import_line network (six a b c d e f ws) ≡ import_line network (six a b c d e f [])
 unfolding import_line
 import_more network a b c d e f ws = rw (target_more network a b c d e f ws) refl
 
-export_more : (network : Network) (a b c d e f : List ℕ) (ws : List (List ℕ)) → export_line network (six a b c d e f ws) ≡ export_line network (six a b c d e f [])
+export_more : (network : Network) (a b c d e f : List ℕ) (ws : List (List ℕ)) →
+    export_line network (six a b c d e f ws) ≡ export_line network (six a b c d e f [])
 unfolding export_line
 export_more network a b c d e f ws = rw (target_more network a b c d e f ws) refl
 
@@ -90,7 +92,8 @@ site_more : (network : Network) (a b c d e f : List ℕ) (ws : List (List ℕ)) 
 unfolding site_line
 site_more network a b c d e f ws = rw (many a b c d e f ws 1 (lit< tt), many a b c d e f ws 3 (lit< tt)) refl
 
-inject_more : (network : Network) (a b c d e f : List ℕ) (ws : List (List ℕ)) → inject_line network (six a b c d e f ws) ≡ inject_line network (six a b c d e f [])
+inject_more : (network : Network) (a b c d e f : List ℕ) (ws : List (List ℕ)) →
+    inject_line network (six a b c d e f ws) ≡ inject_line network (six a b c d e f [])
 unfolding inject_line
 inject_more network a b c d e f ws = rw (many a b c d e f ws 3 (lit< tt)) refl
 
@@ -138,13 +141,23 @@ show_more network a b c d e f ws =
     let ldp = plain_more a b c d e f ws table.Ldp in
     let bgp = plain_more a b c d e f ws table.Bgp in
     let flight = plain_more a b c d e f ws table.Flight in
-    rw (many a b c d e f ws 1 (lit< tt), links, ldp, bgp, flight, tree_more network a b c d e f ws, vrf_more network a b c d e f ws, shown_frame_more network a b c d e f ws) refl
+    rw (
+      many a b c d e f ws 1 (lit< tt),
+      links,
+      ldp,
+      bgp,
+      flight,
+      tree_more network a b c d e f ws,
+      vrf_more network a b c d e f ws,
+      shown_frame_more network a b c d e f ws,
+    ) refl
 
 table_more : (network : Network) (a b c d e f : List ℕ) (ws : List (List ℕ)) → table_line network (six a b c d e f ws) ≡ table_line network (six a b c d e f [])
 unfolding table_line
 table_more network a b c d e f ws = rw (show_more network a b c d e f ws) refl
 
-damage_more : (network : Network) (a b c d e f : List ℕ) (ws : List (List ℕ)) → damage_line network (six a b c d e f ws) ≡ damage_line network (six a b c d e f [])
+damage_more : (network : Network) (a b c d e f : List ℕ) (ws : List (List ℕ)) →
+    damage_line network (six a b c d e f ws) ≡ damage_line network (six a b c d e f [])
 unfolding damage_line
 damage_more network a b c d e f ws = rw (many a b c d e f ws 1 (lit< tt), many a b c d e f ws 5 (lit< tt)) refl
 
@@ -161,7 +174,14 @@ command_more : (network : Network) (a b c d e f : List ℕ) (ws : List (List ℕ
     → command_line network (six a b c d e f ws) ≡ command_line network (six a b c d e f [])
 unfolding command_line
 command_more network a b c d e f ws =
-    rw (run_more a b c d e f ws, drain_more a b c d e f ws, flush_more a b c d e f ws, table_more network a b c d e f ws, damaged_more network a b c d e f ws, do_more network a b c d e f ws) refl
+    rw (
+      run_more a b c d e f ws,
+      drain_more a b c d e f ws,
+      flush_more a b c d e f ws,
+      table_more network a b c d e f ws,
+      damaged_more network a b c d e f ws,
+      do_more network a b c d e f ws,
+    ) refl
 
 says_more : (network : Network) (a b c d e f : List ℕ) (ws : List (List ℕ)) → line_says network (six a b c d e f ws) ≡ line_says network (six a b c d e f [])
 unfolding line_says

@@ -1,5 +1,6 @@
 -- Lines after those that are there.
-use Rattle.std.proofs.Common.{◌≡◌, ◌≤◌, ◌<◌, ◌+◌, ℕ, zero, suc, true, List, [], ◌∷◌, ◌++◌, length, refl, ap, sym, ◌∙◌, subst, set, append_assoc, arith, length-append}
+use Rattle.std.proofs.Common.{◌≡◌, ◌≤◌, ◌<◌, ◌+◌, ℕ, zero, suc, true, List, [], ◌∷◌, ◌++◌, length, refl, ap, sym, ◌∙◌, subst, set, append_assoc, arith}
+use Rattle.std.proofs.Common.{length-append}
 use Rattle.std.specs.Prelude.{All, Option, Some, None, Result, Ok, Err, IfSome, is_some, slice_get}
 use Rattle.std.specs.Borrow.{Bor}
 use Rattle.std.proofs.lemmas.Option.{same_Some}
@@ -55,10 +56,12 @@ known_said says script new (Some line) number text is value some =
 pub all_stay : {L : Type 0} (says : Says L) (script new : List L) (said : Option L) (known : List (Option (Bor (List ℕ) × ℕ))) → new ≡ script ++ line_of said →
     All (IsKnown says script) known → All (IsKnown says new) known
 all_stay says script new said known is all =
-    All-weaker (IsKnown says script) (IsKnown says new) (λ it h. subst (λ l. IsKnown says l it) (sym is) (known_stays says script (line_of said) it h)) known all
+    All-weaker (IsKnown says script) (IsKnown says new) (λ it h. subst (λ l. IsKnown says l it) (sym is) (known_stays says script (line_of said) it h)) known
+    all
 
 -- and so does a line that was said, in any slot
-pub all_said : {L : Type 0} (says : Says L) (script new : List L) (said : Option L) (known : List (Option (Bor (List ℕ) × ℕ))) (slot number : ℕ) (text : Bor (List ℕ)) →
+pub all_said : {L : Type 0} (says : Says L) (script new : List L) (said : Option L) (known : List (Option (Bor (List ℕ) × ℕ))) (slot number : ℕ)
+    (text : Bor (List ℕ)) →
     new ≡ script ++ line_of said → Ok said ≡ says number (line_words text.now) → is_some said ≡ true → All (IsKnown says script) known →
     All (IsKnown says new) (set known slot (Some (text, length script)))
 all_said says script new said known slot number text is value some all =

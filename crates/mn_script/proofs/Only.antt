@@ -48,7 +48,8 @@ use Rattle.mn_script.specs.declared.command.Show.TheVariants as table
 use Rattle.mn_topo.specs.declared.steps.Damage.{Damage}
 use Rattle.mn_topo.specs.declared.steps.Damage.TheVariants.{Ldp, Bgp}
 use Rattle.mn_script.specs.Damages.{damage_ldp_line, damage_bgp_line, damage_line}
-use Rattle.mn_script.specs.Lines.{run_line, bounded_drain, drain_line, flush_line, plain_show, show_tree, show_vrf, show_frame, show_line, do_line, damaged_line, table_line}
+use Rattle.mn_script.specs.Lines.{run_line, bounded_drain, drain_line, flush_line, plain_show, show_tree, show_vrf, show_frame, show_line, do_line}
+use Rattle.mn_script.specs.Lines.{damaged_line, table_line}
 use Rattle.mn_script.specs.Lines.{command_line, line_says}
 use Rattle.mn_script.specs.Spelled.{damage_words, show_words, AskFor}
 

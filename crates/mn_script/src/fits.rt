@@ -6,7 +6,7 @@ ghost use Rattle.mn_entry.specs.Entries.{mark_fits, entry_fits};
 use mn_entry::{damage_of, hearing, number_of};
 use mn_topo::{Damage, Damaged, JournalEntry, Topology};
 
-/// Whether the topology has room for the damage: for the step by which its message would have been heard, and the record is from 1.
+/// Whether the topology has room for the damage: for the step by which its message would have been received, and the record is from 1.
 pub fn damage_fits(topology: &Topology, damage: &Damage) -> bool
     ensures { result ≡ damage_fits topology.now damage.now }
 {

@@ -618,7 +618,8 @@ home-is-edge t lawful s below =
         or_true true = refl
         or_true false = refl
 
-pub has_arrived : (t : Network) (before earlier later : List JournalEntry) (tick number : ℕ) (mark : Damaged) (site : SiteNo) (ps : List (List ℕ)) (to : HeldRoute) → IsLawful t
+pub has_arrived : (t : Network) (before earlier later : List JournalEntry) (tick number : ℕ) (mark : Damaged) (site : SiteNo) (ps : List (List ℕ))
+    (to : HeldRoute) → IsLawful t
     → IsLawfulJournal t before ps
     → IsSteady t before (earlier ++ record { tick = tick; step = Inject site number; damaged = mark } ∷ later)
     → site.0 < length t.sites
@@ -651,7 +652,8 @@ has_arrived t before earlier later tick number mark site ps to lawful journal st
     let now : Packets = timed t entry k in
     let a : Packets = packets_by t w k entry bytes in
     let j : ℕ = length k.verdicts in
-    let one_a : AreInOnePlace a (1 + injections done) = stepped t w now (Inject site number) bytes (injections done) (timed_places t entry k (injections done) one) in
+    let one_a : AreInOnePlace a (1 + injections done) =
+    stepped t w now (Inject site number) bytes (injections done) (timed_places t entry k (injections done) one) in
     let first = sent t w (before_step now) (injections done) site.0 bytes to
     (unmarked now (injections done) (timed_places t entry k (injections done) one)) addressed attached way_there.0 way_there.2 long_way in
     let last = travels-on t w j to.site to.edge to.attachment (ttl_of bytes) (home_of t site.0 ∷ way_there.0) attached long_way later a (1 + injections done)

@@ -178,7 +178,7 @@ module _ (t : Network) (c : Config) (p : Peerings) (new : Config) (k : Peerings)
             ∙ append-nil (k.told a b) ∙ said) m);
       }
 
--- it hears the peer's next message, and answers
+-- it receives the peer's next message, and answers
 module _ (t : Network) (c : Config) (p : Peerings) (a b : ℕ) (i : In (edges t) a) (j : In (edges t) b) (alive : peers_live c a b ≡ true) (message : Telling)
     (turn : IsPeerNth (p.heard a b) message) (statics : HasStatics t c.statics) (h : Tells t c p a b) where
   abbrev k : Peerings

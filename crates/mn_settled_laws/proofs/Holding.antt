@@ -83,7 +83,7 @@ tell_their_exports t es ps lawful journal a b x d i j =
         either true e = (e, contained_in (exports_of t w.config a) x ((h.on e x).0 m))
         either false e = absurd (h.off e x m)
 
--- 2. Where all is heard, both ends of a session are Established
+-- 2. Where all is received, both ends of a session are Established
 
 told-so-far : (k : ℕ) (xs : List Telling) → IsPeerTalk k xs → (1 ≤ length xs) × (1 ≤ k → 2 ≤ length xs)
 told-so-far zero xs h = (omega (arith, ap length h), λ l. absurd (none l))

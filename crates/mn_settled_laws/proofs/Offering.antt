@@ -1,4 +1,4 @@
--- Each step of a lawful journal keeps that each end has said what it offers.
+-- Each step of a lawful journal keeps that each end has sent what it offers.
 use Rattle.std.proofs.Common.{ℕ, ◌≡◌, ◌≢◌, ◌+◌, ◌<◌, ◌≤◌, ◌⊎◌, inl, inr, Bool, true, false, List, [], ◌∷◌, ◌++◌, length, refl, arith, sym, ◌∙◌, ap, subst}
 use Rattle.std.proofs.Common.{Option, None, Some}
 use Rattle.std.specs.Prelude.{◌==◌, ◌&&◌, ◌||◌, not, nat_le, is_some}
@@ -47,7 +47,7 @@ plain_answer x p OpenRec KeepAlive = refl
 plain_answer x p _ (Withdraw fec) = refl
 plain_answer x p _ _ = refl
 
--- what is said on one link by one end is said there, or isn't
+-- what is sent on one link by one end is sent there, or isn't
 plain_on : (x : Bool) (p l m k n : ℕ) (ms : List Message) → is_mapped x p ms ≡ x → is_mapped x p (messages_of l m (said_on k n ms)) ≡ x
 plain_on x p l m k n ms h = elim (eqb_tells k l) [
   | inr e ↦ ap (is_mapped x p) (said-other l m k n ms (inl e.1))
@@ -71,7 +71,7 @@ plain_replies x p l m t c s (LdpAdmin at on) = plain_opening x p l m t c at.0
 plain_replies x p l m t c s (HearLdp at dir) = plain_on x p l m at.0 (receiver (wiring_of t) at.0 dir) (answer _ _) (plain_answer x p _ _)
 plain_replies x p l m t c s _ = refl
 
--- 2. What is said in a step is not heard in it
+-- 2. What is sent in a step is not received in it
 
 over-same : (w : Wiring) (view : View) (one other : Knowledge) (m p : ℕ) (o : Option (ℕ × ℕ)) → IsNext w view m p o
     → ((l : ℕ) → l < length w.ends → is_end w l m ≡ true → hearing one l ≡ hearing other l) → usable_over one p o ≡ usable_over other p o
@@ -80,7 +80,7 @@ over-same w view one other m p (Some hop) n h =
     ap (λ (g : Hearing). elim ((g.alive && nat_le 2 g.count) && is_mapped false p g.messages) as (λ _. Option (ℕ × ℕ)) [ true ↦ Some hop | false ↦ None ])
     (h hop.1 n.1.there n.1.at_node)
 
--- who has the same view, and heard the same on its links, offers the same
+-- who has the same view, and received the same on its links, offers the same
 pub offers-same : (w : Wiring) (one other : Knowledge) (m p : ℕ) → JoinsNodes w → m < length w.loopbacks → one.view ≡ other.view
     → ((l : ℕ) → l < length w.ends → is_end w l m ≡ true → hearing one l ≡ hearing other l) → offers w one m p ≡ offers w other m p
 offers-same w one other m p joins below view h = elim (eqb_tells m p) [
@@ -89,9 +89,9 @@ offers-same w one other m p joins below view h = elim (eqb_tells m p) [
       ∙ over-same w other.view one other m p (next w other.view m p) (next_is w other.view p joins m below e.1) h)
 ]
 
--- 3. One end, as the step counts and before anything is said
+-- 3. One end, as the step counts and before anything is sent
 
--- either a life begins or ends at it, or it has said what it had and heard no less
+-- either a life begins or ends at it, or it has sent what it had and received no less
 pub record IsCounted (t : Network) (c new : Config) (s k : Sessions) (l m : ℕ) : Type 0 where
   pub far : k.heard l m ≤ length (k.said l (across (wiring_of t) l m))
   pub own : ((k.said l m ≡ []) × (k.heard l m ≡ 0)) ⊎ ((k.said l m ≡ s.said l m) × (lives new l ≡ lives c l) × (s.heard l m ≤ k.heard l m))
@@ -130,7 +130,7 @@ ends_below t joins l m h e = elim (end_is (wiring_of t) l m e) [
   | inr p ↦ subst (λ n. n < length t.loopbacks) p (joins l h).1
 ]
 
--- 4. One step in which something may be said
+-- 4. One step in which something may be sent
 
 module _ (t : Network) (c new : Config) (v nv : Views) (s k : Sessions) (step : Step) (joins : JoinsNodes (wiring_of t))
     (differ : EndsDiffer (wiring_of t)) where
@@ -238,7 +238,7 @@ counts-anew t c new s at others g l m h e = elim (eqb_tells l at) [
 counts-same : (t : Network) (c : Config) (s : Sessions) → EndsAreInTurn t c s → AllCounted t c c s s
 counts-same t c s g l m h e = record { far = (g l m h e).heard; own = inr (refl, refl, omega arith) }
 
--- an end hears a message more
+-- an end receives a message more
 pub counts-heard : (t : Network) (c : Config) (s : Sessions) (at n : ℕ) → s.heard at n < length (s.said at (across (wiring_of t) at n)) → EndsAreInTurn t c s
     → AllCounted t c c s (record s { heard = put_pair s.heard at n (s.heard at n + 1) })
 counts-heard t c s at n more g l m h e = elim (eqb_tells l at) [

@@ -46,7 +46,7 @@ view-is t w node settled odd below =
 up-is : (t : Network) (w : World) (l : ℕ) → l < length t.links → is_up (links_up t w) l ≡ w.config.is_up l
 up-is t w l h = get_or-map-range_with_len w.config.is_up 0 (length t.links) l l false h (omega arith)
 
--- 2. Where all is heard, both ends of a living session are OPERATIONAL
+-- 2. Where all is received, both ends of a living session are OPERATIONAL
 
 said-so-far : (active : Bool) (k : ℕ) (xs : List Message) → IsTalk active k xs
     → ((k ≡ 0) × (length xs < 2) × (active ≡ true → length xs ≡ 1) × (active ≡ false → length xs ≡ 0))

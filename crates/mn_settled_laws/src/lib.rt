@@ -1,12 +1,12 @@
-//! Settled worlds: laws of the ledger on what was said, on what each node and edge then knows, and on packets that are sent.
+//! Settled worlds: laws of the ledger on what was sent, on what each node and edge then knows, and on packets that are sent.
 //!
 //! What a node says to a neighbour, and an edge to its peers, is at every moment what it offers at that moment: the past leaves
 //! no trace but messages in flight. A world is settled where every change of a link is learned, LDP is switched on for each link
-//! that is up, each pair of edges has a BGP session, and all that was said is heard. So nodes and edges act there as the present
+//! that is up, each pair of edges has a BGP session, and all that was sent is received. So nodes and edges act there as the present
 //! configuration alone would have them act, and a packet that is sent arrives.
 //!
 //! ```text
-//!   what was said is what is offered   (RFC 5036, 2.6.1; RFC 4271, 9.2)     every lawful journal
+//!   what was sent is what is offered   (RFC 5036, 2.6.1; RFC 4271, 9.2)     every lawful journal
 //!          |                                        |
 //!   each node sends along least walks        each VRF holds its routes      settled worlds
 //!          |________________________________________|
@@ -14,7 +14,7 @@
 //!                    a packet arrives                                       steady stretches
 //! ```
 //!
-//! - `specs/Offers`, `specs/Routes`: what was said and told, and the routes that the configuration alone gives
+//! - `specs/Offers`, `specs/Routes`: what was sent by LDP and by BGP, and the routes that the configuration alone gives
 //! - `specs/Ways`: next hops over the links that are up; `specs/Arrival`: routes by nodes, and arrival
 //! - `specs/TwoLinks`: a network of two links that meets what the laws ask
 //!
@@ -31,7 +31,7 @@ ghost use Rattle.mn_settled_laws.specs.Ways.{AreUpWhereOdd, KnowTheWays, Reaches
 ghost use Rattle.mn_settled_laws.specs.TwoLinks.{TwoLinksCarryAPacket};
 ghost use Rattle.mn_settled_laws.specs.Arrival.{IsLeastWay, left_after, IsAddressed, route_to, HasArrived};
 
-// 1. What was said is what is offered, after every lawful journal
+// 1. What was sent is what is offered, after every lawful journal
 
 /// After a lawful journal, of each FEC that an end of a session has mentioned, the last mention is a Mapping exactly where
 /// the end is OPERATIONAL and offers the FEC now.

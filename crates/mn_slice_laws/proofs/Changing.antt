@@ -142,7 +142,7 @@ module _ (t : Network) (c new : Config) (v nv : Views) (s : Sessions) (l m : ℕ
       (if is_end (wiring_of t) l m then turned l (lives c l) (lives new l) else None)
   life once = life-by (is_end (wiring_of t) l m) (lives c l) (lives new l) refl refl refl once
 
--- 4. A message is heard
+-- 4. A message is received
 
 is_mapped-more : (b : Bool) (fec : ℕ) (xs : List Message) (x : Message) → is_mapped b fec (xs ++ x ∷ []) ≡ mapped_after (is_mapped b fec xs) fec x
 is_mapped-more b fec [] x = refl
@@ -151,7 +151,7 @@ is_mapped-more b fec (y ∷ xs) x = is_mapped-more (mapped_after b fec y) fec xs
 abbrev label_if : ℕ → ℕ → Bool → Option ℕ
 label_if far fec b = if b then Some (label_of far fec) else None
 
--- the labels once one more message is heard
+-- the labels once one more message is received
 labels-more : (far n : ℕ) (xs : List Message) (x : Message)
     → map (label_heard far (xs ++ x ∷ [])) (range_with_len 0 n) ≡ labels_after (map (label_heard far xs) (range_with_len 0 n)) x (label_brought far x)
 labels-more far n xs (Mapping p) =
@@ -172,7 +172,7 @@ labels-more far n xs Address =
 labels-more far n xs (Release p) =
     map_below (label_heard far (xs ++ Release p ∷ [])) (label_heard far xs) n 0 (λ k low below. ap (label_if far k) (is_mapped-more false k xs (Release p)))
 
--- the state once one more message is heard, for which the table has a row
+-- the state once one more message is received, for which the table has a row
 state-more : (active : Bool) (heard : ℕ) (x : Message) → has_ldp_row (state_by active heard) x ≡ true →
     state_by active (suc heard) ≡ state_after (state_by active heard) x
 state-more true zero Initialization h = refl

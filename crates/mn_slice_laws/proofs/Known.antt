@@ -48,7 +48,7 @@ kept_past t c v s m l h =
     ∙ get_or_past (map (λ k. hearing_in (session_of t c s m k)) (links_of (wiring_of t))) l (record { alive = false; count = 0; messages = [] })
     (omega (arith, h, length-map-range_with_len (λ k. hearing_in (session_of t c s m k)) 0 (length t.links)))
 
--- 2. The state tells whether two messages were heard
+-- 2. The state tells whether two messages were received
 
 two_heard : (active : Bool) (n : ℕ) → nat_le 2 (count_by (state_by active n)) ≡ nat_le 2 n
 two_heard true zero = refl

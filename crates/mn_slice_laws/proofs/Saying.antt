@@ -1,4 +1,4 @@
--- A node that has said something keeps how much it said.
+-- A node that has sent something keeps how much it sent.
 use Rattle.std.proofs.Common.{ℕ, zero, suc, ◌≡◌, ◌+◌, ◌<◌, ◌≤◌, Bool, true, false, cond, List, [], ◌∷◌, ◌++◌, length, map, filter, refl, arith, sym, ◌∙◌}
 use Rattle.std.proofs.Common.{ap, Option, Some, None}
 use Rattle.std.specs.Prelude.{◌==◌, ◌&&◌, option_map, if◌then◌else◌}
@@ -20,7 +20,7 @@ counted-map : (me : ℕ) (xs : List Said) (f : ℕ → Option Session) (n q : �
 counted-map me xs f zero q = refl
 counted-map me xs f (suc n) q = ap (λ ss. option_map (with_count (length (messages_of q me xs))) (f q) ∷ ss) (counted-map me xs f n (q + 1))
 
--- no end has heard more than was said
+-- no end has received more than was sent
 abbrev pub HeardWithin : Network → Config → Sessions → Type 0
 HeardWithin t c s = (l node : ℕ) → l < length t.links → is_end (wiring_of t) l node ≡ true → s.heard l node ≤ length (s.said l (across (wiring_of t) l node))
 

@@ -1,4 +1,4 @@
--- Each step of the ledger is, for every node, what happens to that node; and what is said in it is what the acting nodes say.
+-- Each step of the ledger is, for every node, what happens to that node; and what is sent in it is what the acting nodes say.
 use Rattle.std.proofs.Common.{ℕ, ◌≡◌, ◌≢◌, ◌+◌, ◌<◌, ◌≤◌, inl, inr, Bool, true, false, List, [], ◌∷◌, ◌++◌, length, refl, arith, sym, ◌∙◌, ap, subst}
 use Rattle.std.proofs.Common.{Option, Some, None}
 use Rattle.std.specs.Prelude.{◌==◌, not, nat_lt, option_map, if◌then◌else◌}
@@ -28,7 +28,7 @@ answers_any w n (Some e) = answers w n e
 
 -- 1. From the parts to the whole
 
--- one node's part of all that is said: its answers, and its news
+-- one node's part of all that is sent: its answers, and its news
 pub part-is : (t : Network) (c new : Config) (v nv : Views) (s k : Sessions) (m : ℕ) (e : Option Event) (xs ns : List Said)
     → part_of m xs ≡ answers_any (wiring_of t) (node_of t c v s m) e
     → part_of m ns ≡ news (wiring_of t) (knowledge_of (wiring_of t) c v s m) (knowledge_of (wiring_of t) new nv k m) m
@@ -62,7 +62,7 @@ counted_none q me (s ∷ ss) = ap (λ x. x ∷ counted_from (q + 1) me [] ss) (c
 said_nothing : (n : Node) → having_said n [] ≡ n
 said_nothing n = ap (λ ss. let o : Node = record n { sessions = ss } in o) (counted_none 0 n.me n.sessions)
 
--- and then the node, once all is said
+-- and then the node, once all is sent
 pub node-is : (t : Network) (c new : Config) (v nv : Views) (s k : Sessions) (m : ℕ) (e : Option Event) (xs : List Said)
     → HeardWithin t new k
     → part_of m xs ≡ said_any (wiring_of t) (node_of t c v s m) e
@@ -132,7 +132,7 @@ module _ (t : Network) (l : ℕ) (apart : Apart t) (joins : JoinsNodes (wiring_o
   at_b false e = part_all b (first_word l b) (by-said l b (Initialization ∷ []))
   at_b true e = part_none a b (first_word l a) (λ q. differ l below q) (by-said l a (Initialization ∷ []))
 
-  -- the Initialization is said by the active end
+  -- the Initialization is sent by the active end
   opener-says : (m : ℕ) → is_end (wiring_of t) l m ≡ true → part_of m (first_word l (opener t l)) ≡ (if is_active t l m then first_word l m else [])
   opener-says m e = elim (end_is (wiring_of t) l m e) [
     | inl p ↦ subst (λ n. part_of n (first_word l (opener t l)) ≡ (if is_active t l n then first_word l n else [])) p (at_a (is_active t l a) refl)
@@ -151,7 +151,7 @@ module _ (t : Network) (l : ℕ) (apart : Apart t) (joins : JoinsNodes (wiring_o
   opening_if new true h = ap (λ x. elim x as (λ _. List Said) [ true ↦ first_word l (opener t l) | false ↦ [] ]) h
   opening_if new false h = ap (λ x. elim x as (λ _. List Said) [ true ↦ first_word l (opener t l) | false ↦ [] ]) h
 
-  -- what is said as a life begins, by one node
+  -- what is sent as a life begins, by one node
   opening-by : (c new : Config) (v : Views) (s : Sessions) (m : ℕ) (at was is : Bool) → is_end (wiring_of t) l m ≡ at → lives c l ≡ was → lives new l ≡ is →
       (was ≡ true → is ≡ false)
       → part_of m (opening t new l) ≡ answers_any (wiring_of t) (node_of t c v s m) (if at then turned l was is else None)

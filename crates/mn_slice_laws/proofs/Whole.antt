@@ -46,7 +46,7 @@ switched true true false a h = refl
 switched true false on a h = cc
 switched false was on a h = refl
 
--- a message is there to be heard
+-- a message is there to be received
 pub record IsThere (t : Network) (w : World) (l m : ℕ) : Type 0 where
   pub within : l < length t.links
   pub at_end : is_end (wiring_of t) l m ≡ true
@@ -101,7 +101,7 @@ module _ (t : Network) (lawful : IsLawful t) (w : World) (packets : Packets) (tu
   abbrev happens : Step → ℕ → Option Event
   happens s m = event_of t w s m
 
-  -- 2. What each node keeps, before anything is said
+  -- 2. What each node keeps, before anything is sent
 
   learn-changes : (n l m : ℕ) → l < length t.links
       → node_of t w.config (record w.views { learned = put_pair w.views.learned n l (w.views.learned n l + 1) }) w.sessions m ≡ changed_any (wiring_of t)
@@ -263,7 +263,7 @@ module _ (t : Network) (lawful : IsLawful t) (w : World) (packets : Packets) (tu
       (config_after w.config (step.LinkDown l)) false
       (and_off_left (put w.config.is_up l.0 false l.0) (w.config.ldp_on l.0) (put_here w.config.is_up l.0 false)))
 
-  -- each node's part of what is said in a step is what it says as that happens to it
+  -- each node's part of what is sent in a step is what it says as that happens to it
   pub speaks : (s : Step) → fits t s ≡ true → is_unchanged w.config s ≡ false → is_empty t w packets s ≡ false →
       (m : ℕ) → m < length t.loopbacks → said_by t w s m ≡ said_any (wiring_of t) (node_at t w m) (happens s m)
   speaks (step.Learn n l) fit new full m below = plain (step.Learn n l) m [] below (no_answers n.0 m l.0) (changes (step.Learn n l) fit new full m)
@@ -351,7 +351,7 @@ module _ (t : Network) (lawful : IsLawful t) (w : World) (packets : Packets) (tu
       goes_by (step.HearLdp l dir) fit new full m below (within-heard l.0 (receiver (wiring_of t) l.0 dir) (heard-there l dir fit full))
   goes _ fit new full m below = refl
 
-  -- 5. In which order it is said
+  -- 5. In which order it is sent
 
   abbrev words : Step → List Said
   words s = said_in t w.config w.views w.sessions (config_after w.config s) (views_after w.views s) (ldp_counted t w.sessions s) s
@@ -465,7 +465,7 @@ module _ (t : Network) (lawful : IsLawful t) (w : World) (packets : Packets) (tu
           [] (first_word l (end_b l)) tt (by-said l (end_b l) (Initialization ∷ []))
           (alone ∙ ap (λ b. first_word l (if b then end_a l else end_b l)) e)
 
-  -- all that is said is what the acting nodes say, one after another
+  -- all that is sent is what the acting nodes say, one after another
   pub order : (s : Step) → fits t s ≡ true → is_unchanged w.config s ≡ false → is_empty t w packets s ≡ false → is_transport s ≡ true →
       words s ≡ flat_map (said_at s) (acting t s)
   order (step.Learn n l) fit new full moves =

@@ -29,7 +29,7 @@ abbrev pub with_nodes : (ℕ → Node) → List ℕ → List Node → List Node
 with_nodes then_node [] nodes = nodes
 with_nodes then_node (node ∷ others) nodes = with_nodes then_node others (slice_set nodes node (then_node node))
 
--- every node goes by what happens to it; the others than the acting nodes stay as they are; and what is said in the step is what
+-- every node goes by what happens to it; the others than the acting nodes stay as they are; and what is sent in the step is what
 -- the acting nodes say, one after another
 pub record IsByNodes (topology : Network) (world : World) (step : Step) : Type 0 where
   pub each : (node : ℕ) → node < length topology.loopbacks → node_at topology (after topology world step) node ≡ node_then topology world step node

@@ -4,7 +4,7 @@ ghost use Rattle.mn_ledger.specs.Prelude.{Network, wiring_of, IsLawful, fits, St
 ghost use Rattle.mn_slice_laws.specs.Slice.{node_at};
 ghost use Rattle.mn_slice_laws.specs.Steps.{IsByNodes};
 
-/// A step that isn't refused is, for each node, what happens to it, and what is said in it is what the acting nodes say.
+/// A step that isn't refused is, for each node, what happens to it, and what is sent in it is what the acting nodes say.
 pub fn a_step_is_its_nodes()
     ensures { (topology : Network) (world : World) (packets : Packets) (step : Step) → IsLawful topology → IsInTurn topology world →
         fits topology step ≡ true → is_unchanged world.config step ≡ false → is_empty topology world packets step ≡ false → IsByNodes topology world step }

@@ -192,7 +192,8 @@ module _ (v : Learned) (root : ℕ) (net : IsNetwork v.nodes v.ends) (here : roo
         reopened (OpenFrom way.to links i) (OpenFrom way.to links (i + 1)) (rank_of way) s h (λ node m known x r o. elim (still way.to links i node m o) [
           | inl o ↦ inl o
           | inr o ↦ inr
-              (relaxed_here s.table way.to l (rank_of way) (subst (AtMost (rank_at s.table new.to)) (over_rank s way l f) (no_better _ _ worse)) node m known o.0
+              (relaxed_here s.table way.to l (rank_of way) (subst (AtMost (rank_at s.table new.to)) (over_rank s way l f) (no_better _ _ worse)) node m known
+              o.0
               (it_is m o.1 o.2) r f.known)
         ])
 

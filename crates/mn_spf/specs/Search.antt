@@ -1,5 +1,6 @@
 -- What holds while the search goes on (RFC 2328, section 16.1).
-use Rattle.std.specs.Prelude.{ℕ, ◌≡◌, ◌≢◌, ◌+◌, ◌*◌, ◌≤◌, ◌<◌, Bool, true, false, not, List, ◌∷◌, length, slice_index_or, count_by, All, Contains, Option, Some, None, MatchBool, ◌⊎◌, IsPermutation}
+use Rattle.std.specs.Prelude.{ℕ, ◌≡◌, ◌≢◌, ◌+◌, ◌*◌, ◌≤◌, ◌<◌, Bool, true, false, not, List, ◌∷◌, length, slice_index_or, count_by, All, Contains, Option, Some}
+use Rattle.std.specs.Prelude.{None, MatchBool, ◌⊎◌, IsPermutation}
 use Rattle.std.specs.declared.cmp.Reverse.{Reverse}
 use Rattle.std.specs.BinaryHeap.{IsHeap, KeepsHeap, heap_items}
 use Rattle.mn_base.specs.declared.numbers.LinkNo.{LinkNo}
@@ -55,8 +56,10 @@ pub record IsSearch (learned : Learned) (root : ℕ) (Open : ℕ → ℕ → Typ
   pub root_settled : is_settled s root ≡ true
   pub found : (node : ℕ) → node < learned.nodes → IsFound learned root node (dist_at s.table node) (next_at s.table node)
   pub done : (node : ℕ) → node < learned.nodes → is_settled s node ≡ true → AtMost (rank_at s.table node) limit
-  pub relaxed : (node l known : ℕ) → node < learned.nodes → is_settled s node ≡ true → goes learned node l ≡ true → rank_at s.table node ≡ Some known → Open node l ⊎ AtMost (rank_at s.table (beyond learned node l)) (rank_over learned root node known l)
-  pub waiting : (node known : ℕ) → node < learned.nodes → is_settled s node ≡ false → rank_at s.table node ≡ Some known → (way : Way) × Contains s.queue (queued way) × (way.to ≡ node) × (rank_of way ≡ known)
+  pub relaxed : (node l known : ℕ) → node < learned.nodes → is_settled s node ≡ true → goes learned node l ≡ true → rank_at s.table node ≡ Some known →
+      Open node l ⊎ AtMost (rank_at s.table (beyond learned node l)) (rank_over learned root node known l)
+  pub waiting : (node known : ℕ) → node < learned.nodes → is_settled s node ≡ false → rank_at s.table node ≡ Some known →
+      (way : Way) × Contains s.queue (queued way) × (way.to ≡ node) × (rank_of way ≡ known)
   pub ways : All (λ way. IsQueued learned root limit s way.0) s.queue
   pub ordered : IsHeap worse_cmp s.queue
 
@@ -97,9 +100,11 @@ pub record IsDone (learned : Learned) (root : ℕ) (table : PathTable) : Type 0 
   pub root_cost : dist_at table root ≡ Some 0
   pub root_hop : next_at table root ≡ None
   pub found : (node : ℕ) → node < learned.nodes → IsFound learned root node (dist_at table node) (next_at table node)
-  pub relaxed : (node l known : ℕ) → node < learned.nodes → goes learned node l ≡ true → rank_at table node ≡ Some known → AtMost (rank_at table (beyond learned node l)) (rank_over learned root node known l)
+  pub relaxed : (node l known : ℕ) → node < learned.nodes → goes learned node l ≡ true → rank_at table node ≡ Some known →
+      AtMost (rank_at table (beyond learned node l)) (rank_over learned root node known l)
 
 -- the way that is to be followed next, or what is known in the end
 abbrev pub Nearest : Learned → ℕ → State → State → Option Way → Type 0
 Nearest learned root old new None = IsDone learned root new.table
-Nearest learned root old new (Some way) = IsSearch learned root (AllOpen way.to) (rank_of way) new × IsFollowed learned root new way × (unsettled new + 1 ≡ unsettled old)
+Nearest learned root old new (Some way) =
+    IsSearch learned root (AllOpen way.to) (rank_of way) new × IsFollowed learned root new way × (unsettled new + 1 ≡ unsettled old)

@@ -1,5 +1,6 @@
 -- Ways from a root: walks over links that are up, known by their cost and by the neighbour to which they go first.
-use Rattle.std.specs.Prelude.{ℕ, ◌≡◌, ◌+◌, ◌*◌, ◌≤◌, ◌<◌, ◌==◌, Bool, true, if◌then◌else◌, List, [], ◌∷◌, length, slice_index_or, All, Contains, Option, Some, None, nat_lt}
+use Rattle.std.specs.Prelude.{ℕ, ◌≡◌, ◌+◌, ◌*◌, ◌≤◌, ◌<◌, ◌==◌, Bool, true, if◌then◌else◌, List, [], ◌∷◌, length, slice_index_or, All, Contains, Option, Some}
+use Rattle.std.specs.Prelude.{None, nat_lt}
 use Rattle.std.specs.declared.cmp.Ordering.{Ordering}
 use Rattle.std.specs.declared.cmp.Reverse.{Reverse}
 use Rattle.std.specs.Ordering.{nat_cmp, ordering_then}
@@ -76,7 +77,8 @@ way_over root way ends = record { cost = way.cost + ends.cost; hop = (if way.to 
 
 -- the rank of a way that goes on over a link
 abbrev pub rank_over : Learned → ℕ → ℕ → ℕ → ℕ → ℕ
-rank_over learned root node known l = if node == root then rank (link (wiring_of learned) l).cost (beyond learned node l) else known + 65536 * (link (wiring_of learned) l).cost
+rank_over learned root node known l =
+    if node == root then rank (link (wiring_of learned) l).cost (beyond learned node l) else known + 65536 * (link (wiring_of learned) l).cost
 
 -- these are the links over which a walk may go on from a node
 pub record AreLinksAt (learned : Learned) (node : ℕ) (links : List LinkNo) : Type 0 where

@@ -21,7 +21,8 @@ use Rattle.mn_spf_inc.specs.declared.way.Way.{Way}
 use Rattle.mn_spf_inc.specs.Ways.{rank_of, way_over, way_at}
 use Rattle.mn_spf_inc.specs.Nets.{all_up, with_link}
 use Rattle.mn_spf_inc.specs.Mended.{Makes}
-use Rattle.mn_spf_inc.specs.Mending.{State, IsHeld, IsKnown, IsGrowing, IsMended, IsCutting, OneLink, NoneLate, HeldBy, HeldOver, HeldOverEither, IsPending, IsRelaxed}
+use Rattle.mn_spf_inc.specs.Mending.{State, IsHeld, IsKnown, IsGrowing, IsMended, IsCutting, OneLink, NoneLate, HeldBy, HeldOver, HeldOverEither, IsPending}
+use Rattle.mn_spf_inc.specs.Mending.{IsRelaxed}
 use Rattle.mn_spf_inc.specs.Mending.{IsPassedOver, Queues, Doubts, DoubtsBeyond}
 use Rattle.mn_spf_inc.proofs.Entries.{some_is, none_some, same_parts, known_way, no_way, over_rank, over_dearer, over_more, over_fits}
 use Rattle.mn_spf_inc.proofs.Nets.{goes_other, goes_without, goes_with, up_there}

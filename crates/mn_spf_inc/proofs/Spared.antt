@@ -23,7 +23,8 @@ abbrev pub AreNotOver : Learned → ℕ → PathTable → Way → List LinkNo �
 AreNotOver v root t way links i = (k : ℕ) → k < i → IsNotOver v root t way (get_or links k (record { 0 = 0 })).0
 
 module _ (v : Learned) (root : ℕ) (t : PathTable) (way : Way) (links : List LinkNo) where
-  pub one_more : (i : ℕ) → AreNotOver v root t way links i → IsNotOver v root t way (get_or links i (record { 0 = 0 })).0 → AreNotOver v root t way links (i + 1)
+  pub one_more : (i : ℕ) → AreNotOver v root t way links i → IsNotOver v root t way (get_or links i (record { 0 = 0 })).0 →
+      AreNotOver v root t way links (i + 1)
   one_more i before this k p =
       elim (cases_lt k i) [
         | inl q ↦ before k q

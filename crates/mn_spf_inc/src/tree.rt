@@ -73,7 +73,7 @@ impl MendTree {
     /// Makes a link up or down, which it isn't yet, and mends the tree. A step is one link or node
     /// looked at; a link over which no least walk goes is lost in three.
     ///
-    /// An `Err` is want of memory. The tree has then failed, and each later change is an `Err`.
+    /// An `Err` means out of memory. The tree has then failed, and each later change is an `Err`.
     pub fn change<L: Ledger>(
         &mut self,
         number: LinkNo,

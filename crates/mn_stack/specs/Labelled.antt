@@ -32,7 +32,7 @@ popped entries = drop 1 entries
 abbrev pub pushed : List Entry → ℕ → ℕ → List Entry
 pushed entries label ttl = record { label = label; exp = 0; bottom = length entries == 0; ttl = ttl } ∷ entries
 
--- what reading answers is what the bytes say, want of memory apart
+-- what reading answers is what the bytes say, out of memory apart
 abbrev pub Answers : Result Labelled FrameBad → Result (List Entry × List ℕ) FrameBad → Type 0
 Answers (Ok frame) reading = reading ≡ Ok (frame.entries, frame.packet)
 Answers (Err NoMemory) reading = ⊤

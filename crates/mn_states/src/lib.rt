@@ -10,6 +10,6 @@
 //! tables by which states go on are in mn_ldp_session and mn_bgp_session.
 #![tactic(auto)]
 
-mod states;
+mod states; // the states of both protocols
 
 pub use states::{BgpState, LdpState};

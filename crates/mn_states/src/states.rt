@@ -1,13 +1,13 @@
 /// The state of one end of an LDP session (RFC 5036, section 2.5.4).
 #[derive(Clone, Copy, Debug, PartialEq, Eq)]
 pub enum LdpState {
-    /// The passive end, which has heard nothing yet.
+    /// The passive end, which has received nothing yet.
     Initialized,
-    /// The active end, which has said its Initialization and heard nothing yet.
+    /// The active end, which has sent its Initialization and received nothing yet.
     OpenSent,
-    /// The other end's Initialization was heard.
+    /// The other end's Initialization was received.
     OpenRec,
-    /// A KeepAlive was heard too: labels are exchanged.
+    /// A KeepAlive was received too: labels are exchanged.
     Operational,
 }
 
@@ -16,10 +16,10 @@ pub enum LdpState {
 pub enum BgpState {
     /// There is no session.
     Idle,
-    /// OPEN was said.
+    /// OPEN was sent.
     OpenSent,
-    /// The peer's OPEN was heard.
+    /// The peer's OPEN was received.
     OpenConfirm,
-    /// A KEEPALIVE was heard too: routes are exchanged.
+    /// A KEEPALIVE was received too: routes are exchanged.
     Established,
 }

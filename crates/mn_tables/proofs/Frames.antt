@@ -32,7 +32,8 @@ unread_row topology node number rule word is =
 way : (head to hex : List ℕ) → text (head ∷ to ∷ codes " bytes " ∷ []) ++ hex ≡ text (head ∷ to ∷ codes " bytes " ∷ hex ∷ [])
 way head to hex = append_assoc head (to ++ codes " bytes ") hex ∙ ap (λ xs. head ++ xs) (append_assoc to (codes " bytes ") hex)
 
-pub next_row : (topology : Network) (node number : ℕ) (outcome : Forwarded) (hop : NodeNo) (to bytes : List ℕ) → outcome ≡ Next hop → to ≡ node_name topology hop.0
+pub next_row : (topology : Network) (node number : ℕ) (outcome : Forwarded) (hop : NodeNo) (to bytes : List ℕ) → outcome ≡ Next hop →
+    to ≡ node_name topology hop.0
     → said_line topology node number (text (codes "next " ∷ to ∷ codes " bytes " ∷ []) ++ hex_text bytes)
     ≡ said_line topology node number (outcome_text topology outcome bytes)
 next_row topology node number outcome hop to bytes is is_to =
@@ -40,7 +41,8 @@ next_row topology node number outcome hop to bytes is is_to =
     (way (codes "next ") to (hex_text bytes) ∙ ap (λ w. text (codes "next " ∷ w ∷ codes " bytes " ∷ hex_text bytes ∷ [])) is_to
     ∙ sym (ap (λ o. outcome_text topology o bytes) is))
 
-pub site_row : (topology : Network) (node number : ℕ) (outcome : Forwarded) (site : SiteNo) (to bytes : List ℕ) → outcome ≡ Site site → to ≡ site_name topology site.0
+pub site_row : (topology : Network) (node number : ℕ) (outcome : Forwarded) (site : SiteNo) (to bytes : List ℕ) → outcome ≡ Site site →
+    to ≡ site_name topology site.0
     → said_line topology node number (text (codes "site " ∷ to ∷ codes " bytes " ∷ []) ++ hex_text bytes)
     ≡ said_line topology node number (outcome_text topology outcome bytes)
 site_row topology node number outcome site to bytes is is_to =

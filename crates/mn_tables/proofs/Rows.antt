@@ -19,7 +19,8 @@ use Rattle.mn_frame_laws.specs.Given.{Labelling, label_at}
 use Rattle.mn_ledger.specs.Items.{Item}
 use Rattle.mn_lines.specs.Lines.{text}
 use Rattle.mn_output_laws.specs.Files.{node_name}
-use Rattle.mn_output_laws.specs.Tables.{up_or_down, link_line, walk_text, tree_line, ldp_name, ldp_text, ldp_line, bgp_name, bgp_line, frames_line, route_line, mark_text, marked_line}
+use Rattle.mn_output_laws.specs.Tables.{up_or_down, link_line, walk_text, tree_line, ldp_name, ldp_text, ldp_line, bgp_name, bgp_line, frames_line, route_line}
+use Rattle.mn_output_laws.specs.Tables.{mark_text, marked_line}
 use Rattle.mn_output_laws.specs.Tables.{vrf_name, site_name}
 use Rattle.mn_tables.specs.States.{state_at, state_name}
 

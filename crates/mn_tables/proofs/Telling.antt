@@ -43,7 +43,8 @@ part_more : (a b more : List ℕ) (s t u : Stand) → Told a s t → PutsPart b 
 part_more a b more s t u x y =
     cut_in_second a (b ++ more) s.waits t.waits s.written t.written u.written x.puts (cut_in_first b more t.waits t.written u.written y)
 
-counted_as : (before other now : Option ℕ) (e : DeviceBad) → before ≡ other → Counted {T = Unit {0}} before now (Err e) → Counted {T = Unit {0}} other now (Err e)
+counted_as : (before other now : Option ℕ) (e : DeviceBad) → before ≡ other → Counted {T = Unit {0}} before now (Err e) →
+    Counted {T = Unit {0}} other now (Err e)
 counted_as before other now Failed is h = subst (λ n. Counted {T = Unit {0}} n now (Err Failed)) is h
 counted_as before other now NoMemory is h = h ∙ is
 

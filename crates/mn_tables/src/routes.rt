@@ -66,7 +66,7 @@ fn mark(unresolved: bool) -> &'static str
     if unresolved { " unresolved" } else { "" }
 }
 
-/// Puts the line of a route that another edge told, by the label that it gave, with the text of its mark.
+/// Puts the line of a route that another edge advertised, by the label that it gave, with the text of its mark.
 fn put_with_mark<'a, O: Sink>(
     out: &mut O,
     page: &mut Page,
@@ -95,7 +95,7 @@ fn put_with_mark<'a, O: Sink>(
     )
 }
 
-/// Puts the line of a route that another edge told, by the label that it gave, with the mark of one that isn't resolved.
+/// Puts the line of a route that another edge advertised, by the label that it gave, with the mark of one that isn't resolved.
 pub fn put_far_route<O: Sink>(
     out: &mut O,
     page: &mut Page,

@@ -40,7 +40,8 @@ use Rattle.mn_reflect_world_laws.proofs.Config.{IsInOrder}
 use Rattle.mn_reflect_world_laws.proofs.EdgeNews.{AreExports, anew, gone, comes_told, goes_told}
 use Rattle.mn_reflect_world_laws.proofs.EdgeLetters.{exports_up}
 use Rattle.mn_reflect_world_laws.proofs.Run.{IsRest, rests, rest_goes, names_nodes}
-use Rattle.mn_talk_laws.specs.Talk.{Talks, word_of, peerings_of, heard_words, seen, answer, full_offer, answers, spoken_of, edge_news, spoken_in, counted, with_spoken}
+use Rattle.mn_talk_laws.specs.Talk.{Talks, word_of, peerings_of, heard_words, seen, answer, full_offer, answers, spoken_of, edge_news, spoken_in, counted}
+use Rattle.mn_talk_laws.specs.Talk.{with_spoken}
 use Rattle.mn_talk_laws.specs.Talk.{talks_after, talks_from, no_talks}
 use Rattle.mn_talk_laws.specs.Laws.{TalksInTurn, AreOnce}
 use Rattle.mn_talk_laws.specs.Keys.{answers_by_keys, spoken_by_keys, after_by_keys, from_by_keys, IsThere, AreThere}
@@ -71,7 +72,7 @@ module _ (t : Network) (reflectors : List ℕ) (c d : Config) (q new : Talks) (m
       ap (λ k. (peers_live c m p && nat_le 2 k) && (peers_live d m p && nat_le 2 (new.heard m p))) (sym (counts p))
       ∙ ap (λ k. (peers_live c m p && nat_le 2 (length (heard_words q m p))) && (peers_live d m p && nat_le 2 k)) (sym (new_counts p))
 
-  -- words that are said to each such peer
+  -- words that are sent to each such peer
   abbrev said : List Word → List Spoken
   said words = flat_map (λ p. cond (steady p) (says m p words) []) (nodes_of (wiring_of t))
 
@@ -117,7 +118,8 @@ module _ (t : Network) (reflectors : List ℕ) (c d : Config) (q new : Talks) (m
 
   -- route by route
   by_names : news t reflectors (seen c q) (seen d new) m
-      ≡ flat_map (λ k. said (change k (old_of k) (new_of k))) (in_order (map key_of (map plain (exports_of t c m)) ++ map key_of (map plain (exports_of t d m))))
+      ≡ flat_map (λ k. said (change k (old_of k) (new_of k)))
+      (in_order (map key_of (map plain (exports_of t c m)) ++ map key_of (map plain (exports_of t d m))))
   by_names = ap told off
     where
       told : Bool → List Spoken
@@ -130,10 +132,12 @@ module _ (t : Network) (reflectors : List ℕ) (c d : Config) (q new : Talks) (m
 
   pub tells_alike : (withdrawn (exports_of t c m) (exports_of t d m) ≡ []) ⊎ (announced (exports_of t c m) (exports_of t d m) ≡ []) →
       news t reflectors (seen c q) (seen d new) m ≡ edge_news t c q d new m
-  tells_alike kind = by_names ∙ by kind ∙ sym (all_tellings (withdrawn (exports_of t c m) (exports_of t d m) ++ announced (exports_of t c m) (exports_of t d m)))
+  tells_alike kind = by_names ∙ by kind
+      ∙ sym (all_tellings (withdrawn (exports_of t c m) (exports_of t d m) ++ announced (exports_of t c m) (exports_of t d m)))
     where
       by : (withdrawn (exports_of t c m) (exports_of t d m) ≡ []) ⊎ (announced (exports_of t c m) (exports_of t d m) ≡ []) →
-          flat_map (λ k. said (change k (old_of k) (new_of k))) (in_order (map key_of (map plain (exports_of t c m)) ++ map key_of (map plain (exports_of t d m))))
+          flat_map (λ k. said (change k (old_of k) (new_of k)))
+          (in_order (map key_of (map plain (exports_of t c m)) ++ map key_of (map plain (exports_of t d m))))
           ≡ flat_map (λ telling. said (word_of telling ∷ []))
           (withdrawn (exports_of t c m) (exports_of t d m) ++ announced (exports_of t c m) (exports_of t d m))
       by (inl none) =
@@ -307,7 +311,8 @@ module _ (t : Network) (reflectors : List ℕ) (are : AreReflectors t reflectors
     of_edges =
         words_flat n p (edge_news t c q d new) (edges t)
         ∙ flat_passed (λ m. is_edge t.vrfs m) (λ m. words_to n p (edge_news t c q d new m)) (nodes_of (wiring_of t))
-        ∙ flat_same (λ m. cond (is_edge t.vrfs m) (words_to n p (edge_news t c q d new m)) []) edge_words (nodes_of (wiring_of t)) (λ m. by m (is_edge t.vrfs m) refl)
+        ∙ flat_same (λ m. cond (is_edge t.vrfs m) (words_to n p (edge_news t c q d new m)) []) edge_words (nodes_of (wiring_of t))
+        (λ m. by m (is_edge t.vrfs m) refl)
       where
         by : (m : ℕ) (b : Bool) → is_edge t.vrfs m ≡ b → cond b (words_to n p (edge_news t c q d new m)) [] ≡ cond b (words m) []
         by m true e = ap (words_to n p) (sym (edge_alike m (edge_is_none m e)))
@@ -398,7 +403,8 @@ module _ (t : Network) (reflectors : List ℕ) (lawful : IsLawful t) (are : AreR
           old_up = exports_up t world.config l node lawful rest.order;
           new_up = exports_up t (config_after world.config done) k node lawful order;
           old_one = λ x y i j h. exports-different t world.config node rest.order.statics x y i j (ap (λ (z : Key). z.vrf) h, ap (λ (z : Key). z.prefix) h);
-          new_one = λ x y i j h. exports-different t (config_after world.config done) node order.statics x y i j (ap (λ (z : Key). z.vrf) h, ap (λ (z : Key). z.prefix) h);
+          new_one = λ x y i j h. exports-different t (config_after world.config done) node order.statics x y i j
+              (ap (λ (z : Key). z.vrf) h, ap (λ (z : Key). z.prefix) h);
           kept = λ y x i j h. exports-kept t over.all world.config (config_after world.config done) node over.has over.new_in over.old_in y x i j h;
         }
 
@@ -473,4 +479,5 @@ pub every_run_alike : (t : Network) (reflectors : List ℕ) (steps : List Step) 
     talks_from t reflectors (first_config t) no_talks steps ≡ from_by_keys t reflectors (first_config t) no_talks steps
 every_run_alike t reflectors steps run once there =
     alike_from t reflectors run.topology_is run.are once steps (start t) (first_labels t) no_talks
-    (rests t reflectors [] (record { topology_is = run.topology_is; are = run.are; taken = tt; done = tt })) (start_matches t reflectors) run.taken run.done there
+    (rests t reflectors [] (record { topology_is = run.topology_is; are = run.are; taken = tt; done = tt })) (start_matches t reflectors) run.taken run.done
+    there

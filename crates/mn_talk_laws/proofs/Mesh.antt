@@ -16,7 +16,8 @@ use Rattle.mn_ledger.specs.Places.{edges}
 use Rattle.mn_ledger.specs.World.{Config, Export, Telling, BgpKeepAlive, Announcement, Withdrawal, Peerings, World}
 use Rattle.mn_ledger.specs.World as world
 use Rattle.mn_ledger.specs.Exports.{exports_of}
-use Rattle.mn_ledger.specs.Bgp.{Told, is_from_to, tellings_of, told_to, reply, bgp_replies, route_news, told_in, bgp_counted, with_told, told_all, peerings_after}
+use Rattle.mn_ledger.specs.Bgp.{Told, is_from_to, tellings_of, told_to, reply, bgp_replies, route_news, told_in, bgp_counted, with_told, told_all}
+use Rattle.mn_ledger.specs.Bgp.{peerings_after}
 use Rattle.mn_ledger.specs.Bgp.{bgp_state_of}
 use Rattle.mn_ledger.specs.Held as mesh
 use Rattle.mn_ledger.specs.Held.{own_routes, near_routes, far_routes}
@@ -218,7 +219,8 @@ from_same t w (entry ∷ entries) =
 held_same : (t : Network) (c : Config) (p : Peerings) (edge v : ℕ) → held t [] c (talks_of p) edge v ≡ mesh.held t c p edge v
 unfolding held mesh.held
 held_same t c p edge v =
-    ap (λ (q : Peerings). own_routes t c edge v ++ (near_routes t c edge v ++ flat_map (far_routes t c q edge v) (filter (λ peer. not (peer == edge)) (edges t))))
+    ap (λ (q : Peerings). own_routes t c edge v ++ (near_routes t c edge v ++ flat_map (far_routes t c q edge v)
+    (filter (λ peer. not (peer == edge)) (edges t))))
     (peerings_back p)
 
 pub is_the_full_mesh : (t : Network) (entries : List JournalEntry) → IsTheFullMesh t entries

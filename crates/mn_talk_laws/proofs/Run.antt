@@ -1,4 +1,4 @@
--- What is told and how much of it is heard goes with what is heard and what flies, step by step.
+-- What is told and how much of it is received goes with what is received and what flies, step by step.
 use Rattle.std.proofs.Common.{ℕ, zero, suc, ◌≡◌, ◌≢◌, ◌+◌, ◌<◌, ◌≤◌, ◌⊎◌, inl, inr, Bool, true, false, cond, List, [], ◌∷◌, ◌++◌, filter, length, take}
 use Rattle.std.proofs.Common.{Option, Some, None, refl, arith, sym, ◌∙◌, ap, subst, append_assoc, append-nil, length-append}
 use Rattle.std.proofs.Math.Path.{fun_ext}
@@ -176,7 +176,7 @@ restarts world c d talks a b apart m = record { configured = refl; heard = heard
           (subst (λ ws. talks.heard n p ≤ length ws) (sym (others talks.told a b [] p n (turned_other a b n p o))) (m.most n p))
     ]
 
--- 3.2 A word is heard
+-- 3.2 A word is received
 
 module _ (world : ReflectWorld) (c d : Config) (talks : Talks) (a b : ℕ) (m : Matches world c talks) (word : Word)
     (first : first_word a b world.flying ≡ Some word) where
@@ -262,7 +262,7 @@ there_flies world c talks a b m h = by (words_to a b world.flying) refl
 -- 4. A step
 
 module _ (t : Network) (reflectors : List ℕ) (world : ReflectWorld) (c : Config) (talks : Talks) (m : Matches world c talks) where
-  -- the same is said
+  -- the same is sent
   news_same : (new : ReflectWorld) (d : Config) (then_talks : Talks) → Matches new d then_talks →
       flat_map (news t reflectors world new) (nodes_of (wiring_of t))
       ≡ flat_map (news t reflectors (seen c talks) (seen d then_talks)) (nodes_of (wiring_of t))
@@ -282,7 +282,8 @@ module _ (t : Network) (reflectors : List ℕ) (world : ReflectWorld) (c : Confi
       (tells (unsaid world done) (config_after c done) (counted talks done) (said_in t reflectors world (unsaid world done) done) g)
 
   -- a step of no session
-  plain : (done : Step) → landed.counted world done ≡ world → counted talks done ≡ talks → Matches (unsaid world done) (config_after c done) (counted talks done)
+  plain : (done : Step) → landed.counted world done ≡ world → counted talks done ≡ talks →
+      Matches (unsaid world done) (config_after c done) (counted talks done)
   plain done e f = subst (Matches (unsaid world done) (config_after c done)) (sym f) (record {
     configured = ap (λ (x : Config). config_after x done) m.configured;
     heard = λ n p. ap (λ (w : ReflectWorld). w.heard n p) e ∙ m.heard n p;
@@ -428,7 +429,7 @@ module _ (t : Network) (reflectors : List ℕ) where
       (landed.world_of t reflectors steps).config ≡ config_from (first_config t) steps
   run_configured steps h = (run_matches (landed.start t) (first_config t) no_talks steps start_matches h).configured
 
-  -- where no word flies all is heard
+  -- where no word flies all is received
   pub run_rests : (steps : List Step) → AreThere t reflectors (first_config t) no_talks steps → (landed.world_of t reflectors steps).flying ≡ [] →
       IsHeard t (config_from (first_config t) steps) (from_by_keys t reflectors (first_config t) no_talks steps)
   run_rests steps h none node peer =

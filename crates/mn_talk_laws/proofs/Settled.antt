@@ -1,4 +1,4 @@
--- With reflectors, where all is heard: what was told is what is seen, and the laws of reflection speak of it.
+-- With reflectors, where all is received: what was sent is what is seen, and the laws of reflection speak of it.
 use Rattle.std.proofs.Common.{ℕ, ◌≡◌, ◌≢◌, ◌<◌, List, ◌∷◌, length, take, take_all}
 use Rattle.std.proofs.Common.{refl, arith, sym, ◌∙◌, ap, subst, append-nil}
 use Rattle.std.specs.List.{Contains}

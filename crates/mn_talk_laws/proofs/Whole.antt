@@ -1,4 +1,4 @@
--- Over every lawful run: where all is heard in a joined network, each VRF holds what a full mesh gives it.
+-- Over every lawful run: where all is received in a joined network, each VRF holds what a full mesh gives it.
 use Rattle.std.proofs.Common.{ℕ, ◌≡◌, List, [], ◌∷◌, sym, subst}
 use Rattle.std.specs.List.{Contains}
 use Rattle.mn_topo.specs.Network.{Network}

@@ -1,4 +1,4 @@
--- What an edge tells of a change of its exports: export by export, as in a full mesh, and route by route, as with reflectors.
+-- What an edge advertises of a change of its exports: export by export, as in a full mesh, and route by route, as with reflectors.
 use Rattle.std.specs.Prelude.{◌≡◌, ℕ, true, List, ◌++◌, map}
 use Rattle.std.specs.List.{flat_map}
 use Rattle.mn_topo.specs.Network.{Network}

@@ -1,4 +1,4 @@
--- Two edges and two reflectors: their sessions begin, and 25 words are heard.
+-- Two edges and two reflectors: their sessions begin, and 25 words are received.
 --
 --   site a --- pe1 0 --- r1 1 ------ pe2 3 --- site b
 --                         '--- r2 2 ---'

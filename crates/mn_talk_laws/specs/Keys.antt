@@ -34,7 +34,7 @@ from_by_keys topology reflectors config talks [] = talks
 from_by_keys topology reflectors config talks (done ∷ steps) =
     from_by_keys topology reflectors (config_after config done) (after_by_keys topology reflectors config talks done) steps
 
--- what is heard is there
+-- what is received is there
 abbrev pub IsThere : Talks → Step → Type 0
 IsThere talks (step.HearBgp a b) = talks.heard b.0 a.0 < length (talks.told a.0 b.0)
 IsThere talks _ = Unit {0}

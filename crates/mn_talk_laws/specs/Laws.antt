@@ -19,7 +19,7 @@ use Rattle.mn_talk_laws.specs.Talk.{Talks, talks_of, talks_from, no_talks, heard
 abbrev pub steps_of : List JournalEntry → List Step
 steps_of entries = map (λ entry. entry.step) entries
 
--- 1. With no reflector: word for word what edges tell each other, as many heard, and the same routes held
+-- 1. With no reflector: word for word what edges tell each other, as many received, and the same routes held
 
 pub record IsTheFullMesh (topology : Network) (entries : List JournalEntry) : Type 0 where
   pub talks : talks_from topology [] (first_config topology) no_talks (steps_of entries) ≡ talks_of (world_of topology entries).peerings
@@ -29,17 +29,17 @@ pub record IsTheFullMesh (topology : Network) (entries : List JournalEntry) : Ty
 
 -- 2. With reflectors
 
--- all that was told in a session that lives is heard
+-- all that was sent in a session that lives is received
 abbrev pub IsHeard : Network → Config → Talks → Type 0
 IsHeard topology config talks = (node peer : ℕ) → talks.heard node peer ≡ length (talks.told peer node)
 
--- an end that is Established has told what it offers, and another nothing
+-- an end that is Established has sent what it offers, and another nothing
 pub record TellsItsOffers (topology : Network) (reflectors : List ℕ) (config : Config) (talks : Talks) (node peer : ℕ) : Type 0 where
   pub all : is_established (seen config talks) node peer ≡ true → (key : Key) →
       last_mention key None (talks.told node peer) ≡ offered topology reflectors (seen config talks) node peer key
   pub nothing : is_established (seen config talks) node peer ≡ false → (key : Key) → last_mention key None (talks.told node peer) ≡ None
 
--- OPEN comes first, and KEEPALIVE where that was heard
+-- OPEN comes first, and KEEPALIVE where that was received
 pub record TalksInTurn (config : Config) (talks : Talks) (node peer : ℕ) : Type 0 where
   pub alive : peers_live config node peer ≡ true → BeginsBy (talks.heard node peer) (talks.told node peer)
   pub dead : peers_live config node peer ≡ false → talks.told node peer ≡ []

@@ -1,5 +1,5 @@
 -- What nodes tell each other of routes, with reflectors among them or none: one ledger of BGP for both. Edges tell their exports as
--- in a full mesh, word for word; reflectors tell what they pick of what they heard. RFC 4271, sections 3 and 8.2.2; RFC 4456, section 6.
+-- in a full mesh, word for word; reflectors tell what they pick of what they received. RFC 4271, sections 3 and 8.2.2; RFC 4456, section 6.
 use Rattle.std.specs.Prelude.{ℕ, ◌+◌, cond, List, [], ◌∷◌, ◌++◌, map, filter, not, ◌==◌, take, slice_index_or}
 use Rattle.std.specs.List.{flat_map}
 use Rattle.mn_states.specs.declared.states.BgpState.{BgpState}
@@ -20,11 +20,11 @@ use Rattle.mn_reflect_ledger_laws.specs.Picks.{Spoken, ReflectWorld, is_reflecto
 use Rattle.mn_reflect_ledger_laws.specs.World.{words_to, says, all_offers, news}
 use Rattle.mn_reflect_ledger_laws.specs.Quiet.{reflected, held_far}
 
--- 1. What was told and heard in the present life of each session: `Peerings`, whose announcements also name clusters
+-- 1. What was sent and received in the present life of each session: `Peerings`, whose announcements also name clusters
 
 pub record Talks : Type 0 where
-  pub told : ℕ → ℕ → List Word  -- by the node that told it and the peer
-  pub heard : ℕ → ℕ → ℕ  -- by the node that heard and the peer, how many of the peer's words
+  pub told : ℕ → ℕ → List Word  -- by the node that sent it and the peer
+  pub heard : ℕ → ℕ → ℕ  -- by the node that received and the peer, how many of the peer's words
 
 -- in a full mesh no announcement has a cluster
 abbrev pub word_of : Telling → Word
@@ -45,7 +45,7 @@ talks_of peerings = record { told = λ teller peer. map word_of (peerings.told t
 abbrev pub peerings_of : Talks → Peerings
 peerings_of talks = record { told = λ teller peer. map telling_of (talks.told teller peer); heard = talks.heard }
 
--- what a node has heard of a peer
+-- what a node has received from a peer
 abbrev pub heard_words : Talks → ℕ → ℕ → List Word
 heard_words talks node peer = take (talks.heard node peer) (talks.told peer node)
 
@@ -122,7 +122,7 @@ abbrev pub config_from : Config → List Step → Config
 config_from config [] = config
 config_from config (done ∷ steps) = config_from (config_after config done) steps
 
--- 4. What a VRF holds: without reflectors what each other edge told its own edge, and with them what reflectors passed on
+-- 4. What a VRF holds: without reflectors what each other edge advertised to its own edge, and with them what reflectors passed on
 
 abbrev pub far_of : Network → List ℕ → Config → Talks → ℕ → ℕ → List HeldRoute
 far_of topology [] config talks edge v =

@@ -5,10 +5,10 @@
 //!   reflectors:    edge --its exports--> reflector --what it picked--> edge      and each VRF then holds what a full mesh gives it
 //! ```
 //!
-//! - `specs/Talk`: what is told and how much of it was heard, what a step makes nodes tell, and what a VRF holds
+//! - `specs/Talk`: what is sent and how much of it was received, what a step makes nodes send, and what a VRF holds
 //! - `specs/Keys`: the same told route by route
 //! - `specs/Alike`: a change of exports, told both ways
-//! - `specs/Laws`: what is said of them
+//! - `specs/Laws`: what is stated of them
 //! - `specs/Joining`: two edges and two reflectors
 //!
 //! RFC 4271, sections 3 and 8.2.2; RFC 4456, sections 6 and 8.
@@ -30,12 +30,12 @@ ghost use Rattle.mn_talk_laws.specs.Keys.{AreThere, from_by_keys};
 ghost use Rattle.mn_talk_laws.specs.Laws.{IsTheFullMesh, IsTalk, IsHeard, HoldsItsRoutes, AreOnce};
 ghost use Rattle.mn_talk_laws.specs.Joining.{AreJoinedByTwo};
 
-/// With no reflector the ledger is that of a full mesh, after every journal: word for word what is told, and each VRF holds the same routes.
+/// With no reflector the ledger is that of a full mesh, after every journal: word for word what is sent, and each VRF holds the same routes.
 pub fn with_no_reflector_it_is_the_full_mesh()
     ensures { (topology : Network) (entries : List JournalEntry) → IsTheFullMesh topology entries }
 {}
 
-/// With reflectors, where all is heard, each edge has a living session with a reflector and each two reflectors have one, each VRF holds
+/// With reflectors, where all is received, each edge has a living session with a reflector and each two reflectors have one, each VRF holds
 /// what a full mesh gives it.
 pub fn settled_vrfs_hold_what_a_full_mesh_gives()
     ensures { (topology : Network) (reflector : ℕ) (others : List ℕ) (config : Config) (talks : Talks) →
@@ -46,7 +46,7 @@ pub fn settled_vrfs_hold_what_a_full_mesh_gives()
         HoldsItsRoutes topology (reflector ∷ others) config talks edge v route }
 {}
 
-/// Told route by route, every run of steps each of which is there keeps what the law before asks: an end that is Established has told what
+/// Told route by route, every run of steps each of which is there keeps what the law before asks: an end that is Established has sent what
 /// it offers, another nothing, and sessions are in turn.
 pub fn every_run_is_talk()
     ensures { (topology : Network) (reflectors : List ℕ) (steps : List Step) → AreThere topology reflectors (first_config topology) no_talks steps →
@@ -54,7 +54,7 @@ pub fn every_run_is_talk()
         (from_by_keys topology reflectors (first_config topology) no_talks steps) }
 {}
 
-/// What an edge tells as a step changes its exports is word for word the same, told export by export or route by route.
+/// What an edge advertises as a step changes its exports is word for word the same, told export by export or route by route.
 pub fn an_edge_tells_alike()
     ensures { (topology : Network) (config : Config) (done : Step) (edge : ℕ) →
         AreTidy (exports_of topology config edge) (exports_of topology (config_after config done) edge) →
@@ -68,7 +68,7 @@ pub fn every_run_is_told_alike()
         talks_from topology reflectors (first_config topology) no_talks steps ≡ from_by_keys topology reflectors (first_config topology) no_talks steps }
 {}
 
-/// After every lawful run with reflectors, where all is heard in a joined network, each VRF holds exactly what a full mesh gives it.
+/// After every lawful run with reflectors, where all is received in a joined network, each VRF holds exactly what a full mesh gives it.
 pub fn every_settled_vrf_holds_what_a_full_mesh_gives()
     ensures { (topology : Network) (reflector : ℕ) (others : List ℕ) (steps : List Step) → IsLawfulRun topology (reflector ∷ others) steps →
         AreOnce (reflector ∷ others) → AreThere topology (reflector ∷ others) (first_config topology) no_talks steps →
@@ -80,14 +80,14 @@ pub fn every_settled_vrf_holds_what_a_full_mesh_gives()
         (talks_from topology (reflector ∷ others) (first_config topology) no_talks steps) edge v route }
 {}
 
-/// Where by the definitions of `reflect` no word flies, all is heard here: so the runs worked by hand there meet the premise here.
+/// Where by the definitions of `reflect` no word flies, all is received here: so the runs worked by hand there meet the premise here.
 pub fn where_no_word_flies_all_is_heard()
     ensures { (topology : Network) (reflectors : List ℕ) (steps : List Step) → IsLawfulRun topology reflectors steps → AreOnce reflectors →
         AreThere topology reflectors (first_config topology) no_talks steps → (world_of topology reflectors steps).flying ≡ [] →
         IsHeard topology (config_from (first_config topology) steps) (talks_from topology reflectors (first_config topology) no_talks steps) }
 {}
 
-/// The premises of these laws are met by two edges and two reflectors, once 25 words are heard.
+/// The premises of these laws are met by two edges and two reflectors, once 25 words are received.
 pub fn two_edges_are_joined_by_two_reflectors()
     ensures { AreJoinedByTwo }
 {}

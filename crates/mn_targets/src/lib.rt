@@ -1,6 +1,6 @@
 //! Sets of route targets: what a VRF imports, and what it exports.
 //!
-//! A VRF's routes are told to the other edges with its export targets. An edge takes a route into each of its VRFs
+//! A VRF's routes are advertised to the other edges with its export targets. An edge takes a route into each of its VRFs
 //! whose import set has at least one of the route's targets (RFC 4364, section 4.3.1). A target is an extended
 //! community of eight bytes (RFC 4360, sections 2 and 4), and a set has each of them once, in the order of its
 //! big-endian number:

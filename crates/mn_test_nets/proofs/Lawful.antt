@@ -49,7 +49,8 @@ are_nodes nodes well_named each formed names loopbacks =
 -- and sites, by what tells their names and prefixes apart
 are_sites : (vrfs : ℕ) (sites : SiteTable) → list_all is_name sites.names ≡ true → length sites.sites ≡ length sites.names
     → list_all (λ site. nat_lt site.vrf.0 vrfs) sites.sites ≡ true → list_all (λ static. is_lawful_prefix static.1) (statics_of sites.sites) ≡ true
-    → length (statics_of sites.sites) ≤ most_static_routes → IsDistinct bytes_eq sites.names → IsDistinct same_static (statics_of sites.sites) → AreSites vrfs sites
+    → length (statics_of sites.sites) ≤ most_static_routes → IsDistinct bytes_eq sites.names → IsDistinct same_static (statics_of sites.sites) →
+    AreSites vrfs sites
 are_sites vrfs sites well_named each placed formed few names prefixes = record {
   named = record { formed = well_named; distinct = names };
   each = each;
@@ -117,7 +118,8 @@ pair_are_sites = are_sites 2 pair_sites refl refl refl refl (omega arith) ((refl
 
 pub pair_lawful : IsLawful pair_net
 pair_lawful =
-    lawful pair_nodes pair_links pair_vrfs pair_sites (omega arith) (omega arith) (omega arith) (omega arith) pair_are_nodes pair_are_links pair_are_vrfs pair_are_sites
+    lawful pair_nodes pair_links pair_vrfs pair_sites (omega arith) (omega arith) (omega arith) (omega arith) pair_are_nodes pair_are_links pair_are_vrfs
+    pair_are_sites
 
 star_are_nodes : AreNodes star_nodes
 unfolding IsDistinct
@@ -146,4 +148,5 @@ star_are_sites = are_sites 4 no_sites refl refl refl refl (omega arith) tt tt
 
 pub star_lawful : IsLawful star_net
 star_lawful =
-    lawful star_nodes star_links star_vrfs no_sites (omega arith) (omega arith) (omega arith) (omega arith) star_are_nodes star_are_links star_are_vrfs star_are_sites
+    lawful star_nodes star_links star_vrfs no_sites (omega arith) (omega arith) (omega arith) (omega arith) star_are_nodes star_are_links star_are_vrfs
+    star_are_sites

@@ -13,7 +13,8 @@ fails false never = refl
 pub first_feed_is : (bs : List ℕ) (r : Option ℕ) → IsFirstByte (is_byte 10) bs r → r ≡ position (λ b. b == 10) bs
 first_feed_is bs None none =
     let at : position_or_len (λ b. b == 10) bs ≡ length bs =
-    position_or_len_is (λ b. b == 10) bs (length bs) 0 (le_refl (length bs)) (λ k before. fails _ (none k (omega arith) before)) (λ past. absurd (omega arith)) in
+    position_or_len_is (λ b. b == 10) bs (length bs) 0 (le_refl (length bs)) (λ k before. fails _ (none k (omega arith) before))
+    (λ past. absurd (omega arith)) in
     rw at (grind (arith, nat_tests))
 first_feed_is bs (Some i) found =
     let first = found.0 in

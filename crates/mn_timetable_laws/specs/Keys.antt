@@ -104,7 +104,7 @@ abbrev pub notices_leave : ℕ → Step → List Key → List Key
 notices_leave nodes (Learn node l) keys = key_without (l.0 * nodes + node.0) 0 keys
 notices_leave nodes _ keys = keys
 
--- what is heard, and all of a session that begins or ends
+-- what is received, and all of a session that begins or ends
 abbrev pub messages_leave : Step → List Key → List Key
 messages_leave (HearLdp l dir) keys = key_without (channel l.0 dir) 0 keys
 messages_leave (LinkUp l) keys = but_two (channel l.0 Forth) (channel l.0 Back) keys

@@ -16,7 +16,7 @@ pushed journal tick step = journal ++ record { tick = tick; step = step; damaged
 abbrev pub later_world : Network → List JournalEntry → Step → World
 later_world topology journal step = after topology (world_of topology journal) step
 
--- what is said in the step, and what is told
+-- what is sent in the step, and what is told
 abbrev pub messages_now : Network → List JournalEntry → Step → List (Channel × Load)
 messages_now topology journal step = messages_in topology (world_of topology journal) (later_world topology journal step) step
 

@@ -1,5 +1,6 @@
 -- Links, each at its number in a map by the pair of nodes that it joins.
-use Rattle.std.proofs.Common.{◌≡◌, ◌≤◌, ◌<◌, ◌^◌, arith, length-append, ℕ, min, max, Bool, true, false, cond, length, position, ◌&&◌, ◌==◌, List, [], ◌∷◌, ◌++◌, Some}
+use Rattle.std.proofs.Common.{◌≡◌, ◌≤◌, ◌<◌, ◌^◌, arith, length-append, ℕ, min, max, Bool, true, false, cond, length, position, ◌&&◌, ◌==◌, List, [], ◌∷◌, ◌++◌}
+use Rattle.std.proofs.Common.{Some}
 use Rattle.std.proofs.Common.{Option, is_some, IfSome, refl, ap, ◌∙◌, sym, subst}
 use Rattle.std.specs.List.{list_any}
 use Rattle.std.specs.HashMap.{HashMap, get, Updates}
@@ -17,11 +18,13 @@ same_pair : (a b x y : ℕ) → by_pair (a, b) (x, y) ≡ (x == a && y == b)
 same_pair a b x y = rw (nat_eq_equiv.symm a x, nat_eq_equiv.symm b y) refl
 
 -- a look-up of the pair of two nodes finds the link that joins them
-pub joining : {S : Type 0} (m n x y : ℕ) (pairs : HashMap (ℕ × ℕ) ℕ S) (links now : List LinkEnds) → ArePairs pairs links → links ≡ now → x ≡ min m n → y ≡ max m n →
+pub joining : {S : Type 0} (m n x y : ℕ) (pairs : HashMap (ℕ × ℕ) ℕ S) (links now : List LinkEnds) → ArePairs pairs links → links ≡ now → x ≡ min m n →
+    y ≡ max m n →
     get by_pair pairs (x, y) ≡ position (joins m n) now
 joining m n x y pairs links now kept seen low high = kept x y ∙ rw (← seen, low, high) refl
 
-pub joined : {S : Type 0} (m n x y : ℕ) (pairs : HashMap (ℕ × ℕ) ℕ S) (links now : List LinkEnds) → ArePairs pairs links → links ≡ now → x ≡ min m n → y ≡ max m n →
+pub joined : {S : Type 0} (m n x y : ℕ) (pairs : HashMap (ℕ × ℕ) ℕ S) (links now : List LinkEnds) → ArePairs pairs links → links ≡ now → x ≡ min m n →
+    y ≡ max m n →
     is_some (get by_pair pairs (x, y)) ≡ are_joined now m n
 joined m n x y pairs links now kept seen low high = ap is_some (joining m n x y pairs links now kept seen low high) ∙ is_found (joins m n) now
 
@@ -29,7 +32,8 @@ pub within : (m n : ℕ) (found : Option ℕ) (now : List LinkEnds) → found �
 within m n found now h = subst (λ r. IfSome r (λ l. l < length now)) (sym h) (is_within (joins m n) now)
 
 -- one more link
-pub put_pair : {S : Type 0} (link : LinkEnds) (a b n : ℕ) (old new : HashMap (ℕ × ℕ) ℕ S) (links room now after : List LinkEnds) → ArePairs old links → links ≡ now
+pub put_pair : {S : Type 0} (link : LinkEnds) (a b n : ℕ) (old new : HashMap (ℕ × ℕ) ℕ S) (links room now after : List LinkEnds) → ArePairs old links →
+    links ≡ now
     → a ≡ min link.a.0 link.b.0
     → b ≡ max link.a.0 link.b.0
     → are_joined now link.a.0 link.b.0 ≡ false

@@ -71,6 +71,7 @@ put_name name copy key n old new names room after now same same_key kept seen fr
     ap (map bytes_of) all ∙ map-append bytes_of names (copy ∷ []) ∙ ap (λ word. map bytes_of names ++ word ∷ []) same in
     let few : length names < 2 ^ 16 = subst (λ k. k < 2 ^ 16) (sym (ap length seen) ∙ count names) below in (
       subst (AreNumbers new) (sym grown)
-          (put_number name key n old new (map bytes_of names) same_key kept (ap (λ words. has_name words name) seen ∙ fresh) (counted ∙ sym (count names)) updates),
+          (put_number name key n old new (map bytes_of names) same_key kept (ap (λ words. has_name words name) seen ∙ fresh) (counted
+          ∙ sym (count names)) updates),
       rw (all, length-append) (omega arith),
     )

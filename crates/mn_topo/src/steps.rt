@@ -14,13 +14,13 @@ pub enum Step {
     Learn(NodeNo, LinkNo),
     /// LDP is switched on or off for the link.
     LdpAdmin(LinkNo, bool),
-    /// The link's receiving end hears the first LDP message of the direction.
+    /// The link's receiving end receives the first LDP message of the direction.
     HearLdp(LinkNo, Dir),
     /// The BGP session of two edges comes up, the lesser number first.
     BgpUp(NodeNo, NodeNo),
     /// The BGP session of two edges goes down, the lesser number first.
     BgpDown(NodeNo, NodeNo),
-    /// The second edge hears the first BGP message that the first one said to it.
+    /// The second edge receives the first BGP message that the first one sent to it.
     HearBgp(NodeNo, NodeNo),
     /// The site's VRF has the prefix over the site.
     AddRoute(SiteNo, Prefix),
@@ -50,7 +50,7 @@ pub enum Step {
 pub enum Damage {
     /// The first LDP message of the direction.
     Ldp(LinkNo, Dir, u32),
-    /// The first BGP message that the first edge said to the second one.
+    /// The first BGP message that the first edge sent to the second one.
     Bgp(NodeNo, NodeNo, u32),
 }
 

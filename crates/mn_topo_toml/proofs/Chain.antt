@@ -64,7 +64,8 @@ refused_on NoMemory read rest h = tt
 -- a refusal of the sites is that of the whole
 pub refused_sites : (top : Members) (head : Head) (nodes : NodeTable) (links : List LinkEnds) (vrfs : VrfTable) (bad : TopoBad) →
     TablesRead top head nodes links vrfs
-    → Reads {A = SiteTable} (Err bad) (sites_from vrfs.names (tables_of (items_view head.arrays.sites.now)) no_sites) → Reads {A = Network} (Err bad) (network_of top)
+    → Reads {A = SiteTable} (Err bad) (sites_from vrfs.names (tables_of (items_view head.arrays.sites.now)) no_sites) →
+    Reads {A = Network} (Err bad) (network_of top)
 refused_sites top head nodes links vrfs bad h s =
     rw (up_to_sites top head nodes links vrfs h)
     (refused_on bad (sites_from vrfs.names (tables_of (items_view head.arrays.sites.now)) no_sites) (after_sites top nodes links vrfs) s)
@@ -87,7 +88,8 @@ network_by head nodes links vrfs sites = record {
 }
 
 -- the sites make the whole
-pub whole : (top : Members) (head : Head) (nodes : NodeTable) (links : List LinkEnds) (vrfs : VrfTable) (sites : SiteTable) → TablesRead top head nodes links vrfs
+pub whole : (top : Members) (head : Head) (nodes : NodeTable) (links : List LinkEnds) (vrfs : VrfTable) (sites : SiteTable) →
+    TablesRead top head nodes links vrfs
     → sites_from vrfs.names (tables_of (items_view head.arrays.sites.now)) no_sites ≡ Ok sites
     → network_of top ≡ Ok (network_by head nodes links vrfs sites)
 whole top head nodes links vrfs sites h s =

@@ -86,7 +86,8 @@ link_step names earlier entry h lawful =
           all_push (joins_two_of (length names)) earlier (link_in names entry) h.joining
           (and_from _ _ (and_from _ _ (named_within names (codes "a") entry named.0) (named_within names (codes "b") entry named.1)) apart);
       once = distinct_push (λ one other. joins one.a.0 one.b.0 other) joins-flip earlier (link_in names entry) h.once (kept _ TwiceLinked all.1.1.1.1.1.0);
-      figures = all_push has_figures earlier (link_in names entry) h.figures (and_from _ _ (and_from _ _ (and_from _ _ cost delay) loss) (and_from _ _ life lasting));
+      figures = all_push has_figures earlier (link_in names entry) h.figures
+          (and_from _ _ (and_from _ _ (and_from _ _ cost delay) loss) (and_from _ _ life lasting));
     }
 
 pub links_in_turn : (names : List (List ℕ)) →

@@ -18,7 +18,8 @@ use Rattle.mn_topo_toml.specs.Vrfs.{vrfs_from}
 use Rattle.mn_topo.specs.SiteTable.{SiteTable, no_sites}
 use Rattle.mn_topo_toml.specs.Sites.{sites_from}
 use Rattle.mn_topo.specs.Network.{Network}
-use Rattle.mn_topo_toml.specs.Topology.{top_keys, resolve_at, has_wrong_number, has_wrong_figure, has_wrong_array, has_too_many, top_rule, network_with, ◌>>=◌, arrays_of, network_of}
+use Rattle.mn_topo_toml.specs.Topology.{top_keys, resolve_at, has_wrong_number, has_wrong_figure, has_wrong_array, has_too_many, top_rule, network_with, ◌>>=◌}
+use Rattle.mn_topo_toml.specs.Topology.{arrays_of, network_of}
 use Rattle.mn_topo.specs.Lawful.{AreNames, AreNodes, AreLinks, AreVrfs, AreSites, IsLawful}
 use Rattle.mn_topo_toml.proofs.LawfulEntries.{all_kept, kept, reads_on, kept_in_turn, counted_in_turn, node_step, nodes_in_turn}
 use Rattle.mn_topo_toml.proofs.LawfulLinks.{number_within, link_step, links_in_turn}
@@ -71,18 +72,25 @@ parts_lawful top nodes links vrfs sites lawful n l v s =
     let three = or_parts _ _ counts.0 in
     let two = or_parts _ _ three.0 in
     let are_nodes = kept_in_turn nodes_in_turn AreNodes node_step (tables_at (codes "node") top) no_nodes nodes n nodes_begin in
-    let are_links = kept_in_turn (links_in_turn nodes.names) (AreLinks (length nodes.names)) (link_step nodes.names) (tables_at (codes "link") top) [] links l (links_begin (length nodes.names)) in
-    let are_vrfs = kept_in_turn (vrfs_in_turn nodes.names) (AreVrfs (length nodes.names)) (vrf_step nodes.names) (tables_at (codes "vrf") top) no_vrfs vrfs v (vrfs_begin (length nodes.names)) in
-    let are_sites = kept_in_turn (sites_in_turn vrfs.names) (AreSites (length vrfs.names)) (site_step vrfs.names) (tables_at (codes "site") top) no_sites sites s (sites_begin (length vrfs.names)) in
+    let are_links = kept_in_turn (links_in_turn nodes.names) (AreLinks (length nodes.names)) (link_step nodes.names) (tables_at (codes "link") top) [] links l
+    (links_begin (length nodes.names)) in
+    let are_vrfs = kept_in_turn (vrfs_in_turn nodes.names) (AreVrfs (length nodes.names)) (vrf_step nodes.names) (tables_at (codes "vrf") top) no_vrfs vrfs v
+    (vrfs_begin (length nodes.names)) in
+    let are_sites = kept_in_turn (sites_in_turn vrfs.names) (AreSites (length vrfs.names)) (site_step vrfs.names) (tables_at (codes "site") top) no_sites sites
+    s (sites_begin (length vrfs.names)) in
     let joined : AreLinks (length nodes.loopbacks) links = subst (λ (count : ℕ). AreLinks count links) (sym are_nodes.each) are_links in
     let node_most : length (tables_at (codes "node") top) ≤ 256 = ltb-false _ _ two.0 in
     let link_most : length (tables_at (codes "link") top) ≤ 1024 = ltb-false _ _ two.1 in
     let vrf_most : length (tables_at (codes "vrf") top) ≤ 512 = ltb-false _ _ three.1 in
     let site_most : length (tables_at (codes "site") top) ≤ 4096 = ltb-false _ _ counts.1 in
-    let node_count : length nodes.names ≡ 0 + length (tables_at (codes "node") top) = counted_in_turn nodes_in_turn (λ earlier. length earlier.names) (λ earlier entry. rw length-append refl) _ no_nodes nodes n in
-    let link_count : length links ≡ 0 + length (tables_at (codes "link") top) = counted_in_turn (links_in_turn nodes.names) (λ earlier. length earlier) (λ earlier entry. rw length-append refl) _ [] links l in
-    let vrf_count : length vrfs.vrfs ≡ 0 + length (tables_at (codes "vrf") top) = counted_in_turn (vrfs_in_turn nodes.names) (λ earlier. length earlier.vrfs) (λ earlier entry. rw length-append refl) _ no_vrfs vrfs v in
-    let site_count : length sites.sites ≡ 0 + length (tables_at (codes "site") top) = counted_in_turn (sites_in_turn vrfs.names) (λ earlier. length earlier.sites) (λ earlier entry. rw length-append refl) _ no_sites sites s in
+    let node_count : length nodes.names ≡ 0 + length (tables_at (codes "node") top) =
+    counted_in_turn nodes_in_turn (λ earlier. length earlier.names) (λ earlier entry. rw length-append refl) _ no_nodes nodes n in
+    let link_count : length links ≡ 0 + length (tables_at (codes "link") top) =
+    counted_in_turn (links_in_turn nodes.names) (λ earlier. length earlier) (λ earlier entry. rw length-append refl) _ [] links l in
+    let vrf_count : length vrfs.vrfs ≡ 0 + length (tables_at (codes "vrf") top) =
+    counted_in_turn (vrfs_in_turn nodes.names) (λ earlier. length earlier.vrfs) (λ earlier entry. rw length-append refl) _ no_vrfs vrfs v in
+    let site_count : length sites.sites ≡ 0 + length (tables_at (codes "site") top) =
+    counted_in_turn (sites_in_turn vrfs.names) (λ earlier. length earlier.sites) (λ earlier entry. rw length-append refl) _ no_sites sites s in
     record {
       asn = number_within (codes "as") 1 65535 65000 top refl delays.0;
       notice_delay = number_within (codes "notice_delay") 1 1000 1 top refl delays.1;

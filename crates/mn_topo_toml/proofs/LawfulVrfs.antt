@@ -19,7 +19,8 @@ use Rattle.mn_topo_toml.specs.Names.{number_named}
 use Rattle.mn_topo_toml.specs.Nodes.{name_of}
 use Rattle.mn_topo_toml.specs.Rules.{broken}
 use Rattle.mn_topo.specs.VrfTable.{VrfTable, has_rd, is_edge, with_edge, edges_of}
-use Rattle.mn_topo_toml.specs.Vrfs.{rd_at, is_rd_taken, has_target, next_target, targets_from, targets_at, vrf_head_rule, vrf_head_rules, is_65th_edge, vrf_rule}
+use Rattle.mn_topo_toml.specs.Vrfs.{rd_at, is_rd_taken, has_target, next_target, targets_from, targets_at, vrf_head_rule, vrf_head_rules, is_65th_edge}
+use Rattle.mn_topo_toml.specs.Vrfs.{vrf_rule}
 use Rattle.mn_topo_toml.specs.Vrfs.{vrf_in, with_vrf, vrfs_from}
 use Rattle.mn_topo.specs.Lawful.{AreTargets, AreVrfs, is_vrf_of}
 use Rattle.mn_topo_toml.proofs.LawfulEntries.{all_kept, kept, AreReadInTurn, all_push, apart_push, distinct_push, names_push}

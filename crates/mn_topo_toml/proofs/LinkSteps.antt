@@ -33,7 +33,8 @@ module _ (nodes : List (List ℕ)) (earlier : List LinkEnds) (entry : Members) (
 
   pub self_link : AreEnds nodes entry a b → a ≡ b → link_rule nodes earlier entry ≡ Some SelfLink
   self_link h same = rules_left h
-      ∙ ap (λ t. first_broken (broken t SelfLink ∷ broken (are_joined earlier a b) TwiceLinked ∷ figure_rules entry)) (ap (λ n. a == n) (sym same) ∙ same_test a)
+      ∙ ap (λ t. first_broken (broken t SelfLink ∷ broken (are_joined earlier a b) TwiceLinked ∷ figure_rules entry)) (ap (λ n. a == n) (sym same)
+      ∙ same_test a)
 
   pub twice_linked : AreEnds nodes entry a b → (a == b) ≡ false → are_joined earlier a b ≡ true → link_rule nodes earlier entry ≡ Some TwiceLinked
   twice_linked h apart there = rules_left h

@@ -17,18 +17,21 @@ pub bad_keys : (nodes : List (List ℕ)) (earlier : VrfTable) (entry : Members) 
 unfolding vrf_head_rule
 bad_keys nodes earlier entry rule h = broken_before (key_rules entry) _ rule h
 
-module _ (nodes : List (List ℕ)) (earlier : VrfTable) (entry : Members) (name : List ℕ) (import export : List Value) (keyed : AreKeyed entry name import export) where
+module _ (nodes : List (List ℕ)) (earlier : VrfTable) (entry : Members) (name : List ℕ) (import export : List Value)
+    (keyed : AreKeyed entry name import export) where
   -- the rules that are left, over what they ask of the name, the node and the distinguisher
   abbrev left : Bool → Bool → Bool → Bool → Option TopoRule
   left named taken known free =
       first_broken (broken (not named) BadName ∷ broken taken TwiceNamed ∷ broken known NoSuchName ∷ broken free TwiceRd ∷ [])
 
-  rules_left : (named taken known free : Bool) → is_name name ≡ named → has_name earlier.names name ≡ taken → is_none (named_at nodes (codes "node") entry) ≡ known →
+  rules_left : (named taken known free : Bool) → is_name name ≡ named → has_name earlier.names name ≡ taken →
+      is_none (named_at nodes (codes "node") entry) ≡ known →
       is_rd_taken earlier (rd_at entry) ≡ free → vrf_head_rule nodes earlier entry ≡ left named taken known free
   unfolding vrf_head_rule
   rules_left named taken known free n t k f =
       kept_before (key_rules entry) _ keyed.lawful
-      ∙ ap (λ word. left (is_name word) (has_name earlier.names word) (is_none (named_at nodes (codes "node") entry)) (is_rd_taken earlier (rd_at entry))) (sym keyed.values.name_is)
+      ∙ ap (λ word. left (is_name word) (has_name earlier.names word) (is_none (named_at nodes (codes "node") entry)) (is_rd_taken earlier (rd_at entry)))
+      (sym keyed.values.name_is)
       ∙ ap (λ b. left b (has_name earlier.names name) (is_none (named_at nodes (codes "node") entry)) (is_rd_taken earlier (rd_at entry))) n
       ∙ ap (λ b. left named b (is_none (named_at nodes (codes "node") entry)) (is_rd_taken earlier (rd_at entry))) t
       ∙ ap (λ b. left named taken b (is_rd_taken earlier (rd_at entry))) k
@@ -40,7 +43,8 @@ module _ (nodes : List (List ℕ)) (earlier : VrfTable) (entry : Members) (name 
   pub twice_named : is_name name ≡ true → has_name earlier.names name ≡ true → vrf_head_rule nodes earlier entry ≡ Some TwiceNamed
   twice_named n t = rules_left true true _ _ n t refl refl
 
-  pub no_such_node : is_name name ≡ true → has_name earlier.names name ≡ false → named_at nodes (codes "node") entry ≡ None → vrf_head_rule nodes earlier entry ≡ Some NoSuchName
+  pub no_such_node : is_name name ≡ true → has_name earlier.names name ≡ false → named_at nodes (codes "node") entry ≡ None →
+      vrf_head_rule nodes earlier entry ≡ Some NoSuchName
   no_such_node n t k = rules_left true false true _ n t (ap is_none k) refl
 
   pub twice_rd : (node : ℕ) → is_name name ≡ true → has_name earlier.names name ≡ false → named_at nodes (codes "node") entry ≡ Some node →

@@ -14,7 +14,8 @@ use Rattle.mn_text.specs.Pairs.{rd_of, rt_of}
 use Rattle.mn_topo.specs.declared.vrfs.VrfDef.{VrfDef}
 use Rattle.mn_topo_toml.specs.declared.vrfs.VrfHead.{VrfHead}
 use Rattle.mn_topo_toml.specs.declared.refusal.TopoRule.{TopoRule}
-use Rattle.mn_topo_toml.specs.declared.refusal.TopoRule.TheVariants.{UnknownKey, MissingKey, WrongKind, BadName, TwiceNamed, NoSuchName, TwiceRd, BadTarget, TooMany}
+use Rattle.mn_topo_toml.specs.declared.refusal.TopoRule.TheVariants.{UnknownKey, MissingKey, WrongKind, BadName, TwiceNamed, NoSuchName, TwiceRd, BadTarget}
+use Rattle.mn_topo_toml.specs.declared.refusal.TopoRule.TheVariants.{TooMany}
 use Rattle.mn_topo_toml.specs.declared.refusal.Place.{Place}
 use Rattle.mn_topo_toml.specs.declared.refusal.Place.TheVariants.{Vrf}
 use Rattle.mn_topo.specs.Tables.{is_name}

@@ -1,5 +1,6 @@
 -- Link by link, from the first on, the nearest is found.
-use Rattle.std.proofs.Common.{ℕ, suc, ◌≡◌, ◌<◌, inl, inr, Bool, true, false, cond, List, [], ◌∷◌, filter, refl, arith, sym, ◌∙◌, ap, drop, get_or, length, Option, None, Some}
+use Rattle.std.proofs.Common.{ℕ, suc, ◌≡◌, ◌<◌, inl, inr, Bool, true, false, cond, List, [], ◌∷◌, filter, refl, arith, sym, ◌∙◌, ap, drop, get_or, length}
+use Rattle.std.proofs.Common.{Option, None, Some}
 use Rattle.std.specs.Prelude.{nat_lt, ◌==◌, ◌&&◌, ◌||◌, ◌+◌}
 use Rattle.std.proofs.lemmas.Bool.Decides.{leb_tells, eqb_tells}
 use Rattle.std.proofs.lemmas.List.{at_drop_more}
@@ -102,7 +103,8 @@ module _ (w : Wiring) (v : View) (ds : List (Option ℕ)) (node : ℕ) where
   -- no least walk leads from a node that has no cost
   pub from-none : (ls : List LinkNo) → dist_in ds node ≡ None → nearest_over w v ds node ls ≡ None
   from-none [] h = refl
-  from-none (l ∷ ls) h = ap (λ k. nearest w node (cond k (l.0 ∷ filter (is_on_least w v ds node) (numbers_of ls)) (filter (is_on_least w v ds node) (numbers_of ls)))) off ∙ from-none ls h
+  from-none (l ∷ ls) h = ap (λ k. nearest w node
+      (cond k (l.0 ∷ filter (is_on_least w v ds node) (numbers_of ls)) (filter (is_on_least w v ds node) (numbers_of ls)))) off ∙ from-none ls h
     where
       differ : (o : Option ℕ) → same_cost o None ≡ false
       differ None = refl

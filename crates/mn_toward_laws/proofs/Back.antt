@@ -1,5 +1,6 @@
 -- Walks back, and what the tree of a node says of the ways to it.
-use Rattle.std.proofs.Common.{ℕ, zero, suc, ◌≡◌, ◌≢◌, ◌+◌, ◌<◌, ◌≤◌, inl, inr, Bool, true, false, cond, List, [], ◌∷◌, ◌++◌, length, get_or, refl, arith, sym, ◌∙◌, ap}
+use Rattle.std.proofs.Common.{ℕ, zero, suc, ◌≡◌, ◌≢◌, ◌+◌, ◌<◌, ◌≤◌, inl, inr, Bool, true, false, cond, List, [], ◌∷◌, ◌++◌, length, get_or, refl, arith, sym}
+use Rattle.std.proofs.Common.{◌∙◌, ap}
 use Rattle.std.proofs.Common.{subst, Option, None, Some}
 use Rattle.std.specs.Prelude.{◌==◌, ◌&&◌, ◌||◌, nat_lt, if◌then◌else◌}
 use Rattle.std.proofs.lemmas.Bool.Decides.{eqb_tells}
@@ -87,7 +88,8 @@ walk-back w v (l ∷ ls) a b h = by (λ e. walk-back w v ls (across w l a) b e) 
     turned : (x c y : ℕ) → x ≡ y → x + (c + 0) ≡ c + y
     turned x c y h = omega (arith, h)
 
-    by : (walk_end w v (across w l a) ls ≡ Some b → (ms : List ℕ) × (walk_end w v b ms ≡ Some (across w l a)) × (cost_of w ms ≡ cost_of w ls)) → (g : Bool) → may_go w v a l ≡ g → cond g (walk_end w v (across w l a) ls) None ≡ Some b
+    by : (walk_end w v (across w l a) ls ≡ Some b → (ms : List ℕ) × (walk_end w v b ms ≡ Some (across w l a)) × (cost_of w ms ≡ cost_of w ls)) → (g : Bool) →
+        may_go w v a l ≡ g → cond g (walk_end w v (across w l a) ls) None ≡ Some b
         → (ms : List ℕ) × (walk_end w v b ms ≡ Some a) × (cost_of w ms ≡ (link w l).cost + cost_of w ls)
     by more false g e = absurd (no_node b e)
     by more true g e =

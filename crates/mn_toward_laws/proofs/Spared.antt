@@ -56,7 +56,8 @@ module _ (w : Wiring) (v u : View) (to : ℕ) (joins : JoinsNodes w) (once : Joi
   walks-before [] a b h = h
   walks-before (l ∷ ls) a b h = by (λ e. walks-before ls (across w l a) b e) (may_go w u a l) refl h
     where
-      by : (walk_end w u (across w l a) ls ≡ Some b → walk_end w v (across w l a) ls ≡ Some b) → (g : Bool) → may_go w u a l ≡ g → cond g (walk_end w u (across w l a) ls) None ≡ Some b
+      by : (walk_end w u (across w l a) ls ≡ Some b → walk_end w v (across w l a) ls ≡ Some b) → (g : Bool) → may_go w u a l ≡ g →
+          cond g (walk_end w u (across w l a) ls) None ≡ Some b
           → cond (may_go w v a l) (walk_end w v (across w l a) ls) None ≡ Some b
       by more true g e = ap (λ c. cond c (walk_end w v (across w l a) ls) None) (goes-before a l g) ∙ more e
       by more false g e = absurd (no_node b e)
@@ -79,7 +80,8 @@ module _ (w : Wiring) (v u : View) (to : ℕ) (joins : JoinsNodes w) (once : Joi
       free : d ≤ 0 → 0 ≡ d
       free h = omega (arith, h)
 
-      by_hop : ((m x : ℕ) → x < fuel → m < length w.loopbacks → IsLeast w v m to x → (ls : List ℕ) × (walk_end w u m ls ≡ Some to) × (cost_of w ls ≡ x)) → n ≢ to
+      by_hop : ((m x : ℕ) → x < fuel → m < length w.loopbacks → IsLeast w v m to x → (ls : List ℕ) × (walk_end w u m ls ≡ Some to) × (cost_of w ls ≡ x)) →
+          n ≢ to
           → (o : Option (ℕ × ℕ)) → next w v n to ≡ o → IsNext w v n to o → (ls : List ℕ) × (walk_end w u n ls ≡ Some to) × (cost_of w ls ≡ d)
       by_hop more apart None is none = absurd (none least.walk.0 least.walk.1)
       by_hop more apart (Some hop) is some =

@@ -1,5 +1,6 @@
 -- What the packets in transit stand for as frames end that are too old.
-use Rattle.std.proofs.Common.{ℕ, suc, ◌≡◌, ◌+◌, ◌-◌, ◌*◌, ◌<◌, ◌≤◌, Bool, true, false, cond, List, [], ◌∷◌, length, map, filter, refl, arith, sym, ◌∙◌, ap, subst}
+use Rattle.std.proofs.Common.{ℕ, suc, ◌≡◌, ◌+◌, ◌-◌, ◌*◌, ◌<◌, ◌≤◌, Bool, true, false, cond, List, [], ◌∷◌, length, map, filter, refl, arith, sym, ◌∙◌, ap}
+use Rattle.std.proofs.Common.{subst}
 use Rattle.std.proofs.Common.{Some, None, inl, inr}
 use Rattle.std.specs.Prelude.{◌==◌, ◌&&◌, ◌||◌, not, nat_lt, slice_get, slice_set}
 use Rattle.std.specs.List.{range_with_len}
@@ -118,7 +119,8 @@ due_left t m k l d item packet node cause flight h due o to there = elim (eqb_te
   | inl q ↦ (let one = one_channel o l to d q.1 in
       subst (λ x. Holds x to) (sym one.0) (subst (λ x. Holds l x) (sym one.1) (here (subst (λ x. x < length t.links) one.0 there))))
   | inr q ↦ ap (map (λ (x : Item Flown). x.due)) (left_off (channel l d) (channel o to) m.flying 0 item flight.ascending h q.0) ∙ due o to there
-      ∙ ap (map (λ (x : Token). x.sent + (link (wiring_of t) o).delay)) (sym (put_off k.flying (channel l d) (without_place 0 (flying_on k l d)) (channel o to) q.1))
+      ∙ ap (map (λ (x : Token). x.sent + (link (wiring_of t) o).delay))
+      (sym (put_off k.flying (channel l d) (without_place 0 (flying_on k l d)) (channel o to) q.1))
 ]
   where
     Holds : ℕ → Dir → Type 0
@@ -185,7 +187,8 @@ later_than : (limit c : ℕ) (xs : List (Item Flown)) → FlyInOrder (keys_in xs
     (x : Item Flown) → In xs x → x.channel ≡ c → limit ≤ x.due
 later_than limit c [] order none x i on = absurd i
 later_than limit c (y ∷ ys) order none x i on = elim (eqb_tells y.channel c) [
-  | inl q ↦ (let least : limit ≤ y.due = not_less_tells y.due limit (passes (nat_lt y.due limit) (none ∙ ap (λ b. first_before limit (cond b (y ∷ on_channel c ys) (on_channel c ys))) q.0)) in
+  | inl q ↦ (let least : limit ≤ y.due =
+      not_less_tells y.due limit (passes (nat_lt y.due limit) (none ∙ ap (λ b. first_before limit (cond b (y ∷ on_channel c ys) (on_channel c ys))) q.0)) in
       elim i [
         | inl e ↦ subst (λ (z : Item Flown). limit ≤ z.due) e least
         | inr j ↦ (let after : y.due ≤ x.due = all_in (λ (other : Key). other.channel ≡ y.channel → y.due ≤ other.due) (keys_in ys) (key_of x) order.0

@@ -95,7 +95,8 @@ pub stands_carried : (t : Network) (g : Labelling) (w : World) (m begun left the
     there ≡ record left { paths = slice_set left.paths item.item.packet (further (path_of left.paths item.item.packet) node) } →
     ((g : Labelling) (w : World) (k : Packets) (token : Token) → AreMapped t g w → TableStands t g w node.0 uses → StandsFor t g there k →
     IsFlown t g node.0 item.item token → StandsFor t g new (arrive t w k token node.0)) →
-    AreMapped t g w → TableStands t g w (receiver (wiring_of t) link.0 dir) uses → StandsFor t g m k → StandsFor t g new (packets_after t w k (Step.Carry link dir place) bytes)
+    AreMapped t g w → TableStands t g w (receiver (wiring_of t) link.0 dir) uses → StandsFor t g m k →
+    StandsFor t g new (packets_after t w k (Step.Carry link dir place) bytes)
 unfolding packets_after
 stands_carried t g w m begun left there new k at place link dir node item uses bytes begins e f takes visits goes mapped table stands =
     let first : StandsFor t g begun (before_step k) = stands_begun t g m begun k begins stands in
@@ -105,7 +106,8 @@ stands_carried t g w m begun left there new k at place link dir node item uses b
     (subst (λ n. StandsFor t g n (visited (taken (before_step k) link.0 dir place) item.item.packet node.0)) (sym visits)
     (stands_visited t g left _ item.item.packet node done.stands)) in
     let gone : StandsFor t g new (carry t w (taken (before_step k) link.0 dir place) node.0 (Some done.token)) =
-    goes g w _ done.token mapped (subst (λ n. TableStands t g w n uses) (sym f) table) came (subst (λ n. IsFlown t g n item.item done.token) (sym f) done.flies) in
+    goes g w _ done.token mapped (subst (λ n. TableStands t g w n uses) (sym f) table) came
+    (subst (λ n. IsFlown t g n item.item done.token) (sym f) done.flies) in
     subst (λ n. StandsFor t g new (carry t w (taken (before_step k) link.0 dir place) n (slice_get (flying_on (before_step k) link.0 dir) place))) f
     (subst (λ found. StandsFor t g new (carry t w (taken (before_step k) link.0 dir place) node.0 found)) (sym done.there) gone)
 

@@ -26,7 +26,8 @@ use Rattle.mn_transit.proofs.Going.{ends}
 -- what the ledger says of a packet that leaves, by what the node answers of the way out
 departs : (t : Network) (g : Labelling) (w : World) (k : Packets) (route : HeldRoute) (bytes : List ℕ) (packet : ℕ) (node : NodeNo) (frame : Labelled)
     (out : Option (NodeNo × Option ℕ)) →
-    IsLawful t → node.0 < length t.loopbacks → node.0 ≢ route.edge → AreMapped t g w → out ≡ outer_for t g w node.0 route.edge → IsPushed t g route bytes frame →
+    IsLawful t → node.0 < length t.loopbacks → node.0 ≢ route.edge → AreMapped t g w → out ≡ outer_for t g w node.0 route.edge →
+    IsPushed t g route bytes frame →
     Departs t g k (bound packet route bytes) node.0 (hop_on t w k (bound packet route bytes) node.0 rule.NoLsp) out frame
 departs t g w k route bytes packet node frame out lawful there apart mapped is pushed =
     subst (λ (o : Option (NodeNo × Option ℕ)). Departs t g k (bound packet route bytes) node.0
@@ -39,7 +40,8 @@ pub stands_left : (t : Network) (g : Labelling) (w : World) (m new : Moving) (k 
     ((g : Labelling) (k : Packets) (token : Token) → StandsFor t g m k → IsFlown t g next.0 (record { packet = packet; frame = after }) token →
     are_joined t.links node.0 next.0 ≡ true →
     (link : ℕ) × (dir : Dir) × Leads t node.0 next.0 link dir × StandsFor t g new (sent k token link dir)) →
-    node.0 < length t.loopbacks → node.0 ≢ route.edge → AreMapped t g w → Some (next, label) ≡ outer_for t g w node.0 route.edge → IsPushed t g route bytes frame →
+    node.0 < length t.loopbacks → node.0 ≢ route.edge → AreMapped t g w → Some (next, label) ≡ outer_for t g w node.0 route.edge →
+    IsPushed t g route bytes frame →
     StandsFor t g m k → StandsFor t g new (hop_on t w k (bound packet route bytes) node.0 rule.NoLsp)
 stands_left t g w m new k route bytes packet node next label frame after lawful entries same goes there apart mapped out pushed stands =
     let told = departs t g w k route bytes packet node frame (Some (next, label)) lawful there apart mapped out pushed in

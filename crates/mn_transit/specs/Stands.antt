@@ -33,7 +33,8 @@ pub record StandsFor (topology : Network) (given : Labelling) (moving : Moving) 
   pub paths : map (λ path. map (λ node. node.0) path.nodes) moving.paths ≡ packets.paths
   pub copies : moving.copies ≡ packets.copies
   pub delivered : moving.delivered ≡ packets.delivered
-  pub frames : (l : ℕ) (dir : Dir) → AreFlown topology given (receiver (wiring_of topology) l dir) (on_channel (channel l dir) moving.flying) (flying_on packets l dir)
+  pub frames : (l : ℕ) (dir : Dir) →
+      AreFlown topology given (receiver (wiring_of topology) l dir) (on_channel (channel l dir) moving.flying) (flying_on packets l dir)
 
 -- each packet on its way keeps both labels of its frame
 abbrev pub AllAreKept : Network → Labelling → Labelling → Packets → Type 0
@@ -44,4 +45,10 @@ AllAreKept topology earlier later packets = (l : ℕ) (dir : Dir) (token : Token
 abbrev pub Makes : Network → ℕ → ℕ → List (Item Flown) → List (Item Flown) → Bool → Type 0
 Makes topology tick number before after false = after ≡ before
 Makes topology tick number before after true =
-    (l : ℕ) × (dir : Dir) × (flown : Flown) × (after ≡ before ++ record { channel = channel l dir; due = tick + (link (wiring_of topology) l).delay; number = number; item = flown } ∷ [])
+    (l : ℕ) × (dir : Dir) × (flown : Flown) × (after ≡ before ++ record {
+      channel = channel l dir;
+      due = tick + (link (wiring_of topology) l).delay;
+      number =
+          number;
+      item = flown;
+    } ∷ [])

@@ -31,7 +31,9 @@ pub attached-at : (t : Network) → IsLawful t → (old seen : Carried) → old 
     node < length t.loopbacks → (x : Standing) → x ≡ get_or old.nodes index x → (now : Standing) (label place : ℕ) → place ≡ s.0 → IsAttached s x now label →
     Attached t s seen (record old { nodes = slice_set old.nodes index now; labels = slice_set old.labels place label }) label
 attached-at t lawful old seen view_is s node index home from below x value now label place to did = record {
-  goes = λ journal tick stands turn. attached-goes t lawful old seen view_is s node index home from below x value now label place to did journal stands turn tick;
-  label = λ journal tick stands turn. attached-label t lawful old seen view_is s node index home from below x value now label place to did journal stands turn tick;
+  goes = λ journal tick stands turn. attached-goes t lawful old seen view_is s node index home from below x value now label place to did journal stands turn
+      tick;
+  label = λ journal tick stands turn. attached-label t lawful old seen view_is s node index home from below x value now label place to did journal stands turn
+      tick;
   next = λ journal stands turn. attached-next t lawful old seen view_is s node index home from below x value now label place to did journal stands turn;
 }

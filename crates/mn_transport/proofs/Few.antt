@@ -1,5 +1,6 @@
 -- A node says little in a step, so that the numbers of items fit in 64 bits.
-use Rattle.std.proofs.Common.{ℕ, suc, ◌≡◌, ◌∙◌, ◌+◌, ◌≤◌, List, [], ◌∷◌, ◌++◌, length, refl, arith, ap, subst, length-append, Bool, true, false, Option, Some, None, map, get_or}
+use Rattle.std.proofs.Common.{ℕ, suc, ◌≡◌, ◌∙◌, ◌+◌, ◌≤◌, List, [], ◌∷◌, ◌++◌, length, refl, arith, ap, subst, length-append, Bool, true, false, Option, Some}
+use Rattle.std.proofs.Common.{None, map, get_or}
 use Rattle.std.specs.Prelude.{if◌then◌else◌, Ok}
 use Rattle.mn_wiring.specs.Wiring.{Wiring, receiver}
 use Rattle.mn_wiring.specs.declared.links.Dir.{Dir}
@@ -76,11 +77,13 @@ few_out t old seen view_is node event may index at was value tick now out lawful
 
 -- in the labels that its FECs have then
 pub said_in : (tick : ℕ) (event : Event) (was now : Standing) (out : List Spoken) → now.labels ≡ labels_then was.wiring tick (kept_in was) event →
-    map pdu_of out ≡ pdus was.wiring (own_labels was.node.me now.labels) (released_by event) (changed was.wiring was.node event) (said was.wiring was.node event) →
+    map pdu_of out ≡ pdus was.wiring (own_labels was.node.me now.labels) (released_by event) (changed was.wiring was.node event)
+    (said was.wiring was.node event) →
     map pdu_of out ≡ pdus_in was.wiring tick (kept_in was) event
 said_in tick event was now out labels says =
     says
-    ∙ ap (λ (ls : Labels). pdus was.wiring (own_labels was.node.me ls) (released_by event) (changed was.wiring was.node event) (said was.wiring was.node event)) labels
+    ∙ ap (λ (ls : Labels). pdus was.wiring (own_labels was.node.me ls) (released_by event) (changed was.wiring was.node event) (said was.wiring was.node event))
+    labels
 
 -- a node to which something may happen has numbers for what it says then
 pub has_numbers : (t : Network) (old seen : Carried) (view_is : old ≡ seen) (node : ℕ) (event : Event) (may : MayAct t seen node event)

@@ -1,5 +1,6 @@
 -- For how long a frame may be on a node's links, one link after another.
-use Rattle.std.proofs.Common.{ℕ, zero, suc, ◌≡◌, ◌+◌, Bool, true, false, cond, List, [], ◌∷◌, ◌++◌, filter, length, refl, arith, sym, ◌∙◌, ap, add-one, append-nil}
+use Rattle.std.proofs.Common.{ℕ, zero, suc, ◌≡◌, ◌+◌, Bool, true, false, cond, List, [], ◌∷◌, ◌++◌, filter, length, refl, arith, sym, ◌∙◌, ap, add-one}
+use Rattle.std.proofs.Common.{append-nil}
 use Rattle.std.specs.Prelude.{max, if◌then◌else◌}
 use Rattle.std.specs.List.{range_with_len}
 use Rattle.std.proofs.lemmas.List.Elements.{filter-append}
@@ -21,7 +22,8 @@ abbrev pub longest_of : Network → ℕ → ℕ → ℕ
 longest_of t node k = longest_life t (filter (λ l. is_end (wiring_of t) l node) (range_with_len 0 k))
 
 -- with one link more
-longest-next : (t : Network) (node k : ℕ) → longest_of t node (k + 1) ≡ max (if is_end (wiring_of t) k node then (link (wiring_of t) k).life else 0) (longest_of t node k)
+longest-next : (t : Network) (node k : ℕ) →
+    longest_of t node (k + 1) ≡ max (if is_end (wiring_of t) k node then (link (wiring_of t) k).life else 0) (longest_of t node k)
 longest-next t node k =
     ap (λ n. longest_of t node n) (add-one k)
     ∙ ap (λ xs. longest_life t (filter (λ l. is_end (wiring_of t) l node) xs)) (range-more k 0 k (omega arith))
@@ -43,5 +45,6 @@ longest-step t node k life longest next life_is was next_is =
     ∙ sym (longest-next t node k)
 
 -- of all links
-pub longest-all : (t : Network) (node k : ℕ) (xs : List LinkEnds) → xs ≡ t.links → k ≡ length xs → longest_of t node k ≡ longest_life t (links_at (wiring_of t) node)
+pub longest-all : (t : Network) (node k : ℕ) (xs : List LinkEnds) → xs ≡ t.links → k ≡ length xs →
+    longest_of t node k ≡ longest_life t (links_at (wiring_of t) node)
 longest-all t node k xs links all = ap (λ n. longest_of t node n) (all ∙ ap length links)

@@ -13,7 +13,8 @@ use Rattle.mn_transport_laws.specs.Carried.{Carried}
 use Rattle.mn_transport_laws.specs.Steps.{MayDo}
 
 -- what holds of the edge's labels as it was read holds of the edge that contracts see
-pub spent-at : (t : Network) (s : SiteNo) (old seen : Carried) (view_is : old ≡ seen) (may : MayDo t (Attach s) seen) (node index : ℕ) (home : node ≡ home_of t s.0)
+pub spent-at : (t : Network) (s : SiteNo) (old seen : Carried) (view_is : old ≡ seen) (may : MayDo t (Attach s) seen) (node index : ℕ)
+    (home : node ≡ home_of t s.0)
     (from : index ≡ node) (x : Standing) (value : x ≡ get_or old.nodes index x) (Q : Type 0) →
     (x.failed ≡ false → Q ↔ (attachments_in x.labels.given + length x.wiring.loopbacks ≡ 1048561)) →
     (standing : Standing) → slice_get seen.nodes (home_of t s.0) ≡ Some standing → Q ↔ (attachments_in standing.labels.given + length t.loopbacks ≡ 1048561)

@@ -3,7 +3,7 @@
 //!
 //! ```text
 //!  a link comes up or goes down --> a notice to each node --> it learns  --+
-//!                    |                                                     +--> what it says, as PDUs --> they are heard
+//!                    |                                                     +--> what it says, as PDUs --> they are received
 //!                    +------> its session opens or closes at both ends ----+
 //! ```
 //!

@@ -141,7 +141,7 @@ impl Transport {
     /// A site is attached anew at its edge, which gives the next label to the attachment.
     ///
     /// It is `Spent` exactly where the edge has a label for each FEC and attachment that 20 bits allow, and changes nothing then.
-    /// After want of memory nothing is said of the transport.
+    /// After running out of memory nothing is promised of the transport.
     pub fn attach(&mut self, topology: &Topology, site: SiteNo) -> Result<u32, LabelBad>
         requires may { MayDo topology.now (step.Attach site) self.old }
         ensures goes { OnOk result ((journal : List JournalEntry) (tick : ℕ) → IsTransport topology.now journal self.old → HasTurn topology.now journal (step.Attach site) →

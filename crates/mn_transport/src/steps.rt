@@ -214,7 +214,7 @@ impl Transport {
         send(&mut self.messages, topology, node, out, clock)
     }
 
-    /// The node at the end of a direction hears the next PDU.
+    /// The node at the end of a direction receives the next PDU.
     fn hear_next(
         &mut self,
         topology: &Topology,
@@ -241,7 +241,7 @@ impl Transport {
         let out = match hearer.hear_ldp(link, pdu.item.as_slice(), clock.tick) {
             Ok(out) => out,
             Err(LsrBad::NoMemory) => return Err(AllocError),
-            // What flies is what was said, and comes in turn.
+            // What flies is what was sent, and comes in turn.
             Err(_) => unreachable!(),
         };
         labels_fit(hearer);
@@ -250,8 +250,8 @@ impl Transport {
 
     /// A link comes up: each node is to be told, and where LDP is switched on for it its session opens (RFC 5036, section 2.5.2).
     ///
-    /// It answers how many items that made, of which the first has the clock's number. After want of memory nothing is
-    /// said of the transport.
+    /// It answers how many items that made, of which the first has the clock's number. After running out of memory nothing is
+    /// promised of the transport.
     pub fn link_up(
         &mut self,
         topology: &Topology,
@@ -275,10 +275,10 @@ impl Transport {
     }
 
     /// A link goes down: each node is to be told, nothing flies on it any more, and its session closes, with all labels that were
-    /// heard in it.
+    /// received in it.
     ///
-    /// It answers how many items that made, of which the first has the clock's number. After want of memory nothing is
-    /// said of the transport.
+    /// It answers how many items that made, of which the first has the clock's number. After running out of memory nothing is
+    /// promised of the transport.
     pub fn link_down(
         &mut self,
         topology: &Topology,
@@ -303,8 +303,8 @@ impl Transport {
 
     /// LDP is switched on or off for a link, whose session opens or closes where the link is up.
     ///
-    /// It answers how many items that made, of which the first has the clock's number. After want of memory nothing is
-    /// said of the transport.
+    /// It answers how many items that made, of which the first has the clock's number. After running out of memory nothing is
+    /// promised of the transport.
     pub fn ldp_admin(
         &mut self,
         topology: &Topology,
@@ -329,8 +329,8 @@ impl Transport {
 
     /// A node learns the next change of a link, and says what its offers have become (RFC 5036, section 2.6.1).
     ///
-    /// It answers how many items that made, of which the first has the clock's number. After want of memory nothing is
-    /// said of the transport.
+    /// It answers how many items that made, of which the first has the clock's number. After running out of memory nothing is
+    /// promised of the transport.
     pub fn learn(
         &mut self,
         topology: &Topology,
@@ -353,10 +353,10 @@ impl Transport {
         Ok(next - clock.number)
     }
 
-    /// The end of a link to which a direction leads hears the next PDU there (RFC 5036, section 3.5). It is never refused.
+    /// The end of a link to which a direction leads receives the next PDU there (RFC 5036, section 3.5). It is never refused.
     ///
-    /// It answers how many items that made, of which the first has the clock's number. After want of memory nothing is
-    /// said of the transport.
+    /// It answers how many items that made, of which the first has the clock's number. After running out of memory nothing is
+    /// promised of the transport.
     pub fn hear_ldp(
         &mut self,
         topology: &Topology,

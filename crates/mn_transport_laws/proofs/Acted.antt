@@ -91,7 +91,8 @@ module _ (t : Network) (old seen : Carried) (view_is : old ≡ seen) (node : ℕ
   wiring = subst (λ (x : Standing). x.wiring ≡ wiring_of t) same may.wiring
 
   -- what it says goes out on links that are there
-  pub out-on-links : (tick : ℕ) (out : List Said) → map pdu_of out ≡ pdus_in was.wiring tick (kept_in was) event → AllByRecursion (λ (x : Said). x.link.0 < length t.links) out
+  pub out-on-links : (tick : ℕ) (out : List Said) → map pdu_of out ≡ pdus_in was.wiring tick (kept_in was) event →
+      AllByRecursion (λ (x : Said). x.link.0 < length t.links) out
   out-on-links tick out says =
       subst (λ (w : Wiring). AllByRecursion (λ (x : Said). x.link.0 < length w.ends) out) wiring
       (links-out was.wiring (changed was.wiring was.node event) (changed was.wiring was.node event)
@@ -170,7 +171,7 @@ may-second t tick number a b l opens old middle next apart acts may =
       numbers = may.numbers;
     })
 
--- what a node learns and hears is out of flight first
+-- what a node learns and receives is out of flight first
 pub noticed-is : (t : Network) (old seen : Carried) (node l channel : ℕ) (notices : List (Item Notice)) (taken : Option (Item Notice)) → old ≡ seen →
     channel ≡ l * length t.loopbacks + node
     → taken ≡ slice_get (on_channel channel old.notices) 0 → notices ≡ without taken old.notices →
@@ -218,7 +219,7 @@ may-taken t old node l dir event may =
       numbers = may.numbers;
     }
 
--- the node at this index hears the PDU as one change
+-- the node at this index receives the PDU as one change
 module _ (t : Network) (old seen : Carried) (view_is : old ≡ seen) (l : ℕ) (dir : Dir) (event : Event) (may : MayHear t seen l dir event)
     (index : ℕ) (at : index ≡ receiver (wiring_of t) l dir) (was : Standing) (value : was ≡ get_or old.nodes index was) where
   pub hearer : may.may.was ≡ was
@@ -262,7 +263,8 @@ module _ (t : Network) (old seen : Carried) (view_is : old ≡ seen) (l : ℕ) (
       one_result a b r e f = cc
 
   -- what is left in flight, what was taken, and what the node has become and says
-  module _ (tick on : ℕ) (flown : Option (Item (List ℕ))) (left : List (Item (List ℕ))) (pdu : Item (List ℕ)) (bytes : List ℕ) (now : Standing) (out : List Said)
+  module _ (tick on : ℕ) (flown : Option (Item (List ℕ))) (left : List (Item (List ℕ))) (pdu : Item (List ℕ)) (bytes : List ℕ) (now : Standing)
+      (out : List Said)
       (on_is : on ≡ channel l dir) (first : flown ≡ slice_get (on_channel on old.messages) 0) (left_is : left ≡ without flown old.messages)
       (flown_is : flown ≡ Some pdu) (bytes_are : bytes ≡ pdu.item)
       (hears : (session : Session) → session_at was.node l ≡ Some session →

@@ -72,7 +72,8 @@ none_there : (o : Option ℕ) → is_some o ≡ false → o ≡ None
 none_there None e = refl
 none_there (Some n) e = cc
 
-module _ (t : Network) (lawful : IsLawful t) (es : List JournalEntry) (inputs : List (List ℕ)) (by_law : IsLawfulJournal t es inputs) (tick : ℕ) (s : SiteNo) where
+module _ (t : Network) (lawful : IsLawful t) (es : List JournalEntry) (inputs : List (List ℕ)) (by_law : IsLawfulJournal t es inputs) (tick : ℕ)
+    (s : SiteNo) where
   abbrev w : World
   w = world_of t es
 
@@ -197,7 +198,8 @@ module _ (t : Network) (lawful : IsLawful t) (es : List JournalEntry) (inputs : 
         ap (λ (labels : Labels). use_of uses (label_in labels (attachment_of site attachment))) (later-other n apart)
         ∙ is.sites site attachment (subst (λ (labels : Labels). HasLabel labels (attachment_of site attachment)) (later-other n apart) has);
     reserved = is.reserved;
-    others = λ label none. is.others label (subst (λ (labels : Labels). (thing : Bind) → HasLabel labels thing → label_in labels thing ≢ label) (later-other n apart) none);
+    others = λ label none. is.others label (subst (λ (labels : Labels). (thing : Bind) → HasLabel labels thing →
+        label_in labels thing ≢ label) (later-other n apart) none);
   }
     where
       for-same : (hop edge : ℕ) → label_for g hop edge ≡ label_for later hop edge
@@ -295,7 +297,8 @@ module _ (t : Network) (es : List JournalEntry) (old : Carried) (node : ℕ) (wa
   pub spent-stays : IsTransport t es (record old { nodes = slice_set old.nodes node now })
   spent-stays = record {
     each = length-set old.nodes node now ∙ stands.each;
-    nodes = each-set (IsNode t (given t es) (rested_of t es) (world_of t es)) old.nodes node was now here node-stays (λ other x apart at. stands.nodes other x at);
+    nodes = each-set (IsNode t (given t es) (rested_of t es) (world_of t es)) old.nodes node was now here node-stays
+        (λ other x apart at. stands.nodes other x at);
     changes = stands.changes;
     up = stands.up;
     switches = stands.switches;

@@ -1,5 +1,6 @@
--- Where a message has its turn to be heard, the end of its direction hears it as it was said.
-use Rattle.std.proofs.Common.{ℕ, zero, suc, ◌≡◌, ◌+◌, ◌<◌, ◌^◌, inl, Bool, true, false, not, List, [], ◌∷◌, length, map, drop, refl, arith, sym, ◌∙◌, ap, subst, None, Some}
+-- Where a message has its turn to be received, the end of its direction receives it as it was sent.
+use Rattle.std.proofs.Common.{ℕ, zero, suc, ◌≡◌, ◌+◌, ◌<◌, ◌^◌, inl, Bool, true, false, not, List, [], ◌∷◌, length, map, drop, refl, arith, sym, ◌∙◌, ap, subst}
+use Rattle.std.proofs.Common.{None, Some}
 use Rattle.std.specs.Prelude.{◌&&◌, nat_le, slice_index_or, option_map, Ok, if◌then◌else◌}
 use Rattle.std.proofs.lemmas.List.Elements.{Contains-get_or}
 use Rattle.mn_base.proofs.Bools.{or_off, not_at_most_tells, less_tells}
@@ -55,7 +56,7 @@ in_session true true e f s = refl
 in_session true false e f s = cc
 in_session false c e f s = cc
 
--- the message that is heard next is the first of those that weren't
+-- the message that is received next is the first of those that weren't
 first_left : (ms : List Message) (n : ℕ) → n < length ms → In (drop n ms) (slice_index_or ms n Address)
 first_left [] n h = absurd (let none : n < 0 → ⊥ = (λ p. omega (arith, p)) in none h)
 first_left (m ∷ ms) zero h = inl refl
@@ -70,9 +71,10 @@ module _ (t : Network) (lawful : IsLawful t) (es : List JournalEntry) (ps : List
   abbrev own : Labelling
   own = labels_at t (pushed es tick (step.HearLdp l dir))
 
-  -- what is heard, with the label that its FEC has then
+  -- what is received, with the label that its FEC has then
   abbrev pub event : Event
-  event = event_with (wiring_of t) (labels_at t (pushed es tick (step.HearLdp l dir))) (receiver (wiring_of t) l.0 dir) (hears_next t (world_of t es) l.0 (receiver (wiring_of t) l.0 dir))
+  event = event_with (wiring_of t) (labels_at t (pushed es tick (step.HearLdp l dir))) (receiver (wiring_of t) l.0 dir)
+      (hears_next t (world_of t es) l.0 (receiver (wiring_of t) l.0 dir))
 
   abbrev r : ℕ
   r = receiver (wiring_of t) l.0 dir
@@ -151,7 +153,8 @@ module _ (t : Network) (lawful : IsLawful t) (es : List JournalEntry) (ps : List
   kept_session = session_with (own_of (given t es) (across (wiring_of t) l.0 (receiver (wiring_of t) l.0 dir))) session
 
   abbrev bytes : List ℕ
-  bytes = (pdu_in_network (wiring_of t) l.0 (sender (wiring_of t) l.0 dir) (own (sender (wiring_of t) l.0 dir)) (own (across (wiring_of t) l.0 (sender (wiring_of t) l.0 dir)))
+  bytes = (pdu_in_network (wiring_of t) l.0 (sender (wiring_of t) l.0 dir) (own (sender (wiring_of t) l.0 dir))
+      (own (across (wiring_of t) l.0 (sender (wiring_of t) l.0 dir)))
       (1 + w.sessions.heard l.0 (receiver (wiring_of t) l.0 dir)) message).bytes
 
   flying : map (λ item. item.item) (on_channel (channel l.0 dir) carried.messages)
@@ -181,7 +184,8 @@ module _ (t : Network) (lawful : IsLawful t) (es : List JournalEntry) (ps : List
       let may : MayAct t carried (receiver (wiring_of t) l.0 dir) event =
       may-act t lawful (given t es) (rested_of t es) w carried stands turn.few (receiver (wiring_of t) l.0 dir) event (receives dir) below at_end
       (open-at t lawful (given t es) (rested_of t es) w carried stands (receiver (wiring_of t) l.0 dir) l.0 below alive at_end) in
-      let is : IsNode t (given t es) (rested_of t es) w (receiver (wiring_of t) l.0 dir) may.was = stands.nodes (receiver (wiring_of t) l.0 dir) may.was may.there in
+      let is : IsNode t (given t es) (rested_of t es) w (receiver (wiring_of t) l.0 dir) may.was =
+      stands.nodes (receiver (wiring_of t) l.0 dir) may.was may.there in
       record {
         may = may;
         link = refl;

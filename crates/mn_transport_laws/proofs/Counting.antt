@@ -35,9 +35,10 @@ use Rattle.mn_lsr.specs.Turns.{rested_by_event, rested_by_message, rested_by_end
 use Rattle.mn_transport_laws.specs.Resting.{IsResting, HasRow}
 use Rattle.mn_transport_laws.proofs.Rows.{LeadsAlone}
 use Rattle.mn_transport_laws.proofs.Owed.{IsSame, HearsOne, next_is, row-counts}
-use Rattle.mn_transport_laws.proofs.Rested.{HasCounts, IsLong, is-same, row-same, row-none, row-heard, row-closed, message-off, end-off, message-long, end-long, message-tick, message-still, end-tick, end-still}
+use Rattle.mn_transport_laws.proofs.Rested.{HasCounts, IsLong, is-same, row-same, row-none, row-heard, row-closed, message-off, end-off, message-long, end-long}
+use Rattle.mn_transport_laws.proofs.Rested.{message-tick, message-still, end-tick, end-still}
 
--- 1. What an event makes of the rows and ticks, before anything is said
+-- 1. What an event makes of the rows and ticks, before anything is sent
 
 pub record GoesBy (t : Network) (w : World) (k : Sessions) (tick m : ℕ) (lays : ℕ → Bool) (on_then : ℕ → Bool) (r next : Resting) : Type 0 where
   pub rows : (l : ℕ) → l < length t.links → is_end (wiring_of t) l m ≡ true → HasCounts t k l m (on_then l) (row_of next (across (wiring_of t) l m))
@@ -47,7 +48,7 @@ pub record GoesBy (t : Network) (w : World) (k : Sessions) (tick m : ℕ) (lays 
   pub laid : (p : ℕ) → p < length t.loopbacks → lays p ≡ true → slice_index_or next.rested p 0 ≡ tick
   pub still : (p : ℕ) → p < length t.loopbacks → lays p ≡ false → slice_index_or next.rested p 0 ≡ slice_index_or r.rested p 0
 
--- OPERATIONAL by the session's life and by how much was heard
+-- OPERATIONAL by the session's life and by how much was received
 abbrev pub is_on : Network → Config → Sessions → ℕ → ℕ → Bool
 is_on t c k m l = (lives c l && is_end (wiring_of t) l m) && nat_le 2 (k.heard l m)
 
@@ -107,7 +108,8 @@ goes-learn t w node l tick m rested n r is = record {
 
 module _ (t : Network) (w : World) (s : Step) (j m tick : ℕ) (inside : j < length t.links) (ends : is_end (wiring_of t) j m ≡ true)
     (others : (l : ℕ) → l ≢ j → lives (after t w s).config l ≡ lives w.config l) (brings : (p : ℕ) → brings_release t w s m p ≡ false)
-    (leads : LeadsAlone (wiring_of t) m j (across (wiring_of t) j m)) (rested : ℕ → ℕ) (n : Node) (me : n.me ≡ m) (r : Resting) (is : IsResting t w rested m r) where
+    (leads : LeadsAlone (wiring_of t) m j (across (wiring_of t) j m)) (rested : ℕ →
+    ℕ) (n : Node) (me : n.me ≡ m) (r : Resting) (is : IsResting t w rested m r) where
   same_off : (l : ℕ) → l ≢ j → IsSame t w.sessions (ldp_restarted w.sessions j) l m
   same_off l d = record {
     heard = (anew_off w.sessions j l m d).1;
@@ -135,7 +137,8 @@ module _ (t : Network) (w : World) (s : Step) (j m tick : ℕ) (inside : j < len
       (rested_by_event (wiring_of t) tick n (Opens j) r)
   goes-open dead = record {
     rows = λ l below at. elim (eqb_tells l j) [
-      | inl p ↦ subst (λ i. HasCounts t (ldp_restarted w.sessions j) i m (is_on t (after t w s).config (ldp_restarted w.sessions j) m i) (row_of r (across (wiring_of t) i m)))
+      | inl p ↦ subst (λ i. HasCounts t (ldp_restarted w.sessions j) i m (is_on t (after t w s).config (ldp_restarted w.sessions j) m i)
+          (row_of r (across (wiring_of t) i m)))
           (sym p.1) (row-none t (ldp_restarted w.sessions j) j m _ _ on_here none)
       | inr p ↦ row-same t w.sessions (ldp_restarted w.sessions j) l m _ _ (row_of r (across (wiring_of t) l m)) _ (on_off l p.1) (same_off l p.1) refl
           (rows-before t w m rested r is l below at)
@@ -147,7 +150,8 @@ module _ (t : Network) (w : World) (s : Step) (j m tick : ℕ) (inside : j < len
   }
     where
       none : row_of r (across (wiring_of t) j m) ≡ None
-      none = subst (λ b. HasCounts t w.sessions j m ((b && is_end (wiring_of t) j m) && nat_le 2 (w.sessions.heard j m)) (row_of r (across (wiring_of t) j m))) dead
+      none = subst (λ b. HasCounts t w.sessions j m ((b && is_end (wiring_of t) j m) && nat_le 2 (w.sessions.heard j m)) (row_of r (across (wiring_of t) j m)))
+          dead
           (rows-before t w m rested r is j inside ends)
 
       live_on : (l : ℕ) → l < length t.links → lives w.config l ≡ true → lives (after t w s).config l ≡ true
@@ -200,7 +204,8 @@ module _ (t : Network) (w : World) (s : Step) (j m tick : ℕ) (inside : j < len
         | inr off ↦ passes_none (λ l. is_operational_on t w m l && not (lives (after t w s).config l)) (links_at (wiring_of t) m) (each off) ∙ sym off
       ]
         where
-          each : is_operational_on t w m j ≡ false → (l : ℕ) → In (links_at (wiring_of t) m) l → (is_operational_on t w m l && not (lives (after t w s).config l)) ≡ false
+          each : is_operational_on t w m j ≡ false → (l : ℕ) → In (links_at (wiring_of t) m) l →
+              (is_operational_on t w m l && not (lives (after t w s).config l)) ≡ false
           each off l i = elim (eqb_tells l j) [
             | inl p ↦ ap (λ k. is_operational_on t w m k && not (lives (after t w s).config k)) p.1 ∙ ap (λ b. b && not (lives (after t w s).config j)) off
             | inr p ↦
@@ -215,7 +220,7 @@ module _ (t : Network) (w : World) (s : Step) (j m tick : ℕ) (inside : j < len
               by true b h = ap not (h refl)
               by false b h = refl
 
--- 4. It hears a message
+-- 4. It receives a message
 
 module _ (t : Network) (lawful : IsLawful t) (w : World) (j : LinkNo) (dir : Dir) (tick label : ℕ) (message : Message)
     (inside : j.0 < length t.links) (free : Released t w.sessions) (turn : EndsAreInTurn t w.config w.sessions) where
@@ -232,7 +237,8 @@ module _ (t : Network) (lawful : IsLawful t) (w : World) (j : LinkNo) (dir : Dir
       (brings : (p : ℕ) → brings_release t w (step.HearLdp j dir) (receiver (wiring_of t) j.0 dir) p ≡ is_release p message)
       (leads : LeadsAlone (wiring_of t) (receiver (wiring_of t) j.0 dir) j.0 (across (wiring_of t) j.0 (receiver (wiring_of t) j.0 dir)))
       (rested : ℕ → ℕ) (n : Node) (me : n.me ≡ receiver (wiring_of t) j.0 dir) (r : Resting) (is : IsResting t w rested (receiver (wiring_of t) j.0 dir) r)
-      (state : state_in (session_at n j.0) ≡ Some (state_by (is_active t j.0 (receiver (wiring_of t) j.0 dir)) (w.sessions.heard j.0 (receiver (wiring_of t) j.0 dir))))
+      (state : state_in (session_at n j.0)
+      ≡ Some (state_by (is_active t j.0 (receiver (wiring_of t) j.0 dir)) (w.sessions.heard j.0 (receiver (wiring_of t) j.0 dir))))
       (far_inside : across (wiring_of t) j.0 (receiver (wiring_of t) j.0 dir) < length r.owed) (each_fec : length r.rested ≡ length t.loopbacks) where
     abbrev st : LdpState
     st = state_by (is_active t j.0 at) (w.sessions.heard j.0 at)
@@ -248,16 +254,20 @@ module _ (t : Network) (lawful : IsLawful t) (w : World) (j : LinkNo) (dir : Dir
 
     on_at : is_on t w.config then_k at j.0 ≡ nat_le 2 (w.sessions.heard j.0 at + 1)
     on_at = ap (λ h. (lives w.config j.0 && is_end (wiring_of t) j.0 at) && nat_le 2 h) hears.heard
-        ∙ ap (λ b. (b && is_end (wiring_of t) j.0 at) && nat_le 2 (w.sessions.heard j.0 at + 1)) alive ∙ ap (λ b. b && nat_le 2 (w.sessions.heard j.0 at + 1)) ends
+        ∙ ap (λ b. (b && is_end (wiring_of t) j.0 at) && nat_le 2 (w.sessions.heard j.0 at + 1)) alive
+        ∙ ap (λ b. b && nat_le 2 (w.sessions.heard j.0 at + 1)) ends
 
     was : HasCounts t w.sessions j.0 at (nat_le 2 (w.sessions.heard j.0 at)) (row_of r (across (wiring_of t) j.0 at))
     was = subst (λ b. HasCounts t w.sessions j.0 at b (row_of r (across (wiring_of t) j.0 at)))
         (ap (λ b. (b && is_end (wiring_of t) j.0 at) && nat_le 2 (w.sessions.heard j.0 at)) alive ∙ ap (λ b. b && nat_le 2 (w.sessions.heard j.0 at)) ends)
         (rows-before t w at rested r is j.0 inside ends)
 
-    here : HasCounts t then_k j.0 at (is_on t w.config then_k at j.0) (row_of (rested_by_message tick message (Some st) (across (wiring_of t) j.0 at) r) (across (wiring_of t) j.0 at))
-    here = subst (λ b. HasCounts t then_k j.0 at b (row_of (rested_by_message tick message (Some st) (across (wiring_of t) j.0 at) r) (across (wiring_of t) j.0 at))) (sym on_at)
-        (row-heard t w.sessions then_k j.0 at tick lawful message r free inside ends hears is_next (w.sessions.heard j.0 at) refl has ((turn j.0 at inside ends).talk alive)
+    here : HasCounts t then_k j.0 at (is_on t w.config then_k at j.0) (row_of (rested_by_message tick message (Some st) (across (wiring_of t) j.0 at) r)
+        (across (wiring_of t) j.0 at))
+    here = subst (λ b. HasCounts t then_k j.0 at b (row_of (rested_by_message tick message (Some st) (across (wiring_of t) j.0 at) r)
+        (across (wiring_of t) j.0 at))) (sym on_at)
+        (row-heard t w.sessions then_k j.0 at tick lawful message r free inside ends hears is_next (w.sessions.heard j.0 at) refl has
+        ((turn j.0 at inside ends).talk alive)
         far_inside each_fec was)
 
     none : ends_session t w (step.HearLdp j dir) at ≡ false
@@ -285,6 +295,7 @@ module _ (t : Network) (lawful : IsLawful t) (w : World) (j : LinkNo) (dir : Dir
           ];
           strangers = λ other d. message-off tick message (Some st) (across (wiring_of t) j.0 at) other r (λ e. d j.0 inside ends (sym e));
           long = message-long tick message (Some st) (across (wiring_of t) j.0 at) r;
-          laid = λ p below h. message-tick tick message (Some st) (across (wiring_of t) j.0 at) p r (subst (λ x. p < x) (sym each_fec) below) (sym (lays p) ∙ h);
+          laid = λ p below h. message-tick tick message (Some st) (across (wiring_of t) j.0 at) p r (subst (λ x. p < x) (sym each_fec) below) (sym (lays p)
+              ∙ h);
           still = λ p below h. message-still tick message (Some st) (across (wiring_of t) j.0 at) p r (sym (lays p) ∙ h);
         })

@@ -46,7 +46,8 @@ some_there : (o : Option ℕ) → is_none o ≡ false → (n : ℕ) × (o ≡ So
 some_there None e = absurd (let no : true ≡ false → ⊥ = (λ q. cc) in no e)
 some_there (Some n) e = (n, refl)
 
-module _ (t : Network) (lawful : IsLawful t) (es : List JournalEntry) (inputs : List (List ℕ)) (by_law : IsLawfulJournal t es inputs) (tick : ℕ) (s : SiteNo) where
+module _ (t : Network) (lawful : IsLawful t) (es : List JournalEntry) (inputs : List (List ℕ)) (by_law : IsLawfulJournal t es inputs) (tick : ℕ)
+    (s : SiteNo) where
   abbrev w : World
   w = world_of t es
 

@@ -46,7 +46,7 @@ pub then-stands : (t : Network) (es : List JournalEntry) (tick : ℕ) (s : Step)
 then-stands t es tick s new stands =
     subst (λ v. StandsFor t (given t (pushed es tick s)) (rested_of t (pushed es tick s)) v new) (sym (world-then t es tick s)) stands
 
--- what is said in the step is what the acting nodes say
+-- what is sent in the step is what the acting nodes say
 pub messages-are : (t : Network) (es : List JournalEntry) (lawful : IsLawful t) (s : Step) → IsTurn t (world_of t es) s → is_transport s ≡ true
     → messages_now t es s ≡ map message_of (flat_map (node_says t (world_of t es) s) (acting t s))
 messages-are t es lawful s turn moves =
@@ -77,7 +77,8 @@ module _ (t : Network) (lawful : IsLawful t) (tick number next : ℕ) (old new :
       (n : ℕ) → is_end (wiring_of t) l.0 n ≡ true → IsHere (wiring_of t) (node_at t (world_of t es) n) (Opens l.0)
   here-up es l there n at = (there, at, subst (λ k. l.0 < k) (sym (length-map-range_with_len _ 0 (length t.links))) there)
 
-  puts-up : (es : List JournalEntry) (ps : List (List ℕ)) → IsLawfulJournal t es ps → (l : LinkNo) → IsTransport t es old → IsTurn t (world_of t es) (step.LinkUp l) →
+  puts-up : (es : List JournalEntry) (ps : List (List ℕ)) → IsLawfulJournal t es ps → (l : LinkNo) → IsTransport t es old →
+      IsTurn t (world_of t es) (step.LinkUp l) →
       TurnsLink t tick number l.0 true old new next
       → Puts t tick (number + length t.loopbacks) (messages_now t es (step.LinkUp l)) (told t tick number l.0 old).messages new.messages next
   puts-up es ps journal l stands turn did =
@@ -102,7 +103,8 @@ module _ (t : Network) (lawful : IsLawful t) (tick number next : ℕ) (old new :
           (λ n. happens-up t (world_of t es) l turn.changes false e n ∙ no_event (is_end (wiring_of t) l.0 n))
           (number + length t.loopbacks) next (told t tick number l.0 old).messages new.messages (ap (λ (c : Carried). c.messages) same.0) same.1
 
-  puts-down : (es : List JournalEntry) (ps : List (List ℕ)) → IsLawfulJournal t es ps → (l : LinkNo) → IsTransport t es old → IsTurn t (world_of t es) (step.LinkDown l) →
+  puts-down : (es : List JournalEntry) (ps : List (List ℕ)) → IsLawfulJournal t es ps → (l : LinkNo) → IsTransport t es old →
+      IsTurn t (world_of t es) (step.LinkDown l) →
       TurnsLink t tick number l.0 false old new next
       → Puts t tick (number + length t.loopbacks) (messages_now t es (step.LinkDown l)) (told t tick number l.0 old).messages new.messages next
   puts-down es ps journal l stands turn did =
@@ -131,7 +133,8 @@ module _ (t : Network) (lawful : IsLawful t) (tick number next : ℕ) (old new :
           (λ n. happens-down t (world_of t es) l was false e n ∙ no_event (is_end (wiring_of t) l.0 n))
           (number + length t.loopbacks) next (told t tick number l.0 old).messages new.messages (ap (λ (c : Carried). c.messages) same.0) same.1
 
-  puts-switch : (es : List JournalEntry) (ps : List (List ℕ)) → IsLawfulJournal t es ps → (l : LinkNo) (on : Bool) → IsTransport t es old → IsTurn t (world_of t es) (step.LdpAdmin l on) →
+  puts-switch : (es : List JournalEntry) (ps : List (List ℕ)) → IsLawfulJournal t es ps → (l : LinkNo) (on : Bool) → IsTransport t es old →
+      IsTurn t (world_of t es) (step.LdpAdmin l on) →
       Switches t tick number l.0 on old new next
       → Puts t tick number (messages_now t es (step.LdpAdmin l on)) (switched l.0 on old).messages new.messages next
   puts-switch es ps journal l on stands turn did =
@@ -197,7 +200,8 @@ module _ (t : Network) (lawful : IsLawful t) (tick number next : ℕ) (old new :
         (keys-cut l.0 old.messages)
         ∙ ap (λ n. messages_leave (step.LinkUp l) (keys_in old.messages) ++ keys_on (of_messages t)
         (numbered t tick (number + n) (messages_now t es (step.LinkUp l)))) (sym (length-notices l.0));
-    count = λ es stands turn. made-is (length t.loopbacks) (messages_now t es (step.LinkUp l)) (puts-up es turn.inputs turn.lawful l stands turn.turn did).next_is
+    count = λ es stands turn. made-is (length t.loopbacks) (messages_now t es (step.LinkUp l))
+        (puts-up es turn.inputs turn.lawful l stands turn.turn did).next_is
         ∙ ap (λ n. n + length (messages_now t es (step.LinkUp l))) (sym (length-notices l.0));
   }
 
@@ -212,7 +216,8 @@ module _ (t : Network) (lawful : IsLawful t) (tick number next : ℕ) (old new :
         (keys-cut l.0 old.messages)
         ∙ ap (λ n. messages_leave (step.LinkDown l) (keys_in old.messages) ++ keys_on (of_messages t)
         (numbered t tick (number + n) (messages_now t es (step.LinkDown l)))) (sym (length-notices l.0));
-    count = λ es stands turn. made-is (length t.loopbacks) (messages_now t es (step.LinkDown l)) (puts-down es turn.inputs turn.lawful l stands turn.turn did).next_is
+    count = λ es stands turn. made-is (length t.loopbacks) (messages_now t es (step.LinkDown l))
+        (puts-down es turn.inputs turn.lawful l stands turn.turn did).next_is
         ∙ ap (λ n. n + length (messages_now t es (step.LinkDown l))) (sym (length-notices l.0));
   }
 

@@ -50,7 +50,7 @@ use Rattle.mn_slice_laws.proofs.Nodes.{off_end as end-of}
 
 -- 1. A life begins or ends
 
--- what flies on the link is cut, as nothing was said in the new life
+-- what flies on the link is cut, as nothing was sent in the new life
 pub cut-anew : (w : Wiring) (g : Labelling) (s : Sessions) (l k : ℕ) (dir : Dir) (items : List (Item (List ℕ))) →
     FliesAs w g k dir (s.heard k (receiver w k dir)) (s.said k (sender w k dir)) items
     → FliesAs w g k dir ((ldp_restarted s l).heard k (receiver w k dir)) ((ldp_restarted s l).said k (sender w k dir)) (off_link l items)
@@ -77,7 +77,7 @@ heard-anew w s l k r far h = elim (eqb_tells k l) [
       omega (arith, a, b, h))
 ]
 
--- no end has heard more than was said
+-- no end has received more than was sent
 pub heard-within : (t : Network) (w : World) (s : Step) (lawful : IsLawful t) → IsTurn t w s → (k : ℕ) (dir : Dir) → k < length t.links
     → w.sessions.heard k (receiver (wiring_of t) k dir) ≤ length (w.sessions.said k (sender (wiring_of t) k dir))
 heard-within t w s lawful turn k dir h =
@@ -112,7 +112,8 @@ module _ (t : Network) (lawful : IsLawful t) (es : List JournalEntry) (ps : List
   end_b = (link (wiring_of t) l).b.0
 
   sessions-are : (after t w s).sessions ≡ with_said (ldp_restarted w.sessions l) (node_says t w s end_a ++ (node_says t w s end_b ++ []))
-  sessions-are = sessions-then t lawful es ps journal tick s turn moves ∙ ap (λ ms. with_said (ldp_counted t w.sessions s) (flat_map (node_says t w s) ms)) acts_are
+  sessions-are = sessions-then t lawful es ps journal tick s turn moves
+      ∙ ap (λ ms. with_said (ldp_counted t w.sessions s) (flat_map (node_says t w s) ms)) acts_are
       ∙ ap (λ k. with_said k (node_says t w s end_a ++ (node_says t w s end_b ++ []))) counts_are
 
   flies-by : (k : ℕ) (dir : Dir) (items : List (Item (List ℕ))) (a b : List Message)
@@ -213,14 +214,16 @@ module _ (t : Network) (lawful : IsLawful t) (es : List JournalEntry) (ps : List
     turned-nodes =
         subst (Each IsThen) (sym (ap (λ (c : Carried). c.nodes) did.second.new_is))
         (each-set IsThen did.middle.nodes end_b did.second.was did.second.now did.second.there
-        (node-then t lawful es ps journal tick s turn moves attached end_b b_below e b_happens (here end_b (is_end-b (wiring_of t) l)) did.second.was did.second.now second_is
+        (node-then t lawful es ps journal tick s turn moves attached end_b b_below e b_happens (here end_b (is_end-b (wiring_of t) l)) did.second.was
+        did.second.now second_is
         (subst (λ x. Becomes tick x did.second.was did.second.now) (sym (plain end_b)) did.second.becomes))
         (λ n x apart is. rest n x apart (subst (λ xs. slice_get xs n ≡ Some x) middle_nodes is)))
       where
         rest : (n : ℕ) (x : Standing) → n ≢ end_b → slice_get (slice_set old.nodes end_a did.first.now) n ≡ Some x → IsThen n x
         rest n x apart is =
             each-set (λ m y. m ≢ end_b → IsThen m y) old.nodes end_a did.first.was did.first.now did.first.there
-            (λ d. node-then t lawful es ps journal tick s turn moves attached end_a a_below e a_happens (here end_a (is_end-a (wiring_of t) l)) did.first.was did.first.now first_is
+            (λ d. node-then t lawful es ps journal tick s turn moves attached end_a a_below e a_happens (here end_a (is_end-a (wiring_of t) l)) did.first.was
+            did.first.now first_is
             (subst (λ x. Becomes tick x did.first.was did.first.now) (sym (plain end_a)) did.first.becomes))
             (λ m y off at d.
             let below : m < length t.loopbacks = subst (λ k. m < k) each (slice_get_within old.nodes m y at) in

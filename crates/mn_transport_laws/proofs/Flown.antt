@@ -1,4 +1,4 @@
--- What flies once nodes have acted is the spelling of what was said, and of what they said.
+-- What flies once nodes have acted is the spelling of what was sent, and of what they said.
 use Rattle.std.proofs.Common.{ℕ, ◌≡◌, ◌≢◌, ◌<◌, ◌≤◌, inl, inr, Bool, true, false, List, [], ◌∷◌, ◌++◌, length, map, refl, sym, ◌∙◌, ap, subst, Option, None}
 use Rattle.std.proofs.Common.{Some}
 use Rattle.std.specs.Prelude.{◌&&◌, ◌==◌, if◌then◌else◌, filter, option_map}
@@ -68,7 +68,7 @@ own-lives w n l me (x ∷ xs) own some = elim (eqb_tells x.link l) [
 
 -- 2. Other labels
 
--- with other labels a session has said as much
+-- with other labels a session has sent as much
 pub count-with : (f : ℕ → ℕ) (o : Option Session) → count_of (option_map (session_with f) o) ≡ count_of o
 count-with f None = refl
 count-with f (Some session) = refl
@@ -134,9 +134,11 @@ module _ (t : Network) (lawful : IsLawful t) (es : List JournalEntry) (ps : List
       FliesAs (wiring_of t) (labels_at t (pushed es tick s)) l dir ((world_of t es).sessions.heard l (receiver (wiring_of t) l dir))
       ((world_of t es).sessions.said l (sender (wiring_of t) l dir)) old.messages
   flies-before old stands l dir below =
-      flies-same (wiring_of t) (labels_at t es) own l dir (w.sessions.heard l (receiver (wiring_of t) l dir)) (w.sessions.said l (sender (wiring_of t) l dir)) old.messages
+      flies-same (wiring_of t) (labels_at t es) own l dir (w.sessions.heard l (receiver (wiring_of t) l dir)) (w.sessions.said l (sender (wiring_of t) l dir))
+      old.messages
       (same-in-flight t lawful es ps journal _ turn.named l dir below)
-      (subst (λ g. FliesAs (wiring_of t) g l dir (w.sessions.heard l (receiver (wiring_of t) l dir)) (w.sessions.said l (sender (wiring_of t) l dir)) old.messages)
+      (subst (λ g. FliesAs (wiring_of t) g l dir (w.sessions.heard l (receiver (wiring_of t) l dir)) (w.sessions.said l (sender (wiring_of t) l dir))
+      old.messages)
       (own-is t es) (stands.messages l dir below))
 
   settled : (m : ℕ) (e : Event) → event_of t w s m ≡ Some e
@@ -158,7 +160,8 @@ module _ (t : Network) (lawful : IsLawful t) (es : List JournalEntry) (ps : List
         ≡ pdus (wiring_of t) (labels_at t (pushed es tick s) m) (released_by event) (changed (wiring_of t) before_it event) (said (wiring_of t) before_it event)
     pdus-are =
         ap (λ k. pdus_in (wiring_of t) tick k event) (was-kept t lawful es ps journal tick s turn moves m was is)
-        ∙ ap (λ labels. pdus (wiring_of t) (own_labels m labels) (released_by event) (changed (wiring_of t) before_it event) (said (wiring_of t) before_it event))
+        ∙ ap (λ labels. pdus (wiring_of t) (own_labels m labels) (released_by event) (changed (wiring_of t) before_it event)
+        (said (wiring_of t) before_it event))
         (labels-go t lawful es ps journal tick s turn moves m below e happens was.resting is.resting)
 
   -- a node acts
@@ -190,14 +193,16 @@ module _ (t : Network) (lawful : IsLawful t) (es : List JournalEntry) (ps : List
       own_then =
           subst (AllOwn (wiring_of t) (changed (wiring_of t) before_node event_it) m) (sym (says t lawful es ps journal tick s turn moves m below e happens))
           (subst (λ n. AllOwn (wiring_of t) n m (said (wiring_of t) (node_at t w m) e)) (sym (changed_with (wiring_of t) own (node_at t w m) e))
-          (own-with (wiring_of t) own (changed (wiring_of t) (node_at t w m) e) m (said (wiring_of t) (node_at t w m) e) (own-event (wiring_of t) (node_at t w m) e here)))
+          (own-with (wiring_of t) own (changed (wiring_of t) (node_at t w m) e) m (said (wiring_of t) (node_at t w m) e)
+          (own-event (wiring_of t) (node_at t w m) e here)))
 
       counts : sender (wiring_of t) l dir ≡ m → messages_of l m (said (wiring_of t) before_node event_it) ≢ [] →
           count_of (session_at (changed (wiring_of t) before_node event_it) l) ≡ length before
       counts sends some =
           let same = settled m e happens in
           let there : session_at (changed (wiring_of t) (node_at t w m) e) l ≢ None =
-          own-lives (wiring_of t) (changed (wiring_of t) (node_at t w m) e) l m (said (wiring_of t) (node_at t w m) e) (own-event (wiring_of t) (node_at t w m) e here)
+          own-lives (wiring_of t) (changed (wiring_of t) (node_at t w m) e) l m (said (wiring_of t) (node_at t w m) e)
+          (own-event (wiring_of t) (node_at t w m) e here)
           (λ none. some (ap (messages_of l m) (says t lawful es ps journal tick s turn moves m below e happens) ∙ none)) in
           ap (λ n. count_of (session_at n l)) (changed_with (wiring_of t) own (node_at t w m) e)
           ∙ ap count_of (session-with (wiring_of t) own (changed (wiring_of t) (node_at t w m) e) l)

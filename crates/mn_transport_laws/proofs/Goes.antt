@@ -101,14 +101,16 @@ module _ (t : Network) (lawful : IsLawful t) (es : List JournalEntry) (ps : List
 
   -- all that flies then is spelled by the labels of after
   abbrev FliesThen : Step → Carried → ℕ → Dir → Type 0
-  FliesThen s new k dir = FliesAs (wiring_of t) (labels_at t (pushed es tick s)) k dir ((after t (world_of t es) s).sessions.heard k (receiver (wiring_of t) k dir))
+  FliesThen s new k dir = FliesAs (wiring_of t) (labels_at t (pushed es tick s)) k dir
+      ((after t (world_of t es) s).sessions.heard k (receiver (wiring_of t) k dir))
       ((after t (world_of t es) s).sessions.said k (sender (wiring_of t) k dir)) new.messages
 
   pub by-labels : (s : Step) (new : Carried) (k : ℕ) (dir : Dir) → FliesThen s new k dir →
       FliesAs (wiring_of t) (own_of (given t (pushed es tick s))) k dir ((after t (world_of t es) s).sessions.heard k (receiver (wiring_of t) k dir))
       ((after t (world_of t es) s).sessions.said k (sender (wiring_of t) k dir)) new.messages
   by-labels s new k dir =
-      subst (λ g. FliesAs (wiring_of t) g k dir ((after t w s).sessions.heard k (receiver (wiring_of t) k dir)) ((after t w s).sessions.said k (sender (wiring_of t) k dir)) new.messages)
+      subst (λ g. FliesAs (wiring_of t) g k dir ((after t w s).sessions.heard k (receiver (wiring_of t) k dir))
+      ((after t w s).sessions.said k (sender (wiring_of t) k dir)) new.messages)
       (sym (own-is t (pushed es tick s)))
 
   are : Each (λ n x. IsNode t (given t es) (rested_of t es) w n x) old.nodes
@@ -168,7 +170,8 @@ module _ (t : Network) (lawful : IsLawful t) (es : List JournalEntry) (ps : List
               omega (arith, more, before, same, none, then_is))
         ]
 
-    link-stands : length new.nodes ≡ length t.loopbacks → NodesThen s new.nodes → ((k : ℕ) (dir : Dir) → k < length t.links → FliesThen s new k dir) → IsDone s new
+    link-stands : length new.nodes ≡ length t.loopbacks → NodesThen s new.nodes → ((k : ℕ) (dir : Dir) → k < length t.links → FliesThen s new k dir) →
+        IsDone s new
     link-stands each nodes flies = record {
       each = each;
       nodes = nodes;
@@ -212,9 +215,11 @@ module _ (t : Network) (lawful : IsLawful t) (es : List JournalEntry) (ps : List
           (number + length t.loopbacks) next (told t tick number l.0 old) new ends stands.each are)
           (turned-nodes t lawful es ps journal tick (step.LinkUp l) turn refl l.0 there refl refl (λ site. refl) (Opens l.0) on_end off_end here (λ n. refl)
           (number + length t.loopbacks) next (told t tick number l.0 old) new ends stands.each are)
-          (λ k dir h. turned-flies t lawful es ps journal tick (step.LinkUp l) turn refl l.0 there refl refl (λ site. refl) (Opens l.0) on_end off_end here (λ n. refl)
+          (λ k dir h. turned-flies t lawful es ps journal tick (step.LinkUp l) turn refl l.0 there refl refl (λ site. refl) (Opens l.0) on_end off_end here
+          (λ n. refl)
           (number + length t.loopbacks) next (told t tick number l.0 old) new ends stands.each are k dir h
-          (cut-anew (wiring_of t) (labels_at t (pushed es tick (step.LinkUp l))) w.sessions l.0 k dir old.messages (flies-before t lawful es ps journal tick (step.LinkUp l) turn refl old stands k dir h)))
+          (cut-anew (wiring_of t) (labels_at t (pushed es tick (step.LinkUp l))) w.sessions l.0 k dir old.messages
+          (flies-before t lawful es ps journal tick (step.LinkUp l) turn refl old stands k dir h)))
       by false e same =
           let none : (n : ℕ) → event_of t w (step.LinkUp l) n ≡ None = λ n. happens-up t w l turn.changes false e n ∙ no_event (is_end (wiring_of t) l.0 n) in
           link-stands (step.LinkUp l) refl l.0 there true refl refl refl turn.changes refl (λ site. refl) number new
@@ -223,7 +228,8 @@ module _ (t : Network) (lawful : IsLawful t) (es : List JournalEntry) (ps : List
           (subst (NodesThen (step.LinkUp l)) (sym (ap (λ (c : Carried). c.nodes) same.0))
           (quiet-nodes t lawful es ps journal tick (step.LinkUp l) turn refl l.0 there refl refl (λ site. refl) none old.nodes stands.each are))
           (λ k dir h. subst (λ (c : Carried). FliesThen (step.LinkUp l) c k dir) (sym same.0)
-          (quiet-flies t lawful es ps journal tick (step.LinkUp l) turn refl l.0 there refl refl (λ site. refl) none k dir old.messages (flies-before t lawful es ps journal tick (step.LinkUp l) turn refl old stands k dir h)))
+          (quiet-flies t lawful es ps journal tick (step.LinkUp l) turn refl l.0 there refl refl (λ site. refl) none k dir old.messages
+          (flies-before t lawful es ps journal tick (step.LinkUp l) turn refl old stands k dir h)))
 
   pub goes-down : (l : LinkNo) (number : ℕ) (new : Carried) (next : ℕ) → IsTurn t w (step.LinkDown l) →
       TurnsLink t tick number l.0 false old new next → IsDone (step.LinkDown l) new
@@ -244,13 +250,17 @@ module _ (t : Network) (lawful : IsLawful t) (es : List JournalEntry) (ps : List
           λ n at. happens-down t w l was true e n ∙ no_end (is_end (wiring_of t) l.0 n) (Some (Closes l.0)) at in
           link-stands (step.LinkDown l) refl l.0 there false refl refl refl was refl (λ site. refl) number new
           (ends-rest (number + length t.loopbacks) l.0 (Closes l.0) (told t tick number l.0 old) new next ends)
-          (turned-each t lawful es ps journal tick (step.LinkDown l) turn refl l.0 there refl refl (λ site. refl) (Closes l.0) on_end off_end (λ n at. tt) (λ n. refl)
+          (turned-each t lawful es ps journal tick (step.LinkDown l) turn refl l.0 there refl refl (λ site. refl) (Closes l.0) on_end off_end (λ n at. tt)
+          (λ n. refl)
           (number + length t.loopbacks) next (told t tick number l.0 old) new ends stands.each are)
-          (turned-nodes t lawful es ps journal tick (step.LinkDown l) turn refl l.0 there refl refl (λ site. refl) (Closes l.0) on_end off_end (λ n at. tt) (λ n. refl)
+          (turned-nodes t lawful es ps journal tick (step.LinkDown l) turn refl l.0 there refl refl (λ site. refl) (Closes l.0) on_end off_end (λ n at. tt)
+          (λ n. refl)
           (number + length t.loopbacks) next (told t tick number l.0 old) new ends stands.each are)
-          (λ k dir h. turned-flies t lawful es ps journal tick (step.LinkDown l) turn refl l.0 there refl refl (λ site. refl) (Closes l.0) on_end off_end (λ n at. tt)
+          (λ k dir h. turned-flies t lawful es ps journal tick (step.LinkDown l) turn refl l.0 there refl refl (λ site. refl) (Closes l.0) on_end off_end
+          (λ n at. tt)
           (λ n. refl) (number + length t.loopbacks) next (told t tick number l.0 old) new ends stands.each are k dir h
-          (cut-anew (wiring_of t) (labels_at t (pushed es tick (step.LinkDown l))) w.sessions l.0 k dir old.messages (flies-before t lawful es ps journal tick (step.LinkDown l) turn refl old stands k dir h)))
+          (cut-anew (wiring_of t) (labels_at t (pushed es tick (step.LinkDown l))) w.sessions l.0 k dir old.messages
+          (flies-before t lawful es ps journal tick (step.LinkDown l) turn refl old stands k dir h)))
       by false e same =
           let none : (n : ℕ) → event_of t w (step.LinkDown l) n ≡ None = λ n. happens-down t w l was false e n ∙ no_event (is_end (wiring_of t) l.0 n) in
           link-stands (step.LinkDown l) refl l.0 there false refl refl refl was refl (λ site. refl) number new
@@ -259,7 +269,8 @@ module _ (t : Network) (lawful : IsLawful t) (es : List JournalEntry) (ps : List
           (subst (NodesThen (step.LinkDown l)) (sym (ap (λ (c : Carried). c.nodes) same.0))
           (quiet-nodes t lawful es ps journal tick (step.LinkDown l) turn refl l.0 there refl refl (λ site. refl) none old.nodes stands.each are))
           (λ k dir h. subst (λ (c : Carried). FliesThen (step.LinkDown l) c k dir) (sym same.0)
-          (quiet-flies t lawful es ps journal tick (step.LinkDown l) turn refl l.0 there refl refl (λ site. refl) none k dir old.messages (flies-before t lawful es ps journal tick (step.LinkDown l) turn refl old stands k dir h)))
+          (quiet-flies t lawful es ps journal tick (step.LinkDown l) turn refl l.0 there refl refl (λ site. refl) none k dir old.messages
+          (flies-before t lawful es ps journal tick (step.LinkDown l) turn refl old stands k dir h)))
 
   -- 3. LDP is switched on or off for a link
 
@@ -309,11 +320,14 @@ module _ (t : Network) (lawful : IsLawful t) (es : List JournalEntry) (ps : List
           switch-stands l there on new (ends-rest number l.0 (turned_by on l.0) (switched l.0 on old) new next ends)
           (turned-each t lawful es ps journal tick (step.LdpAdmin l on) turn refl l.0 there refl refl (λ site. refl) (turned_by on l.0) on_end off_end (here on)
           (plain on) number next (switched l.0 on old) new ends stands.each are)
-          (turned-nodes t lawful es ps journal tick (step.LdpAdmin l on) turn refl l.0 there refl refl (λ site. refl) (turned_by on l.0) on_end off_end (here on)
+          (turned-nodes t lawful es ps journal tick (step.LdpAdmin l on) turn refl l.0 there refl refl (λ site. refl) (turned_by on l.0) on_end off_end
+          (here on)
           (plain on) number next (switched l.0 on old) new ends stands.each are)
-          (λ k dir h. turned-flies t lawful es ps journal tick (step.LdpAdmin l on) turn refl l.0 there refl refl (λ site. refl) (turned_by on l.0) on_end off_end
+          (λ k dir h. turned-flies t lawful es ps journal tick (step.LdpAdmin l on) turn refl l.0 there refl refl (λ site. refl)
+          (turned_by on l.0) on_end off_end
           (here on) (plain on) number next (switched l.0 on old) new ends stands.each are k dir h
-          (cut-anew (wiring_of t) (labels_at t (pushed es tick (step.LdpAdmin l on))) w.sessions l.0 k dir old.messages (flies-before t lawful es ps journal tick (step.LdpAdmin l on) turn refl old stands k dir h)))
+          (cut-anew (wiring_of t) (labels_at t (pushed es tick (step.LdpAdmin l on))) w.sessions l.0 k dir old.messages
+          (flies-before t lawful es ps journal tick (step.LdpAdmin l on) turn refl old stands k dir h)))
       by false e same =
           let none : (n : ℕ) → event_of t w (step.LdpAdmin l on) n ≡ None = λ n. happens-switch t w l on false e n ∙ no_event (is_end (wiring_of t) l.0 n) in
           switch-stands l there on new (same-rest (switched l.0 on old) new same.0)
@@ -321,4 +335,5 @@ module _ (t : Network) (lawful : IsLawful t) (es : List JournalEntry) (ps : List
           (subst (NodesThen (step.LdpAdmin l on)) (sym (ap (λ (c : Carried). c.nodes) same.0))
           (quiet-nodes t lawful es ps journal tick (step.LdpAdmin l on) turn refl l.0 there refl refl (λ site. refl) none old.nodes stands.each are))
           (λ k dir h. subst (λ (c : Carried). FliesThen (step.LdpAdmin l on) c k dir) (sym same.0)
-          (quiet-flies t lawful es ps journal tick (step.LdpAdmin l on) turn refl l.0 there refl refl (λ site. refl) none k dir old.messages (flies-before t lawful es ps journal tick (step.LdpAdmin l on) turn refl old stands k dir h)))
+          (quiet-flies t lawful es ps journal tick (step.LdpAdmin l on) turn refl l.0 there refl refl (λ site. refl) none k dir old.messages
+          (flies-before t lawful es ps journal tick (step.LdpAdmin l on) turn refl old stands k dir h)))

@@ -1,4 +1,4 @@
--- What each step of the transport makes of what a node counts, before anything is said.
+-- What each step of the transport makes of what a node counts, before anything is sent.
 use Rattle.std.proofs.Common.{ℕ, zero, suc, ◌≡◌, ◌≢◌, ◌+◌, ◌<◌, inl, inr, Bool, true, false, List, [], ◌∷◌, length, refl, arith, sym, ◌∙◌, ap, subst}
 use Rattle.std.proofs.Common.{Option, Some, None}
 use Rattle.std.specs.Prelude.{◌==◌, ◌&&◌, ◌||◌, not, nat_le, if◌then◌else◌, option_map, slice_index_or}
@@ -106,7 +106,8 @@ module _ (t : Network) (lawful : IsLawful t) (w : World) (s : Step) (g : Labelli
   module _ (j : ℕ) (inside : j < length t.links) (counts_are : ldp_counted t w.sessions s ≡ ldp_restarted w.sessions j)
       (others : (l : ℕ) → l ≢ j → lives (after t w s).config l ≡ lives w.config l) (once : lives w.config j ≡ true → lives (after t w s).config j ≡ false)
       (brings : (p : ℕ) → brings_release t w s m p ≡ false) where
-    as_counted : (o : Option Event) → GoesBy t w (ldp_restarted w.sessions j) tick m (lays_by t w s m) (is_on t (after t w s).config (ldp_restarted w.sessions j) m) r
+    as_counted : (o : Option Event) →
+        GoesBy t w (ldp_restarted w.sessions j) tick m (lays_by t w s m) (is_on t (after t w s).config (ldp_restarted w.sessions j) m) r
         (rested_any (wiring_of t) tick node (option_map (event_with (wiring_of t) g m) o) r) → Goes o
     as_counted o = subst (λ (k : Sessions). GoesBy t w k tick m (lays_by t w s m) (is_on t (after t w s).config k m) r
         (rested_any (wiring_of t) tick node (option_map (event_with (wiring_of t) g m) o) r)) (sym counts_are)
@@ -117,7 +118,12 @@ module _ (t : Network) (lawful : IsLawful t) (w : World) (s : Step) (g : Labelli
     row_off l under at d = row-same t w.sessions (ldp_restarted w.sessions j) l m _ _ (row_of r (across (wiring_of t) l m)) _
         (ap (λ b. (b && is_end (wiring_of t) l m) && nat_le 2 ((ldp_restarted w.sessions j).heard l m)) (others l d)
         ∙ ap (λ h. (lives w.config l && is_end (wiring_of t) l m) && nat_le 2 h) (anew_off w.sessions j l m d).1)
-        (record { heard = (anew_off w.sessions j l m d).1; own = (anew_off w.sessions j l m d).0; far = (anew_off w.sessions j l (across (wiring_of t) l m) d).0 })
+        (record {
+          heard = (anew_off w.sessions j l m d).1;
+          own = (anew_off w.sessions j l m d).0;
+          far =
+              (anew_off w.sessions j l (across (wiring_of t) l m) d).0;
+        })
         refl (rows-before t w m rested r is l under at)
 
     no_session : ((l : ℕ) → l < length t.links → lives w.config l ≡ true → lives (after t w s).config l ≡ true) → ends_session t w s m ≡ false
@@ -145,10 +151,12 @@ module _ (t : Network) (lawful : IsLawful t) (w : World) (s : Step) (g : Labelli
     dead_still dead still_dead = as_counted None (record {
       rows = λ l under at. elim (eqb_tells l j) [
         | inr p ↦ row_off l under at p.1
-        | inl p ↦ subst (λ i. HasCounts t (ldp_restarted w.sessions j) i m (is_on t (after t w s).config (ldp_restarted w.sessions j) m i) (row_of r (across (wiring_of t) i m)))
+        | inl p ↦ subst (λ i. HasCounts t (ldp_restarted w.sessions j) i m (is_on t (after t w s).config (ldp_restarted w.sessions j) m i)
+            (row_of r (across (wiring_of t) i m)))
             (sym p.1) (row-none t (ldp_restarted w.sessions j) j m _ _
             (ap (λ b. (b && is_end (wiring_of t) j m) && nat_le 2 ((ldp_restarted w.sessions j).heard j m)) still_dead)
-            (subst (λ b. HasCounts t w.sessions j m ((b && is_end (wiring_of t) j m) && nat_le 2 (w.sessions.heard j m)) (row_of r (across (wiring_of t) j m))) dead
+            (subst (λ b. HasCounts t w.sessions j m ((b && is_end (wiring_of t) j m) && nat_le 2 (w.sessions.heard j m)) (row_of r (across (wiring_of t) j m)))
+            dead
             (rows-before t w m rested r is j inside (subst (λ k. is_end (wiring_of t) k m ≡ true) p.1 at))))
       ];
       strangers = λ other d. refl;
@@ -187,12 +195,14 @@ module _ (t : Network) (lawful : IsLawful t) (w : World) (g : Labelling) (tick :
   inside : j.0 < length t.links
   inside = less_tells j.0 (length t.links) turn.fitting
 
-  ends : (is_end (wiring_of t) j.0 (receiver (wiring_of t) j.0 dir) ≡ true) × (across (wiring_of t) j.0 (receiver (wiring_of t) j.0 dir) ≡ sender (wiring_of t) j.0 dir)
+  ends : (is_end (wiring_of t) j.0 (receiver (wiring_of t) j.0 dir) ≡ true) × (across (wiring_of t) j.0 (receiver (wiring_of t) j.0 dir)
+      ≡ sender (wiring_of t) j.0 dir)
   ends = dir_ends (wiring_of t) j.0 dir (lawful.ends_differ j.0 inside)
 
   waits : (not (lives w.config j.0) ≡ false)
       × (nat_le (length (w.sessions.said j.0 (sender (wiring_of t) j.0 dir))) (w.sessions.heard j.0 (receiver (wiring_of t) j.0 dir)) ≡ false)
-  waits = or_off (not (lives w.config j.0)) (nat_le (length (w.sessions.said j.0 (sender (wiring_of t) j.0 dir))) (w.sessions.heard j.0 (receiver (wiring_of t) j.0 dir))) turn.there
+  waits = or_off (not (lives w.config j.0))
+      (nat_le (length (w.sessions.said j.0 (sender (wiring_of t) j.0 dir))) (w.sessions.heard j.0 (receiver (wiring_of t) j.0 dir))) turn.there
 
   alive : lives w.config j.0 ≡ true
   alive = was_on (lives w.config j.0) waits.0
@@ -205,16 +215,19 @@ module _ (t : Network) (lawful : IsLawful t) (w : World) (g : Labelling) (tick :
   more = subst (λ n. w.sessions.heard j.0 (receiver (wiring_of t) j.0 dir) < length (w.sessions.said j.0 n)) (sym ends.1)
       (not_at_most_tells (length (w.sessions.said j.0 (sender (wiring_of t) j.0 dir))) (w.sessions.heard j.0 (receiver (wiring_of t) j.0 dir)) waits.1)
 
-  brings : (p : ℕ) → brings_release t w (step.HearLdp j dir) (receiver (wiring_of t) j.0 dir) p ≡ is_release p (next_heard t w j.0 (receiver (wiring_of t) j.0 dir))
+  brings : (p : ℕ) → brings_release t w (step.HearLdp j dir) (receiver (wiring_of t) j.0 dir) p ≡ is_release p
+      (next_heard t w j.0 (receiver (wiring_of t) j.0 dir))
   brings p =
-      ap (λ b. b && is_release p (slice_index_or (w.sessions.said j.0 (sender (wiring_of t) j.0 dir)) (w.sessions.heard j.0 (receiver (wiring_of t) j.0 dir)) Address))
+      ap (λ b. b && is_release p (slice_index_or (w.sessions.said j.0 (sender (wiring_of t) j.0 dir)) (w.sessions.heard j.0 (receiver (wiring_of t) j.0 dir))
+      Address))
       (same_test (receiver (wiring_of t) j.0 dir))
       ∙ ap (λ n. is_release p (slice_index_or (w.sessions.said j.0 n) (w.sessions.heard j.0 (receiver (wiring_of t) j.0 dir)) Address)) (sym ends.1)
 
-  -- what is heard by the node that receives in the direction
+  -- what is received by the node that receives in the direction
   Heard : ℕ → Type 0
   Heard x = x < length t.loopbacks → IsResting t w rested x r →
-      GoesBy t w (ldp_counted t w.sessions (step.HearLdp j dir)) tick x (lays_by t w (step.HearLdp j dir) x) (is_on t w.config (ldp_counted t w.sessions (step.HearLdp j dir)) x) r
+      GoesBy t w (ldp_counted t w.sessions (step.HearLdp j dir)) tick x (lays_by t w (step.HearLdp j dir) x)
+      (is_on t w.config (ldp_counted t w.sessions (step.HearLdp j dir)) x) r
       (rested_any (wiring_of t) tick (node_with (wiring_of t) g (node_at t w x)) (option_map (event_with (wiring_of t) g x) (Some (hears_next t w j.0 x))) r)
 
   heard_here : Heard (receiver (wiring_of t) j.0 dir)
@@ -226,7 +239,8 @@ module _ (t : Network) (lawful : IsLawful t) (w : World) (g : Labelling) (tick :
       (leads t lawful w (step.HearLdp j dir) g reach tick below turn rested r is j.0 inside ends.0) rested
       (node_with (wiring_of t) g (node_at t w reach)) refl r is (state-with t w g reach j.0 inside alive ends.0)
       (subst (λ n. across (wiring_of t) j.0 reach < n) (sym is.neighbours)
-      (ends_below t lawful.joins_nodes j.0 (across (wiring_of t) j.0 reach) inside (across-end (wiring_of t) j.0 reach (lawful.ends_differ j.0 inside) ends.0).0))
+      (ends_below t lawful.joins_nodes j.0 (across (wiring_of t) j.0 reach) inside
+      (across-end (wiring_of t) j.0 reach (lawful.ends_differ j.0 inside) ends.0).0))
       is.fecs
 
   heard_by : (m : ℕ) → receiver (wiring_of t) j.0 dir ≡ m → Heard m
@@ -234,7 +248,8 @@ module _ (t : Network) (lawful : IsLawful t) (w : World) (g : Labelling) (tick :
 
   -- another node's sessions are as they were
   unheard : (m : ℕ) → receiver (wiring_of t) j.0 dir ≢ m → IsResting t w rested m r →
-      GoesBy t w (ldp_counted t w.sessions (step.HearLdp j dir)) tick m (lays_by t w (step.HearLdp j dir) m) (is_on t w.config (ldp_counted t w.sessions (step.HearLdp j dir)) m) r r
+      GoesBy t w (ldp_counted t w.sessions (step.HearLdp j dir)) tick m (lays_by t w (step.HearLdp j dir) m)
+      (is_on t w.config (ldp_counted t w.sessions (step.HearLdp j dir)) m) r r
   unheard m d is = record {
     rows = λ l under at. row-same t w.sessions (ldp_counted t w.sessions (step.HearLdp j dir)) l m _ _ (row_of r (across (wiring_of t) l m)) _
         (ap (λ h. (lives w.config l && is_end (wiring_of t) l m) && nat_le 2 h) (still l))
@@ -242,21 +257,24 @@ module _ (t : Network) (lawful : IsLawful t) (w : World) (g : Labelling) (tick :
     strangers = λ other d. refl;
     long = is-same r;
     laid = λ p under h. absurd (clash (sym h
-        ∙ ap (λ b. (b && is_release p (slice_index_or (w.sessions.said j.0 (sender (wiring_of t) j.0 dir)) (w.sessions.heard j.0 m) Address)) || ends_session t w (step.HearLdp j dir) m)
+        ∙ ap (λ b. (b && is_release p (slice_index_or (w.sessions.said j.0 (sender (wiring_of t) j.0 dir)) (w.sessions.heard j.0 m) Address))
+        || ends_session t w (step.HearLdp j dir) m)
         (other_test (receiver (wiring_of t) j.0 dir) m d)
         ∙ none_ends t w m (step.HearLdp j dir) (λ l under on. on)));
     still = λ p under h. refl;
   }
     where
       still : (l : ℕ) → (ldp_counted t w.sessions (step.HearLdp j dir)).heard l m ≡ w.sessions.heard l m
-      still l = pair_off w.sessions.heard j.0 (receiver (wiring_of t) j.0 dir) (w.sessions.heard j.0 (receiver (wiring_of t) j.0 dir) + 1) l m (inr (λ e. d (sym e)))
+      still l = pair_off w.sessions.heard j.0 (receiver (wiring_of t) j.0 dir) (w.sessions.heard j.0 (receiver (wiring_of t) j.0 dir) + 1) l m
+          (inr (λ e. d (sym e)))
 
 abbrev pub GoesAny : Network → World → Step → Labelling → ℕ → ℕ → Resting → Option Event → Type 0
 GoesAny t w s g m tick r o =
     GoesBy t w (ldp_counted t w.sessions s) tick m (lays_by t w s m) (is_on t (after t w s).config (ldp_counted t w.sessions s) m) r
     (rested_any (wiring_of t) tick (node_with (wiring_of t) g (node_at t w m)) (option_map (event_with (wiring_of t) g m) o) r)
 
-pub goes-any : (t : Network) (lawful : IsLawful t) (w : World) (s : Step) (g : Labelling) (m tick : ℕ) → m < length t.loopbacks → IsTurn t w s → is_transport s ≡ true →
+pub goes-any : (t : Network) (lawful : IsLawful t) (w : World) (s : Step) (g : Labelling) (m tick : ℕ) → m < length t.loopbacks → IsTurn t w s →
+    is_transport s ≡ true →
     Released t w.sessions → (rested : ℕ → ℕ) (r : Resting) → IsResting t w rested m r → (o : Option Event) → event_of t w s m ≡ o → GoesAny t w s g m tick r o
 unfolding Heard
 goes-any t lawful w (step.LinkUp l) g m tick below turn moves free rested r is o e =
@@ -270,7 +288,8 @@ goes-any t lawful w (step.LinkDown l) g m tick below turn moves free rested r is
 goes-any t lawful w (step.LdpAdmin l on) g m tick below turn moves free rested r is o e =
     turned-goes t lawful w (step.LdpAdmin l on) g m tick below turn rested r is l.0 (less_tells l.0 (length t.links) turn.fitting) refl
     (λ k d. ap (λ b. w.config.is_up k && b) (put_off w.config.ldp_on l.0 on k d))
-    (λ h. ap (λ b. w.config.is_up l.0 && b) (put_here w.config.ldp_on l.0 on) ∙ switched (w.config.is_up l.0) (w.config.ldp_on l.0) on turn.changes h) (λ p. refl) o e
+    (λ h. ap (λ b. w.config.is_up l.0 && b) (put_here w.config.ldp_on l.0 on)
+    ∙ switched (w.config.is_up l.0) (w.config.ldp_on l.0) on turn.changes h) (λ p. refl) o e
 goes-any t lawful w (step.Learn n l) g m tick below turn moves free rested r is o e =
     subst (GoesAny t w (step.Learn n l) g m tick r) e (by (n.0 == m))
   where

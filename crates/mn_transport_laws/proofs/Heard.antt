@@ -10,7 +10,8 @@ use Rattle.mn_ledger_laws.specs.Named.{NamesANode}
 use Rattle.mn_transport_laws.specs.Sending.{spelled}
 
 pub next-spelled : (w : Wiring) (g : ℕ → ℕ → ℕ) (l s id heard : ℕ) (ms : List Message) → heard < length ms
-    → drop heard (spelled w g l s id ms) ≡ (pdu_in_network w l s (g s) (g (across w l s)) (id + heard) (slice_index_or ms heard Address)).bytes ∷ drop (heard + 1) (spelled w g l s id ms)
+    → drop heard (spelled w g l s id ms) ≡ (pdu_in_network w l s (g s) (g (across w l s)) (id + heard) (slice_index_or ms heard Address)).bytes ∷ drop
+    (heard + 1) (spelled w g l s id ms)
 next-spelled w g l s id heard [] h = absurd (let none : heard < 0 → ⊥ = (λ p. omega (arith, p)) in none h)
 next-spelled w g l s id zero (m ∷ ms) h = ap (λ k. (pdu_in_network w l s (g s) (g (across w l s)) k m).bytes ∷ spelled w g l s (id + 1) ms) (omega arith)
 next-spelled w g l s id (suc heard) (m ∷ ms) h =

@@ -35,7 +35,8 @@ use Rattle.mn_transport_laws.specs.Resting.{IsResting}
 use Rattle.mn_transport_laws.specs.Stands.{own_of, IsNode}
 use Rattle.mn_transport_laws.specs.Steps.{IsTurn}
 use Rattle.mn_transport_laws.proofs.Own.{IsHere}
-use Rattle.mn_transport_laws.proofs.Stepping.{node_before, same-node, event_then, becomes, labels-go, rests-go, stays, labels-stay, rests-stay, none_attached, labels-more}
+use Rattle.mn_transport_laws.proofs.Stepping.{node_before, same-node, event_then, becomes, labels-go, rests-go, stays, labels-stay, rests-stay, none_attached}
+use Rattle.mn_transport_laws.proofs.Stepping.{labels-more}
 use Rattle.mn_transport_laws.proofs.Tables.{way-is, table-is}
 
 -- 1. The labels that nodes say of FECs
@@ -50,11 +51,13 @@ given-is t es m = refl
 
 -- 2. Attachments keep theirs
 
-one_site : (s k : ℕ) (gs : List Given) (label fec : ℕ) → label_given (attachment_of s k) (gs ++ record { label = label; what = fec_of fec } ∷ []) ≡ label_given (attachment_of s k) gs
+one_site : (s k : ℕ) (gs : List Given) (label fec : ℕ) →
+    label_given (attachment_of s k) (gs ++ record { label = label; what = fec_of fec } ∷ []) ≡ label_given (attachment_of s k) gs
 one_site s k [] label fec = refl
 one_site s k (g ∷ gs) label fec = ap (cond (same_bind (attachment_of s k) g.what) g.label) (one_site s k gs label fec)
 
-offered_site : (s k : ℕ) (labels : Labels) (fec : ℕ) → label_given (attachment_of s k) (offered_one labels fec).given ≡ label_given (attachment_of s k) labels.given
+offered_site : (s k : ℕ) (labels : Labels) (fec : ℕ) →
+    label_given (attachment_of s k) (offered_one labels fec).given ≡ label_given (attachment_of s k) labels.given
 offered_site s k labels fec = by (label_now labels fec)
   where
     by : (o : Option ℕ) → label_given (attachment_of s k) (elim o as (λ _. Labels) [
@@ -67,11 +70,13 @@ offered_site s k labels fec = by (label_now labels fec)
     by (Some label) = refl
     by None = one_site s k labels.given (next_label labels) fec
 
-all_sites : (s k : ℕ) (labels : Labels) (fecs : List ℕ) → label_given (attachment_of s k) (offered_all labels fecs).given ≡ label_given (attachment_of s k) labels.given
+all_sites : (s k : ℕ) (labels : Labels) (fecs : List ℕ) →
+    label_given (attachment_of s k) (offered_all labels fecs).given ≡ label_given (attachment_of s k) labels.given
 all_sites s k labels [] = refl
 all_sites s k labels (fec ∷ fecs) = all_sites s k (offered_one labels fec) fecs ∙ offered_site s k labels fec
 
-sites_offered : (s k : ℕ) (free : ℕ → Bool) (labels : Labels) (fecs : List ℕ) → label_given (attachment_of s k) (offered free labels fecs).given ≡ label_given (attachment_of s k) labels.given
+sites_offered : (s k : ℕ) (free : ℕ → Bool) (labels : Labels) (fecs : List ℕ) →
+    label_given (attachment_of s k) (offered free labels fecs).given ≡ label_given (attachment_of s k) labels.given
 sites_offered s k free labels [] = refl
 sites_offered s k free labels (fec ∷ fecs) = all_sites s k (given_up free labels) (fec ∷ fecs)
 
@@ -79,16 +84,20 @@ pub site-stays : (t : Network) (es : List JournalEntry) (tick : ℕ) (step : Ste
     label_in (given t (pushed es tick step) m) (attachment_of s k) ≡ label_in (given t es m) (attachment_of s k)
 site-stays t es tick step m s k moves =
     ap (λ (labels : Labels). label_given (attachment_of s k) labels.given) (given-is t (pushed es tick step) m ∙ labels-more t es tick step m)
-    ∙ sites_offered s k (ledger.is_free t (world_of t es) m (rested_of t es m) tick) (ledger.attached_in t (world_of t es) step m (labels_of t es m)) (ledger.new_offers t (world_of t es) step m)
-    ∙ ap (λ (labels : Labels). label_given (attachment_of s k) labels.given) (none_attached t (world_of t es) step m (labels_of t es m) moves ∙ sym (given-is t es m))
+    ∙ sites_offered s k (ledger.is_free t (world_of t es) m (rested_of t es m) tick) (ledger.attached_in t (world_of t es) step m (labels_of t es m))
+    (ledger.new_offers t (world_of t es) step m)
+    ∙ ap (λ (labels : Labels). label_given (attachment_of s k) labels.given) (none_attached t (world_of t es) step m (labels_of t es m) moves
+    ∙ sym (given-is t es m))
 
 -- 3. A node in a step
 
 module _ (t : Network) (lawful : IsLawful t) (es : List JournalEntry) (ps : List (List ℕ)) (journal : IsLawfulJournal t es ps) (tick : ℕ) (s : Step)
     (turn : IsTurn t (world_of t es) s) (moves : is_transport s ≡ true) (m : ℕ) where
   -- the node of before, with the labels of after
-  pub was-node : (was : Standing) → IsNode t (given t es) (rested_of t es) (world_of t es) m was → was.node ≡ node_before t lawful es ps journal tick s turn moves m
-  was-node was is = is.node_is ∙ ap (λ g. node_with (wiring_of t) g (node_at t (world_of t es) m)) (own-is t es) ∙ same-node t lawful es ps journal tick s turn moves m
+  pub was-node : (was : Standing) → IsNode t (given t es) (rested_of t es) (world_of t es) m was →
+      was.node ≡ node_before t lawful es ps journal tick s turn moves m
+  was-node was is = is.node_is ∙ ap (λ g. node_with (wiring_of t) g (node_at t (world_of t es) m)) (own-is t es)
+      ∙ same-node t lawful es ps journal tick s turn moves m
 
   abbrev pub kept_before : Resting → Kept
   kept_before r = record { node = node_before t lawful es ps journal tick s turn moves m; labels = labels_of t es m; resting = r }
@@ -96,20 +105,30 @@ module _ (t : Network) (lawful : IsLawful t) (es : List JournalEntry) (ps : List
   pub was-kept : (was : Standing) → IsNode t (given t es) (rested_of t es) (world_of t es) m was → kept_in was ≡ kept_before was.resting
   was-kept was is =
       ap (λ (n : Node). let k : Kept = record { node = n; labels = was.labels; resting = was.resting } in k) (was-node was is)
-      ∙ ap (λ (labels : Labels). let k : Kept = record { node = node_before t lawful es ps journal tick s turn moves m; labels = labels; resting = was.resting } in k)
+      ∙ ap (λ (labels : Labels). let k : Kept = record {
+        node = node_before t lawful es ps journal tick s turn moves m;
+        labels = labels;
+        resting =
+            was.resting;
+      } in k)
       (is.labels ∙ given-is t es m)
 
 module _ (t : Network) (lawful : IsLawful t) (es : List JournalEntry) (ps : List (List ℕ)) (journal : IsLawfulJournal t es ps) (tick : ℕ) (s : Step)
-    (turn : IsTurn t (world_of t es) s) (moves : is_transport s ≡ true) (attached : (site : ℕ) → (after t (world_of t es) s).config.attached site ≡ (world_of t es).config.attached site)
+    (turn : IsTurn t (world_of t es) s) (moves : is_transport s ≡ true) (attached : (site : ℕ) →
+    (after t (world_of t es) s).config.attached site ≡ (world_of t es).config.attached site)
     (m : ℕ) (below : m < length t.loopbacks) where
-  entry-same : (site attachment : ℕ) → (let o : Option Use = Some (site_entry (world_of t es) site attachment) in o) ≡ Some (site_entry (after t (world_of t es) s) site attachment)
+  entry-same : (site attachment : ℕ) →
+      (let o : Option Use = Some (site_entry (world_of t es) site attachment) in o) ≡ Some (site_entry (after t (world_of t es) s) site attachment)
   entry-same site attachment =
-      sym (ap (λ (o : Option ℕ). let u : Option Use = Some (if is_attachment o attachment then use_kind.Site (record { 0 = site }) else use_kind.Ended) in u) (attached site))
+      sym (ap (λ (o : Option ℕ). let u : Option Use = Some (if is_attachment o attachment then use_kind.Site (record { 0 = site }) else use_kind.Ended) in u)
+      (attached site))
 
   -- its site's labels are used as before
-  sites-same : (was : Standing) → IsNode t (given t es) (rested_of t es) (world_of t es) m was → (site attachment : ℕ) → HasLabel (given t (pushed es tick s) m) (attachment_of site attachment) →
+  sites-same : (was : Standing) → IsNode t (given t es) (rested_of t es) (world_of t es) m was → (site attachment : ℕ) →
+      HasLabel (given t (pushed es tick s) m) (attachment_of site attachment) →
       IsAttachment (meaning_of was.labels (label_in (given t (pushed es tick s) m) (attachment_of site attachment)))
-      × (use_of was.uses (label_in (given t (pushed es tick s) m) (attachment_of site attachment)) ≡ Some (site_entry (after t (world_of t es) s) site attachment))
+      × (use_of was.uses (label_in (given t (pushed es tick s) m) (attachment_of site attachment))
+      ≡ Some (site_entry (after t (world_of t es) s) site attachment))
   sites-same was is site attachment has =
       let same = site-stays t es tick s m site attachment moves in
       let had : HasLabel (given t es m) (attachment_of site attachment) = subst (λ k. 16 ≤ k) same has in
@@ -118,18 +137,22 @@ module _ (t : Network) (lawful : IsLawful t) (es : List JournalEntry) (ps : List
       ∙ is_meant (given t es m) (given_fit t es m) _ (attachment_of site attachment) (has_means (given t es m) (attachment_of site attachment) had) in
       (subst IsAttachment (sym meaning) tt, ap (use_of was.uses) same ∙ is.table.sites site attachment had ∙ entry-same site attachment)
 
-  pub node-then : (e : Event) (happens : event_of t (world_of t es) s m ≡ Some e) → IsHere (wiring_of t) (node_at t (world_of t es) m) e → (was now : Standing) →
-      IsNode t (given t es) (rested_of t es) (world_of t es) m was → Becomes tick (event_then t lawful es ps journal tick s turn moves m below e happens) was now →
+  pub node-then : (e : Event) (happens : event_of t (world_of t es) s m ≡ Some e) → IsHere (wiring_of t) (node_at t (world_of t es) m) e →
+      (was now : Standing) →
+      IsNode t (given t es) (rested_of t es) (world_of t es) m was →
+      Becomes tick (event_then t lawful es ps journal tick s turn moves m below e happens) was now →
       IsNode t (given t (pushed es tick s)) (rested_of t (pushed es tick s)) (after t (world_of t es) s) m now
   node-then e happens here was now is becomes_it =
       let event : Event = event_then t lawful es ps journal tick s turn moves m below e happens in
       let wiring_is : now.wiring ≡ wiring_of t = becomes_it.wiring ∙ is.wiring in
       let node_is : now.node ≡ node_with (wiring_of t) (own_of (given t (pushed es tick s))) (node_at t (after t (world_of t es) s) m) =
-      becomes_it.node_is ∙ ap (λ (x : Wiring). after_event x was.node event) is.wiring ∙ ap (λ n. after_event (wiring_of t) n event) (was-node t lawful es ps journal tick s turn moves m was is)
+      becomes_it.node_is ∙ ap (λ (x : Wiring). after_event x was.node event) is.wiring
+      ∙ ap (λ n. after_event (wiring_of t) n event) (was-node t lawful es ps journal tick s turn moves m was is)
       ∙ becomes t lawful es ps journal tick s turn moves m below e happens
       ∙ ap (λ g. node_with (wiring_of t) g (node_at t (after t (world_of t es) s) m)) (sym (own-is t (pushed es tick s))) in
       let labels_are : now.labels ≡ given t (pushed es tick s) m =
-      becomes_it.labels_are ∙ ap (λ (x : Wiring). labels_then x tick (kept_in was) event) is.wiring ∙ ap (λ k. labels_then (wiring_of t) tick k event) (was-kept t lawful es ps journal tick s turn moves m was is)
+      becomes_it.labels_are ∙ ap (λ (x : Wiring). labels_then x tick (kept_in was) event) is.wiring
+      ∙ ap (λ k. labels_then (wiring_of t) tick k event) (was-kept t lawful es ps journal tick s turn moves m was is)
       ∙ labels-go t lawful es ps journal tick s turn moves m below e happens was.resting is.resting ∙ sym (given-is t (pushed es tick s) m) in
       record {
         wiring = wiring_is;
@@ -155,11 +178,13 @@ module _ (t : Network) (lawful : IsLawful t) (es : List JournalEntry) (ps : List
       ∙ ap (λ g. node_with (wiring_of t) g (node_at t (after t (world_of t es) s) m)) (sym (own-is t (pushed es tick s))) in
       let same : given t (pushed es tick s) m ≡ given t es m =
       given-is t (pushed es tick s) m ∙ labels-stay t lawful es ps journal tick s turn moves m below none ∙ sym (given-is t es m) in
-      let way : (edge : ℕ) → edge < length t.loopbacks → edge ≢ m → way_to (wiring_of t) was.node edge ≡ next_entry t (given t (pushed es tick s)) (after t (world_of t es) s) m edge =
+      let way : (edge : ℕ) → edge < length t.loopbacks → edge ≢ m →
+      way_to (wiring_of t) was.node edge ≡ next_entry t (given t (pushed es tick s)) (after t (world_of t es) s) m edge =
       λ edge under apart. ap (λ n. way_to (wiring_of t) n edge) node_is
       ∙ way-is t lawful (given t (pushed es tick s)) (after t (world_of t es) s) m below edge under (λ e. apart (sym e)) in
       let way_was : (edge : ℕ) → edge < length t.loopbacks → edge ≢ m → way_to (wiring_of t) was.node edge ≡ next_entry t (given t es) (world_of t es) m edge =
-      λ edge under apart. ap (λ n. way_to (wiring_of t) n edge) is.node_is ∙ way-is t lawful (given t es) (world_of t es) m below edge under (λ e. apart (sym e)) in
+      λ edge under apart. ap (λ n. way_to (wiring_of t) n edge) is.node_is
+      ∙ way-is t lawful (given t es) (world_of t es) m below edge under (λ e. apart (sym e)) in
       record {
         wiring = is.wiring;
         node_is = node_is;
@@ -168,7 +193,8 @@ module _ (t : Network) (lawful : IsLawful t) (es : List JournalEntry) (ps : List
         resting = rests-stay t lawful es ps journal tick s turn moves m below none was.resting is.resting;
         table = record {
           fecs = λ edge under apart has.
-              ap (λ (g : Labels). use_of was.uses (label_in g (fec_of edge))) same ∙ is.table.fecs edge under apart (subst (λ g. HasLabel g (fec_of edge)) same has)
+              ap (λ (g : Labels). use_of was.uses (label_in g (fec_of edge))) same
+              ∙ is.table.fecs edge under apart (subst (λ g. HasLabel g (fec_of edge)) same has)
               ∙ ap fec_use (sym (way_was edge under apart) ∙ way edge under apart);
           sites = λ site attachment has. (sites-same was is site attachment has).1;
           reserved = is.table.reserved;

@@ -1,5 +1,6 @@
 -- A node gives each attachment one label.
-use Rattle.std.proofs.Common.{ℕ, zero, suc, ◌≡◌, ◌+◌, ◌≤◌, inl, inr, Bool, true, false, cond, List, [], ◌∷◌, ◌++◌, map, filter, length, refl, arith, sym, ◌∙◌, ap, subst}
+use Rattle.std.proofs.Common.{ℕ, zero, suc, ◌≡◌, ◌+◌, ◌≤◌, inl, inr, Bool, true, false, cond, List, [], ◌∷◌, ◌++◌, map, filter, length, refl, arith, sym, ◌∙◌}
+use Rattle.std.proofs.Common.{ap, subst}
 use Rattle.std.specs.Prelude.{◌==◌, if◌then◌else◌, ⊤}
 use Rattle.std.specs.List.{range_with_len}
 use Rattle.std.proofs.lemmas.Bool.Decides.{eqb_tells}
@@ -74,7 +75,8 @@ IsLate c b = (site : ℕ) × (k : ℕ) × (b ≡ attachment_of site k) × (c.att
 grows : (c : Config) (s : Step) (site : ℕ) → c.attaches site ≤ (config_after c s).attaches site
 grows c (Attach a) site = elim (eqb_tells site a.0) [
   | inl p ↦ (let e : put c.attaches a.0 (c.attaches a.0 + 1) site ≡ c.attaches site + 1 =
-      ap (put c.attaches a.0 (c.attaches a.0 + 1)) p.1 ∙ put_here c.attaches a.0 (c.attaches a.0 + 1) ∙ ap (λ n. c.attaches n + 1) (sym p.1) in omega (arith, e))
+      ap (put c.attaches a.0 (c.attaches a.0 + 1)) p.1 ∙ put_here c.attaches a.0 (c.attaches a.0 + 1)
+      ∙ ap (λ n. c.attaches n + 1) (sym p.1) in omega (arith, e))
   | inr p ↦ (let e : put c.attaches a.0 (c.attaches a.0 + 1) site ≡ c.attaches site = put_off c.attaches a.0 (c.attaches a.0 + 1) site p.1 in omega (arith, e))
 ]
 grows c _ site = omega arith
@@ -122,7 +124,8 @@ once-by t n c _ = tt
 once-from : (t : Network) (n : ℕ) (c : Config) (es : List JournalEntry) → Once (attachments_from t n c es)
 once-from t n c [] = tt
 once-from t n c (e ∷ es) =
-    once-append (attachments_by t n c e.step) (attachments_from t n (config_after c e.step) es) (once-by t n c e.step) (once-from t n (config_after c e.step) es)
+    once-append (attachments_by t n c e.step) (attachments_from t n (config_after c e.step) es) (once-by t n c e.step)
+    (once-from t n (config_after c e.step) es)
     (λ b i j. apart-by t n c e.step b i (late-from t n (config_after c e.step) es b j))
 
 once-all : (t : Network) (es : List JournalEntry) (n : ℕ) → Once (attachments_given (given t es n).given)
@@ -141,19 +144,22 @@ once-all t es n =
 -- 3. Labels
 
 is_given : (gs : List Given) (g : Given) → In gs g → is_attachment g.what ≡ true → In (attachments_given gs) g.what
-is_given gs g i at = map_in (λ (x : Given). x.what) (filter (λ (x : Given). is_attachment x.what) gs) g (filter_in (λ (x : Given). is_attachment x.what) gs g i at)
+is_given gs g i at = map_in (λ (x : Given). x.what) (filter (λ (x : Given). is_attachment x.what) gs) g
+    (filter_in (λ (x : Given). is_attachment x.what) gs g i at)
 
 one-given : (gs : List Given) → Once (attachments_given gs) → (g h : Given) → In gs g → In gs h → is_attachment g.what ≡ true → g.what ≡ h.what → g ≡ h
 one-given [] once g h i j at same = absurd i
 one-given (x ∷ xs) once g h i j at same =
     by (λ f. one-given xs f g h) (is_attachment x.what) refl once i j
   where
-    by : (Once (attachments_given xs) → In xs g → In xs h → is_attachment g.what ≡ true → g.what ≡ h.what → g ≡ h) → (b : Bool) → is_attachment x.what ≡ b → Once (map (λ (y : Given). y.what) (cond b (x ∷ filter (λ (y : Given). is_attachment y.what) xs) (filter (λ (y : Given). is_attachment y.what) xs))) →
+    by : (Once (attachments_given xs) → In xs g → In xs h → is_attachment g.what ≡ true → g.what ≡ h.what → g ≡ h) → (b : Bool) → is_attachment x.what ≡ b →
+        Once (map (λ (y : Given). y.what) (cond b (x ∷ filter (λ (y : Given). is_attachment y.what) xs) (filter (λ (y : Given). is_attachment y.what) xs))) →
         In (x ∷ xs) g → In (x ∷ xs) h → g ≡ h
     by more b e f (inl p) (inl q) = sym p ∙ q
     by more true e f (inr p) (inr q) = more f.1 p q at same
     by more false e f (inr p) (inr q) = more f p q at same
-    by more true e f (inl p) (inr q) = absurd (f.0 (subst (In (attachments_given xs)) (sym same ∙ ap (λ (y : Given). y.what) (sym p)) (is_given xs h q (ap is_attachment (sym same) ∙ at))))
+    by more true e f (inl p) (inr q) =
+        absurd (f.0 (subst (In (attachments_given xs)) (sym same ∙ ap (λ (y : Given). y.what) (sym p)) (is_given xs h q (ap is_attachment (sym same) ∙ at))))
     by more true e f (inr p) (inl q) = absurd (f.0 (subst (In (attachments_given xs)) (same ∙ ap (λ (y : Given). y.what) (sym q)) (is_given xs g p at)))
     by more false e f (inl p) (inr q) = absurd (clash (sym at ∙ ap (λ (y : Given). is_attachment y.what) (sym p) ∙ e))
     by more false e f (inr p) (inl q) = absurd (clash (sym at ∙ ap is_attachment same ∙ ap (λ (y : Given). is_attachment y.what) (sym q) ∙ e))

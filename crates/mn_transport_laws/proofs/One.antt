@@ -1,4 +1,4 @@
--- One node acts, as it learns or hears.
+-- One node acts, as it learns or receives.
 use Rattle.std.proofs.Common.{ℕ, ◌≡◌, ◌≢◌, ◌+◌, ◌*◌, ◌<◌, ◌≤◌, inl, inr, Bool, true, false, not, List, [], ◌∷◌, ◌++◌, length, map, drop, refl, arith, sym}
 use Rattle.std.proofs.Common.{◌∙◌, ap, subst, Option, None, Some, append-nil}
 use Rattle.std.specs.Prelude.{◌==◌, nat_le, nat_lt, slice_get, slice_index, slice_index_or, option_map, if◌then◌else◌}
@@ -102,13 +102,15 @@ module _ (t : Network) (lawful : IsLawful t) (es : List JournalEntry) (ps : List
       ∙ ap (with_said (ldp_counted t w.sessions s)) says-is
 
   pub one-flies : (k : ℕ) (dir : Dir) → k < length t.links →
-      (ldp_counted t (world_of t es).sessions s).heard k (receiver (wiring_of t) k dir) ≤ length ((ldp_counted t (world_of t es).sessions s).said k (sender (wiring_of t) k dir))
+      (ldp_counted t (world_of t es).sessions s).heard k (receiver (wiring_of t) k dir) ≤ length
+      ((ldp_counted t (world_of t es).sessions s).said k (sender (wiring_of t) k dir))
       → FliesAs (wiring_of t) (labels_at t (pushed es tick s)) k dir ((ldp_counted t (world_of t es).sessions s).heard k (receiver (wiring_of t) k dir))
       ((ldp_counted t (world_of t es).sessions s).said k (sender (wiring_of t) k dir)) old.messages
       → FliesAs (wiring_of t) (labels_at t (pushed es tick s)) k dir ((after t (world_of t es) s).sessions.heard k (receiver (wiring_of t) k dir))
       ((after t (world_of t es) s).sessions.said k (sender (wiring_of t) k dir)) new.messages
   one-flies k dir h within flies =
-      subst (λ (x : Sessions). FliesAs (wiring_of t) own_then k dir (x.heard k (receiver (wiring_of t) k dir)) (x.said k (sender (wiring_of t) k dir)) new.messages)
+      subst (λ (x : Sessions). FliesAs (wiring_of t) own_then k dir (x.heard k (receiver (wiring_of t) k dir)) (x.said k (sender (wiring_of t) k dir))
+      new.messages)
       (sym sessions-are)
       (acts-flies t lawful es ps journal tick s turn moves number m next below e happens old new acts was_is here k dir
       ((ldp_counted t w.sessions s).heard k (receiver (wiring_of t) k dir))
@@ -133,7 +135,7 @@ if_same a b e q = ap (λ x. if x then Some e else None) (ap (λ y. y == b) q ∙
 if_other : (a b : ℕ) (e : Event) → a ≢ b → (if a == b then Some e else None) ≡ None
 if_other a b e d = ap (λ x. if x then Some e else None) (other_test a b d)
 
--- a session in which a message is heard goes on
+-- a session in which a message is received goes on
 pub heard-open : (w : Wiring) (n : Node) (l : ℕ) (message : Message) (label : ℕ) → session_at n l ≢ None →
     session_at (changed w n (Hears l message label)) l ≢ None
 heard-open w n l message label was_open none =
@@ -225,7 +227,9 @@ module _ (t : Network) (lawful : IsLawful t) (es : List JournalEntry) (ps : List
 
   pub goes-learn : (node : NodeNo) (l : LinkNo) (number : ℕ) (new : Carried) (next channels : ℕ) → IsFlight channels old.notices →
       IsTurn t wd (step.Learn node l)
-      → LearnsNext t tick number node.0 l.0 old new next → StandsFor t (given t (pushed es tick (step.Learn node l))) (rested_of t (pushed es tick (step.Learn node l))) (after t (world_of t es) (step.Learn node l)) new
+      → LearnsNext t tick number node.0 l.0 old new next →
+      StandsFor t (given t (pushed es tick (step.Learn node l))) (rested_of t (pushed es tick (step.Learn node l)))
+      (after t (world_of t es) (step.Learn node l)) new
   goes-learn node l number new next channels flight turn acts =
       let s : Step = step.Learn node l in
       let base : Carried = noticed t node.0 l.0 old in
@@ -245,19 +249,22 @@ module _ (t : Network) (lawful : IsLawful t) (es : List JournalEntry) (ps : List
             λ k n h under. ap (λ xs. (after t wd (step.Learn node l)).views.learned n k + length (on_channel (k * length t.loopbacks + n) xs)) rest.notices
             ∙ count node l turn channels flight k n h under;
         messages =
-            λ k dir h. by-labels t lawful es ps journal tick old stands (step.Learn node l) new k dir (one-flies t lawful es ps journal tick (step.Learn node l) turn refl node.0 (below node l turn) refl (Learns l.0) (happens node l turn)
+            λ k dir h. by-labels t lawful es ps journal tick old stands (step.Learn node l) new k dir
+            (one-flies t lawful es ps journal tick (step.Learn node l) turn refl node.0 (below node l turn) refl (Learns l.0) (happens node l turn)
             (others node l turn) tt (λ site. refl) number next base new acts stands.each are k dir h
-            (heard-within t wd (step.Learn node l) lawful turn k dir h) (flies-before t lawful es ps journal tick (step.Learn node l) turn refl old stands k dir h));
+            (heard-within t wd (step.Learn node l) lawful turn k dir h)
+            (flies-before t lawful es ps journal tick (step.Learn node l) turn refl old stands k dir h));
       }
 
   pub puts-learn : (node : NodeNo) (l : LinkNo) (number : ℕ) (new : Carried) (next : ℕ) → IsTurn t wd (step.Learn node l) →
       LearnsNext t tick number node.0 l.0 old new next
       → Puts t tick number (map message_of (flat_map (node_says t wd (step.Learn node l)) (acting t (step.Learn node l)))) old.messages new.messages next
   puts-learn node l number new next turn acts =
-      one-puts t lawful es ps journal tick (step.Learn node l) turn refl node.0 (below node l turn) refl (Learns l.0) (happens node l turn) (others node l turn) tt
+      one-puts t lawful es ps journal tick (step.Learn node l) turn refl node.0 (below node l turn) refl (Learns l.0) (happens node l turn)
+      (others node l turn) tt
       (λ site. refl) number next (noticed t node.0 l.0 old) new acts stands.each are
 
-  -- 2. A node hears
+  -- 2. A node receives
 
   bytes-first : (xs : List (Item (List ℕ))) (b : List ℕ) (bs : List (List ℕ)) → map (λ item. item.item) xs ≡ b ∷ bs →
       map (λ item. item.item) (without_at 0 xs) ≡ bs
@@ -306,8 +313,12 @@ module _ (t : Network) (lawful : IsLawful t) (es : List JournalEntry) (ps : List
     at_end = (dir_ends (wiring_of t) l.0 dir (lawful.ends_differ l.0 link_there)).0
 
     here_heard : IsHere (wiring_of t) (node_at t wd r) e
-    here_heard =
-        (link_there, at_end, heard-open (wiring_of t) (node_at t wd r) l.0 _ _ (open-at t lawful (given t es) (rested_of t es) wd old stands r l.0 link_there live at_end))
+    here_heard = (
+      link_there,
+      at_end,
+      heard-open (wiring_of t) (node_at t wd r) l.0 _ _
+          (open-at t lawful (given t es) (rested_of t es) wd old stands r l.0 link_there live at_end),
+    )
 
     abbrev heard_then : ℕ → ℕ → ℕ
     heard_then = (ldp_counted t wd.sessions (step.HearLdp l dir)).heard
@@ -360,7 +371,8 @@ module _ (t : Network) (lawful : IsLawful t) (es : List JournalEntry) (ps : List
 
     left : (channels : ℕ) → IsFlight channels old.messages →
         (k : ℕ) (d : Dir) → k < length t.links →
-        FliesAs (wiring_of t) own_after k d (heard_then k (receiver (wiring_of t) k d)) (wd.sessions.said k (sender (wiring_of t) k d)) (taken l.0 dir old).messages
+        FliesAs (wiring_of t) own_after k d (heard_then k (receiver (wiring_of t) k d)) (wd.sessions.said k (sender (wiring_of t) k d))
+        (taken l.0 dir old).messages
     left channels flight k d h =
         subst (λ o. FliesAs (wiring_of t) own_after k d (heard_then k (receiver (wiring_of t) k d)) (wd.sessions.said k (sender (wiring_of t) k d))
         (without o old.messages)) (sym first_pdu.1)
@@ -368,7 +380,8 @@ module _ (t : Network) (lawful : IsLawful t) (es : List JournalEntry) (ps : List
           | inl p ↦ (let same = one_channel k l.0 d dir p.1 in
               subst (λ j. FliesAs (wiring_of t) own_after j d (heard_then j (receiver (wiring_of t) j d)) (wd.sessions.said j (sender (wiring_of t) j d))
               (without (Some first_pdu.0) old.messages)) (sym same.0)
-              (subst (λ c. FliesAs (wiring_of t) own_after l.0 c (heard_then l.0 (receiver (wiring_of t) l.0 c)) (wd.sessions.said l.0 (sender (wiring_of t) l.0 c))
+              (subst (λ c. FliesAs (wiring_of t) own_after l.0 c (heard_then l.0 (receiver (wiring_of t) l.0 c))
+              (wd.sessions.said l.0 (sender (wiring_of t) l.0 c))
               (without (Some first_pdu.0) old.messages)) (sym same.1)
               (ap (map (λ (item : Item (List ℕ)). item.item)) (left_on (channel l.0 dir) old.messages 0 first_pdu.0 flight.ascending first_pdu.1)
               ∙ bytes-first (on_channel (channel l.0 dir) old.messages) _ _ flying
@@ -376,13 +389,16 @@ module _ (t : Network) (lawful : IsLawful t) (es : List JournalEntry) (ps : List
           | inr p ↦ ap (map (λ (item : Item (List ℕ)). item.item))
               (left_off (channel l.0 dir) (channel k d) old.messages 0 first_pdu.0 flight.ascending first_pdu.1 p.0)
               ∙ before k d h
-              ∙ ap (λ n. drop n (spelled (wiring_of t) own_after k (sender (wiring_of t) k d) 1 (wd.sessions.said k (sender (wiring_of t) k d)))) (sym (apart k d p.1))
+              ∙ ap (λ n. drop n (spelled (wiring_of t) own_after k (sender (wiring_of t) k d) 1 (wd.sessions.said k (sender (wiring_of t) k d))))
+              (sym (apart k d p.1))
         ])
 
   pub goes-hear : (l : LinkNo) (dir : Dir) (number : ℕ) (new : Carried) (next channels : ℕ) → IsFlight channels old.messages →
       IsTurn t wd (step.HearLdp l dir)
-      → HearsNext t tick number l.0 dir (event_with (wiring_of t) (labels_at t (pushed es tick (step.HearLdp l dir))) (receiver (wiring_of t) l.0 dir) (hears_next t wd l.0 (receiver (wiring_of t) l.0 dir))) old new next →
-      StandsFor t (given t (pushed es tick (step.HearLdp l dir))) (rested_of t (pushed es tick (step.HearLdp l dir))) (after t (world_of t es) (step.HearLdp l dir)) new
+      → HearsNext t tick number l.0 dir (event_with (wiring_of t) (labels_at t (pushed es tick (step.HearLdp l dir))) (receiver (wiring_of t) l.0 dir)
+      (hears_next t wd l.0 (receiver (wiring_of t) l.0 dir))) old new next →
+      StandsFor t (given t (pushed es tick (step.HearLdp l dir))) (rested_of t (pushed es tick (step.HearLdp l dir)))
+      (after t (world_of t es) (step.HearLdp l dir)) new
   goes-hear l dir number new next channels flight turn acts =
       let base : Carried = taken l.0 dir old in
       let event : Event = hears_next t wd l.0 (receiver (wiring_of t) l.0 dir) in
@@ -398,15 +414,18 @@ module _ (t : Network) (lawful : IsLawful t) (es : List JournalEntry) (ps : List
         each_site = ap length rest.labels ∙ stands.each_site;
         sites = λ site attachment h at. ap (λ xs. slice_index xs site) rest.labels ∙ stands.sites site attachment h at
             ∙ sym (site-stays t es tick (step.HearLdp l dir) (home_of t site) site attachment refl);
-        notices = λ k n h under. ap (λ xs. wd.views.learned n k + length (on_channel (k * length t.loopbacks + n) xs)) rest.notices ∙ stands.notices k n h under;
+        notices = λ k n h under. ap (λ xs. wd.views.learned n k + length (on_channel (k * length t.loopbacks + n) xs)) rest.notices
+            ∙ stands.notices k n h under;
         messages =
-            λ k d h. by-labels t lawful es ps journal tick old stands (step.HearLdp l dir) new k d (one-flies t lawful es ps journal tick (step.HearLdp l dir) turn refl (receiver (wiring_of t) l.0 dir) (end_below l dir turn) refl event
+            λ k d h. by-labels t lawful es ps journal tick old stands (step.HearLdp l dir) new k d
+            (one-flies t lawful es ps journal tick (step.HearLdp l dir) turn refl (receiver (wiring_of t) l.0 dir) (end_below l dir turn) refl event
             (hears_it l dir turn) (no_other l dir turn) (here_heard l dir turn) (λ site. refl) number next base new acts stands.each are k d h
             (counts l dir turn k d h) (left l dir turn channels flight k d h));
       }
 
   pub puts-hear : (l : LinkNo) (dir : Dir) (number : ℕ) (new : Carried) (next : ℕ) → IsTurn t wd (step.HearLdp l dir)
-      → HearsNext t tick number l.0 dir (event_with (wiring_of t) (labels_at t (pushed es tick (step.HearLdp l dir))) (receiver (wiring_of t) l.0 dir) (hears_next t wd l.0 (receiver (wiring_of t) l.0 dir))) old new next
+      → HearsNext t tick number l.0 dir (event_with (wiring_of t) (labels_at t (pushed es tick (step.HearLdp l dir))) (receiver (wiring_of t) l.0 dir)
+      (hears_next t wd l.0 (receiver (wiring_of t) l.0 dir))) old new next
       → Puts t tick number (map message_of (flat_map (node_says t wd (step.HearLdp l dir)) (acting t (step.HearLdp l dir))))
       (taken l.0 dir old).messages new.messages next
   puts-hear l dir number new next turn acts =

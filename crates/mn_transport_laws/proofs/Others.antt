@@ -86,7 +86,8 @@ module _ (t : Network) (w : World) (s : Step) (k : Keeps t w s) where
   same-lives l = ap (λ f. f l && (after t w s).config.ldp_on l) k.ups ∙ ap (λ f. w.config.is_up l && f l) k.ldp
 
   pub same-offers : (n p : ℕ) → p < length t.loopbacks → offers_in t (after t w s) n p ≡ offers_in t w n p
-  same-offers n p under = sym (offers-alike t (after t w s) n p under) ∙ ap (λ x. offers (wiring_of t) (knowledge_in x) n p) (k.node n) ∙ offers-alike t w n p under
+  same-offers n p under = sym (offers-alike t (after t w s) n p under) ∙ ap (λ x. offers (wiring_of t) (knowledge_in x) n p) (k.node n)
+      ∙ offers-alike t w n p under
 
   same-on : (n l : ℕ) → l < length t.links → is_operational_on t (after t w s) n l ≡ is_operational_on t w n l
   same-on n l below =
@@ -167,7 +168,8 @@ resting-same t es tick s k n r is =
     }
 
 -- its ways are the same
-pub ways-same : (t : Network) (lawful : IsLawful t) (es : List JournalEntry) (s : Step) → Keeps t (world_of t es) s → (g : Labelling) (n edge : ℕ) → n < length t.loopbacks →
+pub ways-same : (t : Network) (lawful : IsLawful t) (es : List JournalEntry) (s : Step) → Keeps t (world_of t es) s → (g : Labelling) (n edge : ℕ) →
+    n < length t.loopbacks →
     edge < length t.loopbacks → edge ≢ n → next_entry t g (world_of t es) n edge ≡ next_entry t g (after t (world_of t es) s) n edge
 ways-same t lawful es s k g n edge below under apart =
     sym (way-is t lawful g (world_of t es) n below edge under (λ e. apart (sym e)))

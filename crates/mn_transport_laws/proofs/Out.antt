@@ -9,7 +9,8 @@ use Rattle.mn_lsr.specs.Said.{pdu_of}
 use Rattle.mn_lsr.specs.declared.said.Said.{Said}
 use Rattle.mn_transport_laws.proofs.Own.{AllOwn}
 
-pub links-out : (w : Wiring) (k n : Node) (own_labels : ℕ → ℕ) (wd me : ℕ) (ys : List node.Said) (xs : List Said) → AllOwn w k me ys → map pdu_of xs ≡ pdus w own_labels wd n ys
+pub links-out : (w : Wiring) (k n : Node) (own_labels : ℕ → ℕ) (wd me : ℕ) (ys : List node.Said) (xs : List Said) → AllOwn w k me ys →
+    map pdu_of xs ≡ pdus w own_labels wd n ys
     → AllByRecursion (λ (said : Said). said.link.0 < length w.ends) xs
 links-out w k n own_labels wd me ys [] own e = tt
 links-out w k n own_labels wd me [] (x ∷ xs) own e = absurd (let no : pdu_of x ∷ map pdu_of xs ≡ [] → ⊥ = (λ q. cc) in no e)

@@ -29,7 +29,8 @@ use Rattle.mn_transport_laws.specs.Carried.{Carried}
 use Rattle.mn_transport_laws.specs.Stands.{own_of, IsNode, IsTransport}
 use Rattle.mn_transport_laws.proofs.Tables.{way-is}
 
-over : (g : Labelling) (edge : ℕ) → ((node : ℕ) → label_in (g node) (fec_of edge) ≢ 3) → (o : Option (ℕ × ℕ)) → option_map sent_to (next_over g edge o) ≡ outer_over g edge o
+over : (g : Labelling) (edge : ℕ) → ((node : ℕ) → label_in (g node) (fec_of edge) ≢ 3) → (o : Option (ℕ × ℕ)) →
+    option_map sent_to (next_over g edge o) ≡ outer_over g edge o
 over g edge apart None = refl
 over g edge apart (Some hop) = ap (λ label. let o : Option (NodeNo × Option ℕ) = Some (record { 0 = hop.0 }, label) in o) (by (hop.0 == edge))
   where
@@ -48,7 +49,8 @@ no-null t es node edge = by (label_now (given t es node) edge) refl
 
     by : (o : Option ℕ) → label_now (given t es node) edge ≡ o → unwrap_or (label_now (given t es node) edge) 0 ≢ 3
     by None e q = (let none : 0 ≡ 3 → ⊥ = (λ x. omega (arith, x)) in none (sym (ap (λ o. unwrap_or o 0) e) ∙ q))
-    by (Some a) e q = low a ((given_fit t es node).reserved (record { label = a; what = fec_of edge }) ((given_fit t es node).given edge a e)) (sym (ap (λ o. unwrap_or o 0) e) ∙ q)
+    by (Some a) e q = low a ((given_fit t es node).reserved (record { label = a; what = fec_of edge }) ((given_fit t es node).given edge a e))
+        (sym (ap (λ o. unwrap_or o 0) e) ∙ q)
 
 apart-is : (t : Network) (es : List JournalEntry) (lawful : IsLawful t) (w : World) (node : ℕ) → node < length t.loopbacks →
     (s : Standing) → IsNode t (given t es) (rested_of t es) w node s → (edge : ℕ) → edge < length t.loopbacks → node ≢ edge
@@ -81,7 +83,8 @@ pub outer-is : (t : Network) (es : List JournalEntry) (lawful : IsLawful t) (w :
     → option_map sent_to (way_to s.wiring s.node edge) ≡ outer_for t (given t es) w node edge
 outer-is t es lawful w node below s is edge under =
     elim (eqb_tells node edge) [
-      | inl e ↦ subst (λ k. option_map sent_to (way_to s.wiring s.node k) ≡ outer_for t (given t es) w node k) e.1 (itself-is t (given t es) (rested_of t es) w node s is)
+      | inl e ↦ subst (λ k. option_map sent_to (way_to s.wiring s.node k) ≡ outer_for t (given t es) w node k) e.1
+          (itself-is t (given t es) (rested_of t es) w node s is)
       | inr e ↦ apart-is t es lawful w node below s is edge under e.1
     ]
 

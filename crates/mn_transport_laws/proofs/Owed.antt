@@ -32,7 +32,8 @@ in-one (x ∷ (y ∷ xs)) k l h i j = absurd (long h)
     long : length (x ∷ (y ∷ xs)) ≤ 1 → ⊥
     long g = omega (arith, g)
 
-pub leads-alone : (w : Wiring) (me l : ℕ) → JoinsOnce w → me < length w.loopbacks → across w l me < length w.loopbacks → l < length w.ends → is_end w l me ≡ true →
+pub leads-alone : (w : Wiring) (me l : ℕ) → JoinsOnce w → me < length w.loopbacks → across w l me < length w.loopbacks → l < length w.ends →
+    is_end w l me ≡ true →
     LeadsAlone w me l (across w l me)
 leads-alone w me l once there far below at = record {
   there = refl;
@@ -47,7 +48,7 @@ leads-alone w me l once there far below at = record {
 
 -- 2. One link of a node, by its sessions alone
 
--- by FEC, the Withdraws that were said on the link without their Releases
+-- by FEC, the Withdraws that were sent on the link without their Releases
 pub record Counts (t : Network) (s : Sessions) (l m : ℕ) (row : List ℕ) : Type 0 where
   pub each : length row ≡ length t.loopbacks
   pub counts : (p : ℕ) → p < length t.loopbacks → slice_index_or row p 0 + count_by (is_release p) (take (s.heard l m) (s.said l (across (wiring_of t) l m)))
@@ -75,7 +76,8 @@ counts-same t a b l m row same h = record {
 }
 
 -- what the node says then is counted
-pub counts-said : (t : Network) (k : Sessions) (xs ys : List Said) (l m : ℕ) (row : List ℕ) (r : Resting) → LeadsAlone (wiring_of t) m l (across (wiring_of t) l m) →
+pub counts-said : (t : Network) (k : Sessions) (xs ys : List Said) (l m : ℕ) (row : List ℕ) (r : Resting) →
+    LeadsAlone (wiring_of t) m l (across (wiring_of t) l m) →
     AllSaidBy (wiring_of t) m xs → messages_of l m ys ≡ messages_of l m xs → k.heard l m ≤ length (k.said l (across (wiring_of t) l m)) →
     row_of r (across (wiring_of t) l m) ≡ Some row → Counts t k l m row →
     (after : List ℕ) × (row_of (owed_for_said (wiring_of t) m r xs) (across (wiring_of t) l m) ≡ Some after) × Counts t (with_said k ys) l m after
@@ -88,16 +90,17 @@ counts-said t k xs ys l m row r leads all same within at h =
         counts = λ p below.
             let a = more.2.counts p (subst (λ n. p < n) (sym h.each) below) in
             let b = h.counts p below in
-            let c = ap (count_by (is_release p)) (take-append-le (k.heard l m) (k.said l (across (wiring_of t) l m)) (messages_of l (across (wiring_of t) l m) ys) within) in
+            let c = ap (count_by (is_release p))
+            (take-append-le (k.heard l m) (k.said l (across (wiring_of t) l m)) (messages_of l (across (wiring_of t) l m) ys) within) in
             let d = count_append (is_withdraw p) (k.said l m) (messages_of l m ys) in
             let e = ap (count_by (is_withdraw p)) same in
             omega (arith, a, b, c, d, e);
       },
     )
 
--- 3. A message is heard on the link
+-- 3. A message is received on the link
 
--- an end hears so many of the other's messages, and one more
+-- an end receives so many of the other's messages, and one more
 pub record HearsOne (t : Network) (a b : Sessions) (l m : ℕ) : Type 0 where
   pub heard : b.heard l m ≡ a.heard l m + 1
   pub own : b.said l m ≡ a.said l m
@@ -128,7 +131,7 @@ counts-heard t a b l m row one other h = record {
       omega (arith, x, y, z, v);
 }
 
--- no more Releases were said than Withdraws
+-- no more Releases were sent than Withdraws
 pub few-released : (t : Network) (a : Sessions) (l m p i : ℕ) → IsLawful t → Released t a → l < length t.links → is_end (wiring_of t) l m ≡ true →
     count_by (is_release p) (take i (a.said l (across (wiring_of t) l m))) ≤ count_by (is_withdraw p) (a.said l m)
 few-released t a l m p i lawful released below at =
@@ -140,7 +143,8 @@ few-released t a l m p i lawful released below at =
     omega (arith, x, y, z, v)
 
 -- a Release takes one away
-pub counts-released : (t : Network) (a b : Sessions) (l m g : ℕ) (row : List ℕ) → IsLawful t → Released t a → l < length t.links → is_end (wiring_of t) l m ≡ true →
+pub counts-released : (t : Network) (a b : Sessions) (l m g : ℕ) (row : List ℕ) → IsLawful t → Released t a → l < length t.links →
+    is_end (wiring_of t) l m ≡ true →
     HearsOne t a b l m → next_is t a l m ≡ Release g → Counts t a l m row → Counts t b l m (slice_set row g (slice_index_or row g 0 - 1))
 counts-released t a b l m g row lawful released below at one is h = record {
   each = length-set row g _ ∙ h.each;

@@ -67,7 +67,7 @@ own-news : (w : Wiring) (before : Knowledge) (n : Node) (me : ℕ) → AllOwn w 
 unfolding news
 own-news w before n me = own-from w before n me (by_neighbour w me) (λ l i. neighbour-links w me l i) 0 (offered w before me) (offered w (knowledge_in n) me)
 
--- the event's link is one of the node's, with a session once a message is heard
+-- the event's link is one of the node's, with a session once a message is received
 abbrev pub IsHere : Wiring → Node → Event → Type 0
 IsHere w n (Learns l) = ⊤
 IsHere w n (Opens l) = (l < length w.ends) × (is_end w l n.me ≡ true) × (l < length n.sessions)

@@ -46,7 +46,8 @@ pub record Puts (t : Network) (tick number : ℕ) (xs : List (Channel × Load)) 
   pub keys : keys_in new ≡ keys_in old ++ keys_on (of_messages t) (numbered t tick number xs)
   pub next_is : next ≡ number + length xs
 
-pub puts-act : (t : Network) (tick number m next : ℕ) (e : Event) (old new : Carried) (acts : Acts t tick number m e old new next) (own : ℕ → ℕ) (wd : ℕ) (n : Node)
+pub puts-act : (t : Network) (tick number m next : ℕ) (e : Event) (old new : Carried) (acts : Acts t tick number m e old new next) (own : ℕ →
+    ℕ) (wd : ℕ) (n : Node)
     (xs : List Said) → pdus_in (wiring_of t) tick (kept_in acts.was) e ≡ pdus (wiring_of t) own wd n xs → EachBy m xs
     → Puts t tick number (map message_of xs) old.messages new.messages next
 puts-act t tick number m next e old new acts own wd n xs is by = record {

@@ -1,5 +1,6 @@
 -- Where the transport stands for a world in which a step has its turn, its nodes may act.
-use Rattle.std.proofs.Common.{ℕ, zero, suc, ◌≡◌, ◌≢◌, ◌+◌, ◌<◌, ◌≤◌, ◌^◌, Bool, true, false, List, [], ◌∷◌, length, refl, arith, sym, ◌∙◌, ap, subst, Option, None, Some}
+use Rattle.std.proofs.Common.{ℕ, zero, suc, ◌≡◌, ◌≢◌, ◌+◌, ◌<◌, ◌≤◌, ◌^◌, Bool, true, false, List, [], ◌∷◌, length, refl, arith, sym, ◌∙◌, ap, subst, Option}
+use Rattle.std.proofs.Common.{None, Some}
 use Rattle.std.proofs.Common.{get_or}
 use Rattle.std.specs.Prelude.{◌&&◌, not, nat_lt, slice_get, slice_index, option_map, if◌then◌else◌}
 use Rattle.std.proofs.lemmas.List.FromFn.{length-map-range_with_len, get_or-map-range_with_len}
@@ -74,7 +75,8 @@ numbers-with : (w : Wiring) (own : ℕ → ℕ → ℕ) (n : Node) → HasNumber
 numbers-with w own n h l =
     subst (λ k. k ≤ 2 ^ 62) (sym (ap count_of (session-with w own n l) ∙ count-with (own (across w l n.me)) (session_at n l))) (h l)
 
-module _ (t : Network) (lawful : IsLawful t) (g : Labelling) (rested : ℕ → ℕ → ℕ) (w : World) (carried : Carried) (stands : StandsFor t g rested w carried) where
+module _ (t : Network) (lawful : IsLawful t) (g : Labelling) (rested : ℕ → ℕ →
+    ℕ) (w : World) (carried : Carried) (stands : StandsFor t g rested w carried) where
   -- no session lives on the link, or one does
   pub closed-at : (node l : ℕ) → l < length t.links → lives w.config l ≡ false → session_at (node_at t w node) l ≡ None
   closed-at node l h dead = session_at-is t w.config w.views w.sessions node l h ∙ none_if (lives w.config l) (is_end (wiring_of t) l node) _ dead
@@ -117,9 +119,11 @@ module _ (t : Network) (lawful : IsLawful t) (g : Labelling) (rested : ℕ → �
           (by (lives w.config l && is_end (wiring_of t) l node) _ (few l node))
       split false e =
           subst (λ o. count_of o ≤ 2 ^ 62) (sym (get_or_past (node_at t w node).sessions l None
-          (omega (arith, not_less_tells l (length t.links) e, length-map-range_with_len (session_of t w.config w.sessions node) 0 (length t.links))))) (omega arith)
+          (omega (arith, not_less_tells l (length t.links) e, length-map-range_with_len (session_of t w.config w.sessions node) 0 (length t.links)))))
+          (omega arith)
 
-  pub may-act : ((l end : ℕ) → length (w.sessions.said l end) < 4000000000) → (node : ℕ) (event : Event) → node < length t.loopbacks → link_in event < length t.links → IsAtEnd t node event →
+  pub may-act : ((l end : ℕ) → length (w.sessions.said l end) < 4000000000) → (node : ℕ) (event : Event) → node < length t.loopbacks →
+      link_in event < length t.links → IsAtEnd t node event →
       IsReady carried.changes (node_at t w node) event
       → MayAct t carried node event
   may-act few node event below link_there at_end ready =
@@ -131,21 +135,27 @@ module _ (t : Network) (lawful : IsLawful t) (g : Labelling) (rested : ℕ → �
         wiring = is.wiring;
         me = ap (λ n. n.me) is.node_is;
         links = links-are;
-        sessions = ap (λ n. length n.sessions) is.node_is ∙ length-with (wiring_of t) (own_of g) node 0 (node_at t w node).sessions ∙ length-map-range_with_len _ 0 (length t.links);
+        sessions = ap (λ n. length n.sessions) is.node_is ∙ length-with (wiring_of t) (own_of g) node 0 (node_at t w node).sessions
+            ∙ length-map-range_with_len _ 0 (length t.links);
         link = link_there;
         at_end = at_end;
-        ready = subst (λ n. IsReady carried.changes n event) (sym is.node_is) (ready-with (wiring_of t) (own_of g) carried.changes (node_at t w node) event ready);
+        ready = subst (λ n. IsReady carried.changes n event) (sym is.node_is)
+            (ready-with (wiring_of t) (own_of g) carried.changes (node_at t w node) event ready);
         numbers = subst HasNumbers (sym is.node_is) (numbers-with (wiring_of t) (own_of g) (node_at t w node) (few-at few node));
       }
 
   -- both ends of a link whose session doesn't live may open it, and of one whose session lives may close it
-  pub may-open : ((l end : ℕ) → length (w.sessions.said l end) < 4000000000) → (l : ℕ) → l < length t.links → lives w.config l ≡ false → MayBoth t carried l (Opens l)
+  pub may-open : ((l end : ℕ) → length (w.sessions.said l end) < 4000000000) → (l : ℕ) → l < length t.links → lives w.config l ≡ false →
+      MayBoth t carried l (Opens l)
   may-open few l h dead = record {
-    a = may-act few (link (wiring_of t) l).a.0 (Opens l) (lawful.joins_nodes l h).0 h (is_end-a (wiring_of t) l) (closed-at (link (wiring_of t) l).a.0 l h dead);
-    b = may-act few (link (wiring_of t) l).b.0 (Opens l) (lawful.joins_nodes l h).1 h (is_end-b (wiring_of t) l) (closed-at (link (wiring_of t) l).b.0 l h dead);
+    a = may-act few (link (wiring_of t) l).a.0 (Opens l) (lawful.joins_nodes l h).0 h (is_end-a (wiring_of t) l)
+        (closed-at (link (wiring_of t) l).a.0 l h dead);
+    b = may-act few (link (wiring_of t) l).b.0 (Opens l) (lawful.joins_nodes l h).1 h (is_end-b (wiring_of t) l)
+        (closed-at (link (wiring_of t) l).b.0 l h dead);
   }
 
-  pub may-close : ((l end : ℕ) → length (w.sessions.said l end) < 4000000000) → (l : ℕ) → l < length t.links → lives w.config l ≡ true → MayBoth t carried l (Closes l)
+  pub may-close : ((l end : ℕ) → length (w.sessions.said l end) < 4000000000) → (l : ℕ) → l < length t.links → lives w.config l ≡ true →
+      MayBoth t carried l (Closes l)
   may-close few l h alive = record {
     a = may-act few (link (wiring_of t) l).a.0 (Closes l) (lawful.joins_nodes l h).0 h (is_end-a (wiring_of t) l)
         (open-at (link (wiring_of t) l).a.0 l h alive (is_end-a (wiring_of t) l));

@@ -125,14 +125,16 @@ stays-in-flight t lawful es ps journal e named l dir below m i = by m i
     mentioned : (x : Message) (fec : ℕ) → Flies x → is_mention fec x ≡ true → fec < length t.loopbacks → fec ≢ sender (wiring_of t) l dir →
         StaysLabelled t es e (sender (wiring_of t) l dir) fec
     mentioned x fec j is under apart =
-        (keeps_what_is_said t es ps e (sender (wiring_of t) l dir) fec l lawful journal (ends_below t lawful.joins_nodes l (sender (wiring_of t) l dir) below back.0) under apart below back.0).mention x
+        (keeps_what_is_said t es ps e (sender (wiring_of t) l dir) fec l lawful journal
+        (ends_below t lawful.joins_nodes l (sender (wiring_of t) l dir) below back.0) under apart below back.0).mention x
         (contained_in (flying_from t (world_of t es) l (sender (wiring_of t) l dir)) x
         (subst (λ n. In (drop ((world_of t es).sessions.heard l n) ((world_of t es).sessions.said l (sender (wiring_of t) l dir))) x) (sym back.1) j)) is
 
     released : (x : Message) (fec : ℕ) → Flies x → is_release fec x ≡ true → fec < length t.loopbacks → fec ≢ receiver (wiring_of t) l dir →
         StaysLabelled t es e (receiver (wiring_of t) l dir) fec
     released x fec j is under apart =
-        (keeps_what_is_said t es ps e (receiver (wiring_of t) l dir) fec l lawful journal (ends_below t lawful.joins_nodes l (receiver (wiring_of t) l dir) below ends.0) under apart below ends.0).release x
+        (keeps_what_is_said t es ps e (receiver (wiring_of t) l dir) fec l lawful journal
+        (ends_below t lawful.joins_nodes l (receiver (wiring_of t) l dir) below ends.0) under apart below ends.0).release x
         (contained_in (flying_from t (world_of t es) l (across (wiring_of t) l (receiver (wiring_of t) l dir))) x
         (subst (λ n. In (drop ((world_of t es).sessions.heard l (across (wiring_of t) l n)) ((world_of t es).sessions.said l n)) x) (sym ends.1)
         (subst (λ n. In (drop ((world_of t es).sessions.heard l n) ((world_of t es).sessions.said l (sender (wiring_of t) l dir))) x) (sym back.1) j))) is
@@ -153,7 +155,8 @@ pub same-in-flight : (t : Network) (lawful : IsLawful t) (es : List JournalEntry
     HasSame (wiring_of t) (labels_at t es) (labels_at t (es ++ e ∷ [])) l (sender (wiring_of t) l dir) m
 same-in-flight t lawful es ps journal e named l dir below m i = by m (stays-in-flight t lawful es ps journal e named l dir below m i)
   where
-    by : (x : Message) → HasStays t es e l (sender (wiring_of t) l dir) x → HasSame (wiring_of t) (labels_at t es) (labels_at t (es ++ e ∷ [])) l (sender (wiring_of t) l dir) x
+    by : (x : Message) → HasStays t es e l (sender (wiring_of t) l dir) x →
+        HasSame (wiring_of t) (labels_at t es) (labels_at t (es ++ e ∷ [])) l (sender (wiring_of t) l dir) x
     by Initialization h = tt
     by KeepAlive h = tt
     by Address h = tt
@@ -162,7 +165,8 @@ same-in-flight t lawful es ps journal e named l dir below m i = by m (stays-in-f
     by (Release fec) h = stays_same t es e (across (wiring_of t) l (sender (wiring_of t) l dir)) fec h
 
 -- and a label of 20 bits, where the nodes' labels have
-label-fits : (t : Network) (es : List JournalEntry) (e : JournalEntry) (n fec : ℕ) → greatest (given t es n).given < 2 ^ 20 → (fec ≢ n → StaysLabelled t es e n fec) →
+label-fits : (t : Network) (es : List JournalEntry) (e : JournalEntry) (n fec : ℕ) → greatest (given t es n).given < 2 ^ 20 →
+    (fec ≢ n → StaysLabelled t es e n fec) →
     IsLabel (labels_at t (es ++ e ∷ []) n fec)
 label-fits t es e n fec few stays = elim (eqb_tells n fec) [
   | inl x ↦ inl (ap (λ b. if b then 3 else unwrap_or (label_now (labels_of t (es ++ e ∷ []) n) fec) 0) x.0)

@@ -1,4 +1,4 @@
--- A Release that a node says brings the label of the Withdraw that it has just heard.
+-- A Release that a node says brings the label of the Withdraw that it has just received.
 use Rattle.std.proofs.Common.{ℕ, ◌≡◌, ◌+◌, Bool, true, false, List, [], ◌∷◌, ◌++◌, sym, Option, None, Some}
 use Rattle.std.specs.Prelude.{◌&&◌, if◌then◌else◌, ⊤}
 use Rattle.std.specs.List.{flat_map}
@@ -13,7 +13,8 @@ use Rattle.mn_node.specs.Machine.{Event, Learns, Opens, Closes, Hears, speaks_fi
 use Rattle.mn_transport_laws.specs.Sending.{released_by}
 use Rattle.mn_transport_laws.proofs.Spelled.{AllReleases}
 
-rel-append : (w : Wiring) (g : ℕ → ℕ → ℕ) (me wd : ℕ) (xs ys : List Said) → AllReleases w g me wd xs → AllReleases w g me wd ys → AllReleases w g me wd (xs ++ ys)
+rel-append : (w : Wiring) (g : ℕ → ℕ → ℕ) (me wd : ℕ) (xs ys : List Said) → AllReleases w g me wd xs → AllReleases w g me wd ys →
+    AllReleases w g me wd (xs ++ ys)
 rel-append w g me wd [] ys h k = k
 rel-append w g me wd (x ∷ xs) ys h k = (h.0, rel-append w g me wd xs ys h.1 k)
 
@@ -80,7 +81,7 @@ rel-answers : (w : Wiring) (g : ℕ → ℕ → ℕ) (me l label : ℕ) (o : Opt
 rel-answers w g me l label None message e = tt
 rel-answers w g me l label (Some session) message e = rel-answer w g me l label session.state message e
 
--- what is heard brings the label that the far end gave
+-- what is received brings the label that the far end gave
 abbrev pub IsBrought : Wiring → (ℕ → ℕ → ℕ) → Node → Event → Type 0
 IsBrought w g n (Hears l message label) = label ≡ label_with (g (across w l n.me)) message
 IsBrought w g n _ = ⊤

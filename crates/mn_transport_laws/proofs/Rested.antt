@@ -28,13 +28,15 @@ abbrev pub HasCounts : Network → Sessions → ℕ → ℕ → Bool → Option 
 HasCounts t s l m true counted = (row : List ℕ) × (counted ≡ Some row) × Counts t s l m row
 HasCounts t s l m false counted = counted ≡ None
 
-pub row-same : (t : Network) (a b : Sessions) (l m : ℕ) (on on_then : Bool) (row row_then : Option (List ℕ)) → on_then ≡ on → IsSame t a b l m → row_then ≡ row →
+pub row-same : (t : Network) (a b : Sessions) (l m : ℕ) (on on_then : Bool) (row row_then : Option (List ℕ)) → on_then ≡ on → IsSame t a b l m →
+    row_then ≡ row →
     HasCounts t a l m on row → HasCounts t b l m on_then row_then
 row-same t a b l m on true row row_then e same f h =
     let was : HasCounts t a l m true row = subst (λ o. HasCounts t a l m o row) (sym e) h in (was.0, f ∙ was.1, counts-same t a b l m was.0 same was.2)
 row-same t a b l m on false row row_then e same f h = f ∙ subst (λ o. HasCounts t a l m o row) (sym e) h
 
-pub row-none : (t : Network) (b : Sessions) (l m : ℕ) (on_then : Bool) (row_then : Option (List ℕ)) → on_then ≡ false → row_then ≡ None → HasCounts t b l m on_then row_then
+pub row-none : (t : Network) (b : Sessions) (l m : ℕ) (on_then : Bool) (row_then : Option (List ℕ)) → on_then ≡ false → row_then ≡ None →
+    HasCounts t b l m on_then row_then
 row-none t b l m true row_then e f = cc
 row-none t b l m false row_then e f = f
 
@@ -45,9 +47,10 @@ pub row-said : (t : Network) (k : Sessions) (xs ys : List Said) (l m : ℕ) (on 
 row-said t k xs ys l m true r leads all same within h = counts-said t k xs ys l m h.0 r leads all same within h.1 h.2
 row-said t k xs ys l m false r leads all same within h = owed-none (wiring_of t) m (across (wiring_of t) l m) xs r h
 
--- 2. Where a message is heard
+-- 2. Where a message is received
 
-none-set : (rows : List (Option (List ℕ))) (k : ℕ) (x : Option (List ℕ)) → slice_index_or rows k None ≡ None → x ≡ None → slice_index_or (slice_set rows k x) k None ≡ None
+none-set : (rows : List (Option (List ℕ))) (k : ℕ) (x : Option (List ℕ)) → slice_index_or rows k None ≡ None → x ≡ None →
+    slice_index_or (slice_set rows k x) k None ≡ None
 none-set [] k x e f = refl
 none-set (row ∷ rows) zero x e f = f
 none-set (row ∷ rows) (suc k) x e f = none-set rows k x e f
@@ -130,7 +133,8 @@ row-heard t a b l m tick lawful message r free below at one is (suc zero) e has 
     said false g = g
 row-heard t a b l m tick lawful message r free below at one is (suc (suc n)) e has talk inside long h =
     subst (λ o. HasCounts t b l m o (row_of (rested_by_message tick message (Some Operational) (across (wiring_of t) l m) r) (across (wiring_of t) l m)))
-    (sym (at_most_is 2 (suc (suc n) + 1) (omega arith))) (late t a b l m (across (wiring_of t) l m) tick lawful message r was.0 free below at one is was.1 was.2)
+    (sym (at_most_is 2 (suc (suc n) + 1) (omega arith)))
+    (late t a b l m (across (wiring_of t) l m) tick lawful message r was.0 free below at one is was.1 was.2)
   where
     was : HasCounts t a l m true (row_of r (across (wiring_of t) l m))
     was = subst (λ o. HasCounts t a l m o (row_of r (across (wiring_of t) l m))) (at_most_is 2 (suc (suc n)) (omega arith)) h
@@ -146,7 +150,8 @@ row-closed t a l m tick far active r (suc (suc n)) inside h = get_or-set_same r.
 
 -- 4. Another neighbour's row stays
 
-pub message-off : (tick : ℕ) (m : Message) (st : Option LdpState) (far other : ℕ) (r : Resting) → other ≢ far → row_of (rested_by_message tick m st far r) other ≡ row_of r other
+pub message-off : (tick : ℕ) (m : Message) (st : Option LdpState) (far other : ℕ) (r : Resting) → other ≢ far →
+    row_of (rested_by_message tick m st far r) other ≡ row_of r other
 message-off tick (Release g) st far other r d = get_or-set_other r.owed far other _ None d
 message-off tick KeepAlive (Some OpenRec) far other r d = get_or-set_other r.owed far other _ None d
 message-off tick _ _ far other r d = refl
@@ -193,7 +198,7 @@ message-tick tick Address st far p r below h = cc
 message-tick tick (Mapping fec) st far p r below h = cc
 message-tick tick (Withdraw fec) st far p r below h = cc
 
--- and nothing else that is heard lays any to rest
+-- and nothing else that is received lays any to rest
 pub message-still : (tick : ℕ) (m : Message) (st : Option LdpState) (far p : ℕ) (r : Resting) → is_release p m ≡ false →
     slice_index_or (rested_by_message tick m st far r).rested p 0 ≡ slice_index_or r.rested p 0
 message-still tick (Release g) st far p r h = elim (eqb_tells p g) [

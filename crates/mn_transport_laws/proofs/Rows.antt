@@ -1,4 +1,4 @@
--- What becomes of the row of one neighbour, and of the ticks since when FECs rest, as messages are said.
+-- What becomes of the row of one neighbour, and of the ticks since when FECs rest, as messages are sent.
 use Rattle.std.proofs.Common.{ℕ, zero, suc, ◌≡◌, ◌≢◌, ◌+◌, ◌<◌, inl, inr, Bool, true, false, cond, List, [], ◌∷◌, length, refl, arith, sym, ◌∙◌, ap, subst}
 use Rattle.std.proofs.Common.{Option, Some, None, length-set}
 use Rattle.std.specs.Prelude.{◌==◌, ◌&&◌, slice_index_or, slice_set, map, filter, ⊤}
@@ -52,7 +52,7 @@ set-more row g = record {
 no-more : (row : List ℕ) → IsMore row row (λ fec. 0)
 no-more row = record { each = refl; counts = λ fec below. omega arith }
 
--- a message that is said to the neighbour
+-- a message that is sent to the neighbour
 said-here : (r : Resting) (far : ℕ) (row : List ℕ) (m : Message) → row_of r far ≡ Some row →
     HasMore (row_of (owed_for_message m far r) far) row (λ fec. count_by (is_withdraw fec) (m ∷ []))
 said-here r far row (Withdraw g) e =
@@ -74,7 +74,7 @@ said-here r far row Address e = (row, e, no-more row)
 said-here r far row (Mapping fec) e = (row, e, no-more row)
 said-here r far row (Release fec) e = (row, e, no-more row)
 
--- and one that is said to another
+-- and one that is sent to another
 said-off : (r : Resting) (to far : ℕ) (m : Message) → far ≢ to → row_of (owed_for_message m to r) far ≡ row_of r far
 said-off r to far (Withdraw g) d = get_or-set_other r.owed to far _ None d
 said-off r to far Initialization d = refl
@@ -83,7 +83,7 @@ said-off r to far Address d = refl
 said-off r to far (Mapping fec) d = refl
 said-off r to far (Release fec) d = refl
 
--- 2. All that is said
+-- 2. All that is sent
 
 -- the link's other end is the neighbour, and no other link of the node leads there
 pub record LeadsAlone (w : Wiring) (me l far : ℕ) : Type 0 where
@@ -111,7 +111,8 @@ count-first q m ms = by (q m)
     by true = omega arith
     by false = omega arith
 
-both : (before middle after : List ℕ) (f g h : ℕ → ℕ) → IsMore before middle f → IsMore middle after g → ((fec : ℕ) → h fec ≡ f fec + g fec) → IsMore before after h
+both : (before middle after : List ℕ) (f g h : ℕ → ℕ) → IsMore before middle f → IsMore middle after g → ((fec : ℕ) → h fec ≡ f fec + g fec) →
+    IsMore before after h
 both before middle after f g h one two sum = record {
   each = two.each ∙ one.each;
   counts = λ fec below.
@@ -121,7 +122,7 @@ both before middle after f g h one two sum = record {
       omega (arith, a, b, c);
 }
 
--- the neighbour owes one Release more for each Withdraw that is said on its link
+-- the neighbour owes one Release more for each Withdraw that is sent on its link
 pub owed-more : (w : Wiring) (me l far : ℕ) → LeadsAlone w me l far → (xs : List Said) → AllSaidBy w me xs → (r : Resting) (row : List ℕ) →
     row_of r far ≡ Some row → HasMore (row_of (owed_for_said w me r xs) far) row (λ fec. count_by (is_withdraw fec) (messages_of l me xs))
 owed-more w me l far leads [] all r row e = (row, e, no-more row)
@@ -129,7 +130,8 @@ owed-more w me l far leads (x ∷ xs) all r row e = elim (eqb_tells x.link l) [
   | inl p ↦
       let to : across w x.link me ≡ far = ap (λ k. across w k me) p.1 ∙ leads.there in
       let one : HasMore (row_of (owed_for_message x.message (across w x.link me) r) far) row (λ fec. count_by (is_withdraw fec) (x.message ∷ [])) =
-      subst (λ k. HasMore (row_of (owed_for_message x.message k r) far) row (λ fec. count_by (is_withdraw fec) (x.message ∷ []))) (sym to) (said-here r far row x.message e) in
+      subst (λ k. HasMore (row_of (owed_for_message x.message k r) far) row (λ fec. count_by (is_withdraw fec) (x.message ∷ []))) (sym to)
+      (said-here r far row x.message e) in
       let rest = owed-more w me l far leads xs all.1 (owed_for_message x.message (across w x.link me) r) one.0 one.1 in (
         rest.0,
         rest.1,
@@ -139,7 +141,8 @@ owed-more w me l far leads (x ∷ xs) all r row e = elim (eqb_tells x.link l) [
       )
   | inr p ↦
       let apart : far ≢ across w x.link me = (λ q. p.1 (leads.alone x.link all.0.1 all.0.2 (sym q))) in
-      let rest = owed-more w me l far leads xs all.1 (owed_for_message x.message (across w x.link me) r) row (said-off r (across w x.link me) far x.message apart ∙ e) in (
+      let rest = owed-more w me l far leads xs all.1 (owed_for_message x.message (across w x.link me) r) row
+      (said-off r (across w x.link me) far x.message apart ∙ e) in (
         rest.0,
         rest.1,
         record {
@@ -151,7 +154,8 @@ owed-more w me l far leads (x ∷ xs) all r row e = elim (eqb_tells x.link l) [
 ]
 
 -- where there is no row there is none then
-none-more : (rows : List (Option (List ℕ))) (k : ℕ) → slice_index_or rows k None ≡ None → (x : Option (List ℕ)) → x ≡ None → slice_index_or (slice_set rows k x) k None ≡ None
+none-more : (rows : List (Option (List ℕ))) (k : ℕ) → slice_index_or rows k None ≡ None → (x : Option (List ℕ)) → x ≡ None →
+    slice_index_or (slice_set rows k x) k None ≡ None
 none-more [] k e x f = refl
 none-more (row ∷ rows) zero e x f = f
 none-more (row ∷ rows) (suc k) e x f = none-more rows k e x f
@@ -173,7 +177,7 @@ owed-none w me far [] r e = e
 owed-none w me far (x ∷ xs) r e =
     owed-none w me far xs (owed_for_message x.message (across w x.link me) r) (none-said r (across w x.link me) far x.message e)
 
--- what is said changes nothing else
+-- what is sent changes nothing else
 said-length : (r : Resting) (to : ℕ) (m : Message) → length (owed_for_message m to r).owed ≡ length r.owed
 said-length r to (Withdraw g) = length-set r.owed to _
 said-length r to Initialization = refl
@@ -195,7 +199,8 @@ owed-length w me [] r = refl
 owed-length w me (x ∷ xs) r =
     owed-length w me xs (owed_for_message x.message (across w x.link me) r) ∙ said-length r (across w x.link me) x.message
 
-pub owed-rested : (w : Wiring) (me : ℕ) (xs : List Said) (r : Resting) → ((owed_for_said w me r xs).rested ≡ r.rested) × ((owed_for_said w me r xs).life ≡ r.life)
+pub owed-rested : (w : Wiring) (me : ℕ) (xs : List Said) (r : Resting) →
+    ((owed_for_said w me r xs).rested ≡ r.rested) × ((owed_for_said w me r xs).life ≡ r.life)
 owed-rested w me [] r = (refl, refl)
 owed-rested w me (x ∷ xs) r =
     let rest = owed-rested w me xs (owed_for_message x.message (across w x.link me) r) in
@@ -211,7 +216,8 @@ stopped-owed tick (fec ∷ fecs) r =
     let rest = stopped-owed tick fecs (stopped r fec tick) in (rest.0, rest.1, rest.2 ∙ length-set r.rested fec tick)
 
 -- one that doesn't keeps its tick
-pub stopped-off : (tick : ℕ) (fecs : List ℕ) (r : Resting) (p : ℕ) → (In fecs p → ⊥) → slice_index_or (all_stopped tick r fecs).rested p 0 ≡ slice_index_or r.rested p 0
+pub stopped-off : (tick : ℕ) (fecs : List ℕ) (r : Resting) (p : ℕ) → (In fecs p → ⊥) →
+    slice_index_or (all_stopped tick r fecs).rested p 0 ≡ slice_index_or r.rested p 0
 stopped-off tick [] r p out = refl
 stopped-off tick (fec ∷ fecs) r p out =
     stopped-off tick fecs (stopped r fec tick) p (λ i. out (inr i)) ∙ get_or-set_other r.rested fec p tick 0 (λ e. out (inl (sym e)))
@@ -222,7 +228,8 @@ stopped-has : (tick : ℕ) (fecs : List ℕ) (r : Resting) (p : ℕ) → p < len
 stopped-has tick [] r p below e = e
 stopped-has tick (fec ∷ fecs) r p below e =
     stopped-has tick fecs (stopped r fec tick) p (subst (λ n. p < n) (sym (length-set r.rested fec tick)) below) (elim (eqb_tells p fec) [
-      | inl q ↦ ap (λ k. slice_index_or (slice_set r.rested fec tick) k 0) q.1 ∙ get_or-set_same r.rested fec tick 0 (subst (λ k. k < length r.rested) q.1 below)
+      | inl q ↦ ap (λ k. slice_index_or (slice_set r.rested fec tick) k 0) q.1
+          ∙ get_or-set_same r.rested fec tick 0 (subst (λ k. k < length r.rested) q.1 below)
       | inr q ↦ get_or-set_other r.rested fec p tick 0 q.1 ∙ e
     ])
 

@@ -58,7 +58,8 @@ module _ (t : Network) (lawful : IsLawful t) (old seen : Carried) (view_is : old
         (attach-goes t lawful es turn.inputs turn.lawful tick s old x now label (stands-old es stands) there turn.turn.changes (here es stands) did))
 
     pub attached-label : (tick : ℕ) → label ≡ label_at (given t (pushed es tick (step.Attach s))) (home_of t s.0) s.0 ((world_of t es).config.attaches s.0 + 2)
-    attached-label tick = attach-label t lawful es turn.inputs turn.lawful tick s old x now label (stands-old es stands) there turn.turn.changes (here es stands) did
+    attached-label tick = attach-label t lawful es turn.inputs turn.lawful tick s old x now label (stands-old es stands) there turn.turn.changes
+        (here es stands) did
 
     pub attached-next : label ≡ greatest (given t es (home_of t s.0)).given + 1
     attached-next = attach-next t lawful es turn.inputs turn.lawful 0 s old x now label (stands-old es stands) there turn.turn.changes (here es stands) did
@@ -101,7 +102,8 @@ module _ (t : Network) (lawful : IsLawful t) (old seen : Carried) (view_is : old
         (tick : ℕ) → IsTransport t (pushed es tick (step.Detach s)) (record old { nodes = slice_set old.nodes index now })
     detached-goes now did tick =
         subst (λ k. IsTransport t (pushed es tick (step.Detach s)) (record old { nodes = slice_set old.nodes k now })) (sym (from ∙ home))
-        (detach-goes t lawful es turn.inputs turn.lawful tick s old (stands-old es stands) site-there turn.turn.changes x (here es stands) now (subst (IsDetached x now) label-is did))
+        (detach-goes t lawful es turn.inputs turn.lawful tick s old (stands-old es stands) site-there turn.turn.changes x (here es stands) now
+        (subst (IsDetached x now) label-is did))
 
   -- where it has wanted no memory
   pub edge-works : (es : List JournalEntry) → IsTransport t es seen → x.failed ≡ false

@@ -77,7 +77,7 @@ pdu-is w g l me wd id (Release fec) h = ap (λ label. pdu w l me (g me) label id
 
 -- 3. Counts
 
--- a session in which one message more is said has said one more
+-- a session in which one message more is sent has sent one more
 counted : (o : Option Session) → o ≢ None → count_of (option_map (with_count 1) o) ≡ count_of o + 1
 counted None h = absurd (h refl)
 counted (Some s) h = refl
@@ -137,7 +137,7 @@ messages-off l node x xs e = ap (λ b. map (λ (said : Said). said.message) (con
 by-me : (x : Said) (me : ℕ) → x.end ≡ me → is_by x.link me x ≡ true
 by-me x me e = ap (λ b. b && (x.end == me)) (same_test x.link) ∙ ap (λ m. m == me) e ∙ same_test me
 
--- a node's message on a link stands behind those that it said there
+-- a node's message on a link stands behind those that it sent there
 mine-here : (w : Wiring) (g : ℕ → ℕ → ℕ) (me : ℕ) (dir : Dir) (tick number wd : ℕ) (n : Node) (x : Said) (xs : List Said) → n.me ≡ me →
     (link w x.link).a.0 ≢ (link w x.link).b.0 → sender w x.link dir ≡ me
     → IsOwn w n me x → IsReleaseOf w g me x.link wd x.message
@@ -177,7 +177,8 @@ first-off w g l me dir tick number wd n x xs =
 mine-off : (w : Wiring) (g : ℕ → ℕ → ℕ) (l me : ℕ) (dir : Dir) (tick number wd : ℕ) (n : Node) (x : Said) (xs : List Said) → x.link ≢ l
     → bytes_on (channel l dir) (put_pdus w me tick (number + 1) (pdus w (g me) wd (one_said n x.link) xs)) ≡ spelled w g l me
     (count_of (session_at (one_said n x.link) l) + 1) (messages_of l me xs)
-    → bytes_on (channel l dir) (put_pdus w me tick number (pdus w (g me) wd n (x ∷ xs))) ≡ spelled w g l me (count_of (session_at n l) + 1) (messages_of l me (x ∷ xs))
+    → bytes_on (channel l dir) (put_pdus w me tick number (pdus w (g me) wd n (x ∷ xs))) ≡ spelled w g l me (count_of (session_at n l) + 1)
+    (messages_of l me (x ∷ xs))
 mine-off w g l me dir tick number wd n x xs d rest =
     first-off w g l me dir tick number wd n x xs (other-link w x.link l me dir d)
     ∙ rest
@@ -185,7 +186,8 @@ mine-off w g l me dir tick number wd n x xs d rest =
     ∙ sym (ap (spelled w g l me (count_of (session_at n l) + 1)) (messages-off l me x xs (ap (λ b. b && (x.end == me)) (other_test x.link l d))))
 
 -- where the node is the one that sends there, what it says on the link
-pub spelled-mine : (w : Wiring) (g : ℕ → ℕ → ℕ) (l me : ℕ) (dir : Dir) (tick number wd : ℕ) (n : Node) (xs : List Said) → n.me ≡ me → EndsDiffer w → sender w l dir ≡ me
+pub spelled-mine : (w : Wiring) (g : ℕ → ℕ → ℕ) (l me : ℕ) (dir : Dir) (tick number wd : ℕ) (n : Node) (xs : List Said) → n.me ≡ me → EndsDiffer w →
+    sender w l dir ≡ me
     → AllOwn w n me xs → AllReleases w g me wd xs
     → bytes_on (channel l dir) (put_pdus w me tick number (pdus w (g me) wd n xs)) ≡ spelled w g l me (count_of (session_at n l) + 1) (messages_of l me xs)
 spelled-mine w g l me dir tick number wd n [] mine differ sends own rel = refl
@@ -195,7 +197,8 @@ spelled-mine w g l me dir tick number wd n (x ∷ xs) mine differ sends own rel 
           bytes_on (channel k dir) (put_pdus w me tick number (pdus w (g me) wd n (x ∷ xs))) ≡ spelled w g k me (count_of (session_at n k) + 1)
           (messages_of k me (x ∷ xs))) p.1
           (λ at. mine-here w g me dir tick number wd n x xs mine (differ x.link own.0.there) at own.0 rel.0
-          (spelled-mine w g x.link me dir tick (number + 1) wd (one_said n x.link) xs mine differ at (own-still w n me x.link xs own.0.lives own.1) rel.1)) sends
+          (spelled-mine w g x.link me dir tick (number + 1) wd (one_said n x.link) xs mine differ at (own-still w n me x.link xs own.0.lives own.1) rel.1))
+          sends
       | inr p ↦ mine-off w g l me dir tick number wd n x xs p.1
           (spelled-mine w g l me dir tick (number + 1) wd (one_said n x.link) xs mine differ sends (own-still w n me x.link xs own.0.lives own.1) rel.1)
     ]
@@ -232,15 +235,17 @@ spelled-append w g l s id (m ∷ ms) more =
     ap (λ bs. (pdu_in_network w l s (g s) (g (across w l s)) id m).bytes ∷ bs)
     (spelled-append w g l s (id + 1) ms more ∙ ap (λ k. spelled w g l s (id + 1) ms ++ spelled w g l s k more) (omega arith))
 
--- what flies in a direction is the spelling of what was said and not heard
+-- what flies in a direction is the spelling of what was sent and not received
 abbrev pub FliesAs : Wiring → (ℕ → ℕ → ℕ) → ℕ → Dir → ℕ → List Message → List (Item (List ℕ)) → Type 0
 FliesAs w g l dir heard said items = bytes_on (channel l dir) items ≡ drop heard (spelled w g l (sender w l dir) 1 said)
 
--- and once a node has said more it is so of all
-pub flies-on : (w : Wiring) (g : ℕ → ℕ → ℕ) (l me : ℕ) (dir : Dir) (tick number wd heard : ℕ) (said : List Message) (n : Node) (xs : List Said) (items : List (Item (List ℕ)))
+-- and once a node has sent more it is so of all
+pub flies-on : (w : Wiring) (g : ℕ → ℕ →
+    ℕ) (l me : ℕ) (dir : Dir) (tick number wd heard : ℕ) (said : List Message) (n : Node) (xs : List Said) (items : List (Item (List ℕ)))
     → n.me ≡ me → EndsDiffer w → AllOwn w n me xs → AllReleases w g me wd xs → heard ≤ length said →
     (sender w l dir ≡ me → messages_of l me xs ≢ [] → count_of (session_at n l) ≡ length said)
-    → FliesAs w g l dir heard said items → FliesAs w g l dir heard (said ++ messages_of l (sender w l dir) xs) (items ++ put_pdus w me tick number (pdus w (g me) wd n xs))
+    → FliesAs w g l dir heard said items →
+    FliesAs w g l dir heard (said ++ messages_of l (sender w l dir) xs) (items ++ put_pdus w me tick number (pdus w (g me) wd n xs))
 flies-on w g l me dir tick number wd heard said n xs items mine differ own rel within count flies =
     bytes-append (channel l dir) items (put_pdus w me tick number (pdus w (g me) wd n xs))
     ∙ ap (λ bs. bs ++ bytes_on (channel l dir) (put_pdus w me tick number (pdus w (g me) wd n xs))) flies

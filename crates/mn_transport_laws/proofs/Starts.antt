@@ -173,7 +173,8 @@ label-among p site (suc n) (suc m) b e h is a =
     past q = omega (arith, q, e)
 
     either : (c : Bool) → (site == b) ≡ false →
-        ((a : ℕ) → label_given (attachment_of site 1) (first_given a (filter p (range_with_len (b + 1) n))) ≡ a + length (filter p (range_with_len (b + 1) m))) →
+        ((a : ℕ) → label_given (attachment_of site 1) (first_given a (filter p (range_with_len (b + 1) n))) ≡ a + length (filter p (range_with_len (b + 1) m)))
+        →
         label_given (attachment_of site 1) (first_given a (cond c (b ∷ filter p (range_with_len (b + 1) n)) (filter p (range_with_len (b + 1) n))))
         ≡ a + length (cond c (b ∷ filter p (range_with_len (b + 1) m)) (filter p (range_with_len (b + 1) m)))
     either true q rest = let more = rest (a + 1) in rw q (omega (arith, more))
@@ -339,7 +340,8 @@ module _ (t : Network) where
   rests-first node = record {
     neighbours = length-replicate (length t.loopbacks) None;
     fecs = length-replicate (length t.loopbacks) 0;
-    rows = λ l below at. subst (λ b. HasRow t (start t) node l b (row_of (at_first (length t.loopbacks) 0) (across (wiring_of t) l node))) (sym (closed l below))
+    rows = λ l below at. subst (λ b. HasRow t (start t) node l b (row_of (at_first (length t.loopbacks) 0) (across (wiring_of t) l node)))
+        (sym (closed l below))
         (nothing-at None (length t.loopbacks) (across (wiring_of t) l node));
     strangers = λ other none. nothing-at None (length t.loopbacks) other;
     rested_is = λ fec under. nothing-at 0 (length t.loopbacks) fec;

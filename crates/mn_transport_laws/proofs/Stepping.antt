@@ -72,7 +72,7 @@ messages-own l m xs = ap (map (λ (said : Said). said.message)) (by xs)
         either false e rest = ap (λ b. cond ((x.link == l) && b) (x ∷ filter (is_by l m) xs) (filter (is_by l m) xs)) e
             ∙ ap (λ b. cond b (x ∷ filter (is_by l m) xs) (filter (is_by l m) xs)) (and_false (x.link == l)) ∙ rest
 
--- 2. What a node knows isn't told by what it said
+-- 2. What a node knows isn't told by what it sent
 
 said-hearing : (k : ℕ) (o : Option Session) → hearing_in (option_map (with_count k) o) ≡ hearing_in o
 said-hearing k None = refl
@@ -125,7 +125,7 @@ counted-far t lawful w (step.HearLdp l dir) turn moves =
     (not_at_most_tells _ _ (or_off _ _ turn.there).1)) (ends_far t w.config w.sessions turn.turn.ldp)
 counted-far t lawful w _ turn moves = cc
 
--- what is said is said in the sessions of the step
+-- what is sent is sent in the sessions of the step
 pub spoken-is : (t : Network) (w : World) (s : Step) → is_transport s ≡ true
     → (after t w s).sessions ≡ with_said (ldp_counted t w.sessions s)
     (said_in t w.config w.views w.sessions (config_after w.config s) (views_after w.views s) (ldp_counted t w.sessions s) s)
@@ -195,7 +195,8 @@ module _ (t : Network) (lawful : IsLawful t) (es : List JournalEntry) (ps : List
       abbrev pub event_then : Event
       event_then = event_with (wiring_of t) (labels_at t (pushed es tick s)) m e
 
-      pub becomes : after_event (wiring_of t) (node_before m) event_then ≡ node_with (wiring_of t) (labels_at t (pushed es tick s)) (node_at t (after t (world_of t es) s) m)
+      pub becomes : after_event (wiring_of t) (node_before m) event_then ≡ node_with (wiring_of t) (labels_at t (pushed es tick s))
+          (node_at t (after t (world_of t es) s) m)
       becomes = (goes_alike (wiring_of t) own (node_at t w m) e).then_is
           ∙ ap (node_with (wiring_of t) own) (sym (nodes-by.each m below ∙ ap (after_any (wiring_of t) (node_at t w m)) happens))
 
@@ -205,7 +206,8 @@ module _ (t : Network) (lawful : IsLawful t) (es : List JournalEntry) (ps : List
       pub node-says : node_says t (world_of t es) s m ≡ said (wiring_of t) (node_at t (world_of t es) m) e
       node-says = ap (said_any (wiring_of t) (node_at t w m)) happens
 
-      after-offers : (p : ℕ) → p < length t.loopbacks → offers (wiring_of t) (knowledge_in (changed (wiring_of t) (node_before m) event_then)) m p ≡ offers_in t (after t w s) m p
+      after-offers : (p : ℕ) → p < length t.loopbacks →
+          offers (wiring_of t) (knowledge_in (changed (wiring_of t) (node_before m) event_then)) m p ≡ offers_in t (after t w s) m p
       after-offers p under =
           ap (λ n. offers (wiring_of t) (knowledge_in n) m p) (changed_with (wiring_of t) own (node_at t w m) e)
           ∙ ap (λ k. offers (wiring_of t) k m p) (same_knowledge (wiring_of t) own (changed (wiring_of t) (node_at t w m) e)
@@ -213,10 +215,12 @@ module _ (t : Network) (lawful : IsLawful t) (es : List JournalEntry) (ps : List
           ∙ ap knowledge_in (sym (nodes-by.each m below ∙ ap (after_any (wiring_of t) (node_at t w m)) happens)))
           ∙ offers-alike t (after t w s) m p under
 
-      begun-same : new_offers (wiring_of t) (knowledge_in (node_before m)) (knowledge_in (changed (wiring_of t) (node_before m) event_then)) m ≡ ledger.new_offers t w s m
+      begun-same : new_offers (wiring_of t) (knowledge_in (node_before m)) (knowledge_in (changed (wiring_of t) (node_before m) event_then)) m
+          ≡ ledger.new_offers t w s m
       begun-same = filter-same _ _ (nodes_of (wiring_of t)) (λ p i.
           let under : p < length t.loopbacks = omega (arith, (in_range 0 (length t.loopbacks) p i).1) in
-          ap (λ b. not (p == m) && (not b && offers (wiring_of t) (knowledge_in (changed (wiring_of t) (node_before m) event_then)) m p)) (before-offers p under)
+          ap (λ b. not (p == m) && (not b && offers (wiring_of t) (knowledge_in (changed (wiring_of t) (node_before m) event_then)) m p))
+          (before-offers p under)
           ∙ ap (λ b. not (p == m) && (not (offers_in t w m p) && b)) (after-offers p under))
 
       ended-same : ended_offers (wiring_of t) (knowledge_in (node_before m)) (knowledge_in (changed (wiring_of t) (node_before m) event_then)) m
@@ -234,14 +238,16 @@ module _ (t : Network) (lawful : IsLawful t) (es : List JournalEntry) (ps : List
           ∙ offered_alike (is_free_at (wiring_of t) tick kept) (ledger.is_free t w m (rested_of t es m) tick) (labels_of t es m) (ledger.new_offers t w s m)
           (λ p h. inl (let under : p < length t.loopbacks = subst (λ n. p < n) (has_labels t es ps m below lawful journal).long h in
           ap (λ b. not b && is_over r tick p) (before-offers p under) ∙ free-is t lawful w m free turn.turn.ldp (rested_of t es m) r is tick p under))
-          ∙ ap (λ labels. offered (ledger.is_free t w m (rested_of t es m) tick) labels (ledger.new_offers t w s m)) (sym (none_attached t w s m (labels_of t es m) moves))
+          ∙ ap (λ labels. offered (ledger.is_free t w m (rested_of t es m) tick) labels (ledger.new_offers t w s m))
+          (sym (none_attached t w s m (labels_of t es m) moves))
           ∙ sym (labels-more t es tick s m)
         where
           kept : Kept
           kept = record { node = node_before m; labels = labels_of t es m; resting = r }
 
       -- and what it counts
-      pub rests-go : IsHere (wiring_of t) (node_at t (world_of t es) m) e → (labels : Labels) (r : Resting) → IsResting t (world_of t es) (rested_of t es m) m r →
+      pub rests-go : IsHere (wiring_of t) (node_at t (world_of t es) m) e → (labels : Labels) (r : Resting) →
+          IsResting t (world_of t es) (rested_of t es m) m r →
           IsResting t (after t (world_of t es) s) (rested_of t (pushed es tick s) m) m
           (resting_then (wiring_of t) tick (record { node = node_before m; labels = labels; resting = r }) event_then)
       rests-go here labels r is =
@@ -249,7 +255,8 @@ module _ (t : Network) (lawful : IsLawful t) (es : List JournalEntry) (ps : List
           (rested_by_event (wiring_of t) tick (node_before m) event_then r) (said (wiring_of t) (node_before m) event_then)) fecs)) (sym ended-same)
           (counts (said (wiring_of t) (node_before m) event_then) (node-says ∙ sym says)
           (subst (AllSaidBy (wiring_of t) m) (sym says)
-          (all-by (wiring_of t) (changed (wiring_of t) (node_at t w m) e) m (said (wiring_of t) (node_at t w m) e) (own-event (wiring_of t) (node_at t w m) e here)))
+          (all-by (wiring_of t) (changed (wiring_of t) (node_at t w m) e) m (said (wiring_of t) (node_at t w m) e)
+          (own-event (wiring_of t) (node_at t w m) e here)))
           r is (Some e) happens)
 
     -- 6. Nothing happens to it
@@ -259,7 +266,8 @@ module _ (t : Network) (lawful : IsLawful t) (es : List JournalEntry) (ps : List
       stays = nodes-by.each m below ∙ ap (after_any (wiring_of t) (node_at t w m)) none
 
       same-offers : (p : ℕ) → p < length t.loopbacks → offers_in t (after t w s) m p ≡ offers_in t w m p
-      same-offers p under = sym (offers-alike t (after t w s) m p under) ∙ ap (λ n. offers (wiring_of t) (knowledge_in n) m p) stays ∙ offers-alike t w m p under
+      same-offers p under = sym (offers-alike t (after t w s) m p under) ∙ ap (λ n. offers (wiring_of t) (knowledge_in n) m p) stays
+          ∙ offers-alike t w m p under
 
       both-ways : (b : Bool) → (not b && b) ≡ false
       both-ways true = refl

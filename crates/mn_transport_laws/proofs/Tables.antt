@@ -1,5 +1,6 @@
 -- A node's label table stands for the ledger's world.
-use Rattle.std.proofs.Common.{ℕ, zero, suc, ◌≡◌, ◌≢◌, ◌+◌, ◌≤◌, ◌<◌, Bool, true, false, List, [], ◌∷◌, length, map, refl, arith, sym, ◌∙◌, ap, subst, Option, None, Some}
+use Rattle.std.proofs.Common.{ℕ, zero, suc, ◌≡◌, ◌≢◌, ◌+◌, ◌≤◌, ◌<◌, Bool, true, false, List, [], ◌∷◌, length, map, refl, arith, sym, ◌∙◌, ap, subst, Option}
+use Rattle.std.proofs.Common.{None, Some}
 use Rattle.std.specs.Prelude.{◌&&◌, nat_le, option_map, unwrap_or, slice_index_or, if◌then◌else◌}
 use Rattle.std.proofs.lemmas.List.FromFn.{get_or-map-range_with_len}
 use Rattle.mn_base.proofs.Bools.{and_left, and_right}
@@ -41,7 +42,8 @@ both_true true hop e = refl
 both_true false hop e = cc
 
 -- where a FEC has a label it has the other one then
-relabelled-at : (f : ℕ → ℕ) (a p : ℕ) (ls : List (Option ℕ)) → slice_index_or (relabelled_from f a ls) p None ≡ option_map (λ label. f (a + p)) (slice_index_or ls p None)
+relabelled-at : (f : ℕ → ℕ) (a p : ℕ) (ls : List (Option ℕ)) →
+    slice_index_or (relabelled_from f a ls) p None ≡ option_map (λ label. f (a + p)) (slice_index_or ls p None)
 relabelled-at f a p [] = refl
 relabelled-at f a zero (None ∷ ls) = refl
 relabelled-at f a zero (Some x ∷ ls) = ap (λ n. let o : Option ℕ = Some (f n) in o) (let e : a ≡ a + 0 = omega arith in e)
@@ -50,7 +52,8 @@ relabelled-at f a (suc p) (None ∷ ls) =
 relabelled-at f a (suc p) (Some x ∷ ls) =
     relabelled-at f (a + 1) p ls ∙ ap (λ n. option_map (λ label. f n) (slice_index_or ls p None)) (let e : a + 1 + p ≡ a + suc p = omega arith in e)
 
-session-label-with : (f : ℕ → ℕ) (o : Option Session) (edge : ℕ) → lsr.session_label (option_map (session_with f) o) edge ≡ option_map (λ label. f edge) (lsr.session_label o edge)
+session-label-with : (f : ℕ → ℕ) (o : Option Session) (edge : ℕ) →
+    lsr.session_label (option_map (session_with f) o) edge ≡ option_map (λ label. f edge) (lsr.session_label o edge)
 session-label-with f None edge = refl
 session-label-with f (Some s) edge =
     relabelled-at f 0 edge s.labels ∙ ap (λ n. option_map (λ label. f n) (slice_index_or s.labels edge None)) (let e : 0 + edge ≡ edge = omega arith in e)
@@ -124,7 +127,8 @@ table-is t lawful es w node below s wired node_is labels stands sites = record {
   fecs = λ edge under apart has.
       let label : ℕ = label_in (given t es node) (fec_of edge) in
       let meaning : meaning_of s.labels label ≡ Some (fec_of edge) =
-      ap (λ g. meaning_of g label) labels ∙ is_meant (given t es node) (given_fit t es node) label (fec_of edge) (has_means (given t es node) (fec_of edge) has) in
+      ap (λ g. meaning_of g label) labels
+      ∙ is_meant (given t es node) (given_fit t es node) label (fec_of edge) (has_means (given t es node) (fec_of edge) has) in
       subst (λ m. IsUseOf (way_to s.wiring s.node) m (use_of s.uses label)) meaning (stands label)
       ∙ ap fec_use (ap (λ x. way_to x s.node edge) wired ∙ ap (λ n. way_to (wiring_of t) n edge) node_is
       ∙ way-is t lawful (given t es) w node below edge under (λ e. apart (sym e)));
@@ -139,8 +143,11 @@ table-is t lawful es w node below s wired node_is labels stands sites = record {
     -- what means a label has it
     has : (label : ℕ) (thing : Bind) → Means (given t es node) label thing → HasLabel (given t es node) thing × (label_in (given t es node) thing ≡ label)
     has label (bind.Fec fec) h =
-        let is : label_in (given t es node) (bind.Fec fec) ≡ label = ap (λ o. unwrap_or o 0) h in
-        (subst (λ k. 16 ≤ k) (sym is) ((given_fit t es node).reserved (record { label = label; what = fec_of fec.0 }) ((given_fit t es node).given fec.0 label h)), is)
+        let is : label_in (given t es node) (bind.Fec fec) ≡ label = ap (λ o. unwrap_or o 0) h in (
+          subst (λ k. 16 ≤ k) (sym is) ((given_fit t es node).reserved (record { label = label; what = fec_of fec.0 })
+              ((given_fit t es node).given fec.0 label h)),
+          is,
+        )
     has label (bind.Site site number) h =
         let one = one-label t es node label site.0 number (in_contained (given t es node).given (record { label = label; what = bind.Site site number }) h) in
         (one.1, one.0)

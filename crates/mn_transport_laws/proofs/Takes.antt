@@ -53,7 +53,8 @@ module _ (t : Network) (lawful : IsLawful t) (tick number next : ℕ) (old new :
 
       puts : (es : List JournalEntry) → IsTransport t es old → HasTurn t es (step.Learn node l) →
           Puts t tick number (messages_now t es (step.Learn node l)) old.messages new.messages next
-      puts es stands turn = subst (λ xs. Puts t tick number xs old.messages new.messages next) (sym (messages-are t es lawful (step.Learn node l) turn.turn refl))
+      puts es stands turn = subst (λ xs. Puts t tick number xs old.messages new.messages next)
+          (sym (messages-are t es lawful (step.Learn node l) turn.turn refl))
           (puts-learn t lawful es turn.inputs turn.lawful tick old stands node l number new next turn.turn acts)
 
   pub did-hear : (l : LinkNo) (dir : Dir) (channels : ℕ) → IsFlight channels old.messages
@@ -79,12 +80,14 @@ module _ (t : Network) (lawful : IsLawful t) (tick number next : ℕ) (old new :
       no_more k = omega arith
 
       acts : (es : List JournalEntry) → IsTransport t es old → HasTurn t es (step.HearLdp l dir)
-          → HearsNext t tick number l.0 dir (event_with (wiring_of t) (labels_at t (pushed es tick (step.HearLdp l dir))) (receiver (wiring_of t) l.0 dir) (hears_next t (world_of t es) l.0 (receiver (wiring_of t) l.0 dir))) old new next
+          → HearsNext t tick number l.0 dir (event_with (wiring_of t) (labels_at t (pushed es tick (step.HearLdp l dir))) (receiver (wiring_of t) l.0 dir)
+          (hears_next t (world_of t es) l.0 (receiver (wiring_of t) l.0 dir))) old new next
       acts es stands turn =
           hears _ (may-hear t lawful es turn.inputs turn.lawful tick old stands l dir turn.turn)
 
       puts : (es : List JournalEntry) → IsTransport t es old → HasTurn t es (step.HearLdp l dir) →
           Puts t tick number (messages_now t es (step.HearLdp l dir)) (taken l.0 dir old).messages new.messages next
       puts es stands turn =
-          subst (λ xs. Puts t tick number xs (taken l.0 dir old).messages new.messages next) (sym (messages-are t es lawful (step.HearLdp l dir) turn.turn refl))
+          subst (λ xs. Puts t tick number xs (taken l.0 dir old).messages new.messages next)
+          (sym (messages-are t es lawful (step.HearLdp l dir) turn.turn refl))
           (puts-hear t lawful es turn.inputs turn.lawful tick old stands l dir number new next turn.turn (acts es stands turn))

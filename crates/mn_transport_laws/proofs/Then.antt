@@ -86,8 +86,10 @@ module _ (t : Network) (w : World) (s : Step) (k : Sessions) (m tick : ℕ) (xs 
         ∙ by off (two_ways (lays_by t w s m p))
   ]
     where
-      by : ends_offer t w s m p ≡ false → (lays_by t w s m p ≡ true) ⊎ (lays_by t w s m p ≡ false) → slice_index_or next.rested p 0 ≡ rested_after t w tick s m rested p
-      by off (inl laid) = goes.laid p inside laid ∙ sym (ap (λ b. if b || lays_by t w s m p then tick else rested p) off ∙ ap (λ b. if b then tick else rested p) laid)
+      by : ends_offer t w s m p ≡ false → (lays_by t w s m p ≡ true) ⊎ (lays_by t w s m p ≡ false) →
+          slice_index_or next.rested p 0 ≡ rested_after t w tick s m rested p
+      by off (inl laid) = goes.laid p inside laid
+          ∙ sym (ap (λ b. if b || lays_by t w s m p then tick else rested p) off ∙ ap (λ b. if b then tick else rested p) laid)
       by off (inr still) = goes.still p inside still ∙ is.rested_is p inside
           ∙ sym (ap (λ b. if b || lays_by t w s m p then tick else rested p) off ∙ ap (λ b. if b then tick else rested p) still)
 
@@ -113,7 +115,8 @@ all_from : {A : Type 0} (q : A → Bool) (xs : List A) → ((x : A) → In xs x 
 all_from q [] h = refl
 all_from q (x ∷ xs) h = and_on _ _ (h x (inl refl)) (all_from q xs (λ y i. h y (inr i)))
 
-rows_from : (q : Option (List ℕ) → Bool) (rows : List (Option (List ℕ))) → ((i : ℕ) → i < length rows → q (slice_index_or rows i None) ≡ true) → list_all q rows ≡ true
+rows_from : (q : Option (List ℕ) → Bool) (rows : List (Option (List ℕ))) → ((i : ℕ) → i < length rows → q (slice_index_or rows i None) ≡ true) →
+    list_all q rows ≡ true
 rows_from q [] h = refl
 rows_from q (row ∷ rows) h = and_on _ _ (h zero (omega arith)) (rows_from q rows (λ i inside. h (suc i) (omega (arith, inside))))
 

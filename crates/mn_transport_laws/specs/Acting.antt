@@ -53,7 +53,7 @@ pub record MayAct (topology : Network) (carried : Carried) (node : ℕ) (event :
   pub ready : IsReady carried.changes was.node event
   pub numbers : HasNumbers was.node
 
--- and the PDU that is next in this direction of the link is heard so, at each tick
+-- and the PDU that is next in this direction of the link is received so, at each tick
 pub record MayHear (topology : Network) (carried : Carried) (l : ℕ) (dir : Dir) (event : Event) : Type 0 where
   pub may : MayAct topology carried (receiver (wiring_of topology) l dir) event
   pub link : link_in event ≡ l

@@ -74,7 +74,7 @@ noticed topology node l carried =
 abbrev pub LearnsNext : Network → ℕ → ℕ → ℕ → ℕ → Carried → Carried → ℕ → Type 0
 LearnsNext topology tick number node l old new next = Acts topology tick number node (Learns l) (noticed topology node l old) new next
 
--- 4. A node hears
+-- 4. A node receives
 
 -- the first PDU of the direction is gone
 abbrev pub taken : ℕ → Dir → Carried → Carried

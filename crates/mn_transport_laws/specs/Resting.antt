@@ -9,7 +9,7 @@ use Rattle.mn_settled_laws.specs.Offers.{is_operational_on}
 use Rattle.mn_reuse_laws.specs.Answers.{withdraws, releases}
 use Rattle.mn_reuse_laws.specs.Labels.{longest_life}
 
--- by FEC, the Withdraws that the node said on the link without having heard their Releases
+-- by FEC, the Withdraws that the node sent on the link without having received their Releases
 pub record IsRow (topology : Network) (world : World) (node l : ℕ) (row : List ℕ) : Type 0 where
   pub each : length row ≡ length topology.loopbacks
   pub counts : (fec : ℕ) → fec < length topology.loopbacks → slice_index_or row fec 0 + releases topology world l node fec ≡ withdraws world l node fec
@@ -26,6 +26,7 @@ pub record IsResting (topology : Network) (world : World) (rested : ℕ → ℕ)
   pub rows : (l : ℕ) → l < length topology.links → is_end (wiring_of topology) l node ≡ true →
       HasRow topology world node l (is_operational_on topology world node l) (row_of resting (across (wiring_of topology) l node))
   pub strangers : (other : ℕ) →
-      ((l : ℕ) → l < length topology.links → is_end (wiring_of topology) l node ≡ true → across (wiring_of topology) l node ≢ other) → row_of resting other ≡ None
+      ((l : ℕ) → l < length topology.links → is_end (wiring_of topology) l node ≡ true → across (wiring_of topology) l node ≢ other) →
+      row_of resting other ≡ None
   pub rested_is : (fec : ℕ) → fec < length topology.loopbacks → slice_index_or resting.rested fec 0 ≡ rested fec
   pub life : resting.life ≡ longest_life topology (links_at (wiring_of topology) node)

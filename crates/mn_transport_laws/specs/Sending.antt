@@ -33,7 +33,7 @@ put_pdus wiring node tick number (pdu ∷ pdus) =
           pdu.bytes;
     } ∷ put_pdus wiring node tick (number + 1) pdus
 
--- the label that a Release brings, which is that of the Withdraw that was heard
+-- the label that a Release brings, which is that of the Withdraw that was received
 abbrev pub released_by : Event → ℕ
 released_by (Hears l message label) = label
 released_by _ = 0
@@ -41,7 +41,8 @@ released_by _ = 0
 -- what a node says as something happens to it at this tick, in bytes, by the labels that its FECs have then
 abbrev pub pdus_in : Wiring → ℕ → Kept → Event → List Pdu
 pdus_in wiring tick kept event =
-    pdus wiring (own_labels kept.node.me (labels_then wiring tick kept event)) (released_by event) (changed wiring kept.node event) (said wiring kept.node event)
+    pdus wiring (own_labels kept.node.me (labels_then wiring tick kept event)) (released_by event) (changed wiring kept.node event)
+    (said wiring kept.node event)
 
 -- without the messages of a link, in both directions
 abbrev pub off_link : ℕ → List (Item (List ℕ)) → List (Item (List ℕ))

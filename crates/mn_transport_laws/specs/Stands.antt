@@ -25,7 +25,7 @@ use Rattle.mn_transport_laws.specs.Resting.{IsResting}
 abbrev pub own_of : Labelling → ℕ → ℕ → ℕ
 own_of given node = own_labels node (given node)
 
--- The node of this number: what it has learned and heard is the ledger's, with the labels that FECs have now; its labels are
+-- The node of this number: what it has learned and received is the ledger's, with the labels that FECs have now; its labels are
 -- these, of 20 bits each; by its count of what neighbours owe its FECs rest since these ticks; and its label table leads to where
 -- the ledger can send.
 pub record IsNode (topology : Network) (given : Labelling) (rested : ℕ → ℕ → ℕ) (world : World) (node : ℕ) (standing : Standing) : Type 0 where
@@ -38,7 +38,7 @@ pub record IsNode (topology : Network) (given : Labelling) (rested : ℕ → ℕ
   pub works : standing.failed ≡ false
 
 -- Each node is the ledger's. For each change that a node hasn't learned a notice flies to it. On each link fly in each direction,
--- in order, the PDUs of the messages that were said and not heard, with the labels that FECs have now.
+-- in order, the PDUs of the messages that were sent and not received, with the labels that FECs have now.
 pub record StandsFor (topology : Network) (given : Labelling) (rested : ℕ → ℕ → ℕ) (world : World) (carried : Carried) : Type 0 where
   pub each : length carried.nodes ≡ length topology.loopbacks
   pub nodes : (node : ℕ) (standing : Standing) → slice_get carried.nodes node ≡ Some standing → IsNode topology given rested world node standing

@@ -20,7 +20,7 @@ use Rattle.mn_timetable_laws.specs.Keys.{keys_in, keys_on, of_notices, of_messag
 use Rattle.mn_transport_laws.specs.Stands.{IsTransport}
 
 -- The step's turn has come: it fits, changes something, and takes what is there; each session is in turn, each message names a
--- node, and few were said. After a lawful journal a step has its turn that isn't refused.
+-- node, and few were sent. After a lawful journal a step has its turn that isn't refused.
 pub record IsTurn (topology : Network) (world : World) (step : Step) : Type 0 where
   pub fitting : fits topology step ≡ true
   pub changes : is_unchanged world.config step ≡ false

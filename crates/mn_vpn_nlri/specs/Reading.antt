@@ -87,7 +87,7 @@ communities_of _ = []
 abbrev pub targets_of : List ℕ → Result (List Rt) NlriBad
 targets_of bytes = if length bytes % 8 == 0 then Ok (filter is_target (communities_of bytes)) else Err Short
 
--- what a function answers is what the bytes say, want of memory apart
+-- what a function answers is what the bytes say, out of memory apart
 abbrev pub Answers : Result (Vec Rt Global) NlriBad → Result (List Rt) NlriBad → Type 0
 Answers (Ok targets) reading = reading ≡ Ok targets.items
 Answers (Err NoMemory) reading = ⊤

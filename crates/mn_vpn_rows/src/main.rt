@@ -4,7 +4,7 @@
 //!
 //! - `targets`: sets of route targets
 //! - `tables`: the longest match, in two kinds of tables
-//! - `rib`: what was heard of a peer
+//! - `rib`: what was received from a peer
 //! - `vrf`: a VRF; `routes`: its routes as words
 //! - `pe`: an edge: imports, exports, packets that enter
 #![tactic(auto)]

@@ -1,4 +1,4 @@
-//! What was heard of a peer: `rib set RD PREFIX LABEL TARGET ..`, `rib remove RD PREFIX`, `rib clear`, `rib size`, and `rib at K`,
+//! What was received from a peer: `rib set RD PREFIX LABEL TARGET ..`, `rib remove RD PREFIX`, `rib clear`, `rib size`, and `rib at K`,
 //! which answers a route in these words.
 use crate::targets::{target_words, targets_from};
 use mn_rib_in::{HeardRoute, RibIn};

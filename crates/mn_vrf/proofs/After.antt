@@ -28,7 +28,8 @@ is_after p q = is_lt (by_address_then_length p q) && not false
 
 after_all : (p : AddressBlock) (qs : List AddressBlock) → AllByRecursion (λ q. prefix_before p q ≡ true) qs → filter (is_after p) qs ≡ qs
 after_all p [] h = refl
-after_all p (q ∷ qs) h = ap (λ b. cond (b && not false) (q ∷ filter (is_after p) qs) (filter (is_after p) qs)) (later p q h.0) ∙ ap (λ l. q ∷ l) (after_all p qs h.1)
+after_all p (q ∷ qs) h = ap (λ b. cond (b && not false) (q ∷ filter (is_after p) qs) (filter (is_after p) qs)) (later p q h.0)
+    ∙ ap (λ l. q ∷ l) (after_all p qs h.1)
 
 at_all : (P : AddressBlock → Type 0) (qs : List AddressBlock) (k : ℕ) (p : AddressBlock) → AllByRecursion P qs → slice_get qs k ≡ Some p → P p
 at_all P [] k p h e = cc

@@ -66,7 +66,8 @@ pub record Shows (table : Table) (keys : List AddressBlock) (routes : List (Addr
   pub view : in_order table keys ≡ routes
 
 -- they show the one where a source was put, and the other where there was no memory for it
-pub record IsPut (table : Table) (keys : List AddressBlock) (with_it without_it : List (AddressBlock × Source)) (put : Result (Unit {0}) AllocError) : Type 0 where
+pub record IsPut (table : Table) (keys : List AddressBlock) (with_it without_it : List (AddressBlock × Source)) (put : Result (Unit {0}) AllocError) : Type
+    0 where
   pub kept : IsKept table keys
   pub ok : OnOk put (in_order table keys ≡ with_it)
   pub err : OnErr put (in_order table keys ≡ without_it)

@@ -35,7 +35,8 @@ module _ (of : AddressBlock → List Source) (address : ℕ) where
   abbrev firsts : List AddressBlock → List (AddressBlock × Source)
   firsts ks = flat_map (λ k. top_of k (of k)) ks
 
-  fold_firsts : (best : Option (AddressBlock × Source)) (ks : List AddressBlock) → fold (chosen address) best (all_of ks) ≡ fold (chosen address) best (firsts ks)
+  fold_firsts : (best : Option (AddressBlock × Source)) (ks : List AddressBlock) →
+      fold (chosen address) best (all_of ks) ≡ fold (chosen address) best (firsts ks)
   fold_firsts best [] = refl
   fold_firsts best (k ∷ ks) =
       fold-append (chosen address) best (map (λ s. (k, s)) (of k)) (all_of ks)
@@ -75,7 +76,8 @@ module _ (of : AddressBlock → List Source) (address : ℕ) where
           → value_at p (firsts (k ∷ ks)) ≡ first_of (of p)
       by (inl same) more =
           let one : p ≡ k = same_exact p k same in
-          here (of k) same (none_among p ks (subst (λ q. list_any (same_prefix q) ks ≡ false) (sym one) (none_after k ks up.0))) ∙ ap (λ q. first_of (of q)) (sym one)
+          here (of k) same (none_among p ks (subst (λ q. list_any (same_prefix q) ks ≡ false) (sym one) (none_after k ks up.0)))
+          ∙ ap (λ q. first_of (of q)) (sym one)
       by (inr other) more =
           later (of k) other ∙ more (λ h. off (ap (λ b. b || list_any (same_prefix p) ks) other ∙ h))
 
@@ -147,8 +149,10 @@ module _ (ways : List Bool) (table : Table) (ks : List AddressBlock) (kept : IsK
     prefixes = keys_among (opened ways table) address (λ p. IsPrefix p.address p.length) ks (forms ks (λ k i. i));
   }
 
-  value_is : (p : AddressBlock) → value_at p (flat_map (λ k. top_of k (opened ways table k)) ks) ≡ first_of (filter (is_open ways) (sources_of p (in_order table ks)))
-  value_is p = value_of (opened ways table) address p ks kept.ascend (missing p) ∙ ap (λ ss. first_of (filter (is_open ways) ss)) (sym (sources_are table ks p kept))
+  value_is : (p : AddressBlock) →
+      value_at p (flat_map (λ k. top_of k (opened ways table k)) ks) ≡ first_of (filter (is_open ways) (sources_of p (in_order table ks)))
+  value_is p = value_of (opened ways table) address p ks kept.ascend (missing p)
+      ∙ ap (λ ss. first_of (filter (is_open ways) ss)) (sym (sources_are table ks p kept))
 
   abbrev first_at : ℕ → Option Source
   first_at n = first_of (filter (is_open ways) (sources_of (prefix_at n address) (in_order table ks)))
@@ -169,7 +173,8 @@ module _ (ways : List Bool) (table : Table) (ks : List AddressBlock) (kept : IsK
 
   pub none_open : ((n : ℕ) → n ≤ 32 → first_at n ≡ None) → None ≡ longest_match address (open_among ways (in_order table ks))
   none_open none =
-      sym (whole ∙ none_is_longest address (flat_map (λ k. top_of k (opened ways table k)) ks) its_table (λ n short. value_is (prefix_at n address) ∙ none n short))
+      sym (whole ∙ none_is_longest address (flat_map (λ k. top_of k (opened ways table k)) ks) its_table (λ n short. value_is (prefix_at n address)
+      ∙ none n short))
 
 -- 3. By length
 
@@ -184,7 +189,8 @@ pair_some table ks kept p q ss ways o h k = by (value_at p table) refl h
     none : ◌≡◌ {A = Option (AddressBlock × List Source)} (Some (q, ss)) None → ⊥
     none z = cc
 
-    by : (v : Option (List Source)) → value_at p table ≡ v → ◌≡◌ {A = Option (AddressBlock × List Source)} (Some (q, ss)) (option_map {U = AddressBlock × List Source} (λ value. (p, value)) v)
+    by : (v : Option (List Source)) → value_at p table ≡ v →
+        ◌≡◌ {A = Option (AddressBlock × List Source)} (Some (q, ss)) (option_map {U = AddressBlock × List Source} (λ value. (p, value)) v)
         → with_prefix q o ≡ with_prefix p (first_of (filter (is_open ways) (sources_of p (in_order table ks))))
     by None e g = absurd (none g)
     by (Some rs) e g =
@@ -208,7 +214,8 @@ none_at table ks rs e kept p ways h = by (value_at p table) refl h
     some : (ts : List Source) → ◌≡◌ {A = Option (AddressBlock × List Source)} None (Some (p, ts)) → ⊥
     some ts z = cc
 
-    by : (v : Option (List Source)) → value_at p table ≡ v → ◌≡◌ {A = Option (AddressBlock × List Source)} None (option_map {U = AddressBlock × List Source} (λ value. (p, value)) v)
+    by : (v : Option (List Source)) → value_at p table ≡ v →
+        ◌≡◌ {A = Option (AddressBlock × List Source)} None (option_map {U = AddressBlock × List Source} (λ value. (p, value)) v)
         → ◌≡◌ {A = Option (AddressBlock × Source)} None (with_prefix p (first_of (filter (is_open ways) (sources_of p rs))))
     by None f g =
         ap (λ ts. with_prefix p (first_of (filter (is_open ways) ts)))
@@ -240,7 +247,8 @@ pub found_there : (table : Table) (ks : List AddressBlock) (rs : List (AddressBl
     → (o : Option (AddressBlock × Source)) → o ≡ with_prefix (prefix_at size address) (first_of_length ways address rs size) → is_some o ≡ true
     → o ≡ longest_match address (open_among ways rs)
 found_there table ks rs e kept ways address size formed none o is some =
-    is ∙ subst (λ us. AllFormed us → ((n : ℕ) → size < n → n ≤ 32 → first_of_length ways address us n ≡ None) → is_some (first_of_length ways address us size) ≡ true
+    is ∙ subst (λ us. AllFormed us → ((n : ℕ) → size < n → n ≤ 32 → first_of_length ways address us n ≡ None) →
+    is_some (first_of_length ways address us size) ≡ true
     → with_prefix (prefix_at size address) (first_of_length ways address us size) ≡ longest_match address (open_among ways us)) e
     (λ f g h. found_open ways table ks kept f address size g h)
     formed none (some_of (prefix_at size address) (first_of_length ways address rs size) (ap is_some (sym is) ∙ some))

@@ -13,11 +13,11 @@ pub enum Source {
     Own(SiteNo),
     /// Another VRF of the edge, over this site.
     Near(VrfNo, SiteNo),
-    /// Another edge, which told it (RFC 4364, section 4.3.2).
+    /// Another edge, which advertised it (RFC 4364, section 4.3.2).
     Far {
         /// The address of the edge.
         loopback: u32,
-        /// The distinguisher under which it was told.
+        /// The distinguisher under which it was advertised.
         rd: Rd,
         /// The edge.
         edge: NodeNo,

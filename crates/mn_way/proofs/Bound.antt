@@ -31,7 +31,8 @@ in-map f most h (x ∷ xs) zero = h x
 in-map f most h (x ∷ xs) (suc n) = in-map f most h xs n
 
 module _ (w : Wiring) (v : View) (to : ℕ) (small : (l : ℕ) → (link w l).cost ≤ 65535) where
-  over-most : (ds : List (Option ℕ)) (n : ℕ) (most : ℕ) → ((x : ℕ) → AtMost (dist_in ds x) most) → (ls : List ℕ) → AtMost (least_over w v ds n ls) (most + 65535)
+  over-most : (ds : List (Option ℕ)) (n : ℕ) (most : ℕ) → ((x : ℕ) → AtMost (dist_in ds x) most) → (ls : List ℕ) →
+      AtMost (least_over w v ds n ls) (most + 65535)
   over-most ds n most h [] = tt
   over-most ds n most h (l ∷ ls) =
       lesser-most (elim (is_up v l) [ true ↦ plus (link w l).cost (dist_in ds (across w l n)) | false ↦ None ]) (least_over w v ds n ls) (most + 65535)

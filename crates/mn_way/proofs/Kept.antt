@@ -28,7 +28,8 @@ plain s = record { loopbacks = replicate s.nodes 0; ends = s.ends }
 pub plain-over : (s : Switched) → IsOver (plain s) s
 plain-over s = record { nodes = length-replicate s.nodes 0; ends = refl }
 
-module _ (links : Learned) (lists : List (List LinkNo)) (trees : List Mended) (up ldp : List Bool) (failed : Bool) (kept : IsKept links lists trees up ldp failed)
+module _ (links : Learned) (lists : List (List LinkNo)) (trees : List Mended) (up ldp : List Bool) (failed : Bool)
+    (kept : IsKept links lists trees up ldp failed)
     (s : Switched) (view : record { nodes = links.nodes; ends = links.ends; edges = roots_of trees; up = up; ldp = ldp; failed = failed } ≡ s) where
   pub network-is : IsNetwork s.nodes s.ends
   network-is = subst (λ (x : Switched). IsNetwork x.nodes x.ends) view kept.network
@@ -39,7 +40,8 @@ module _ (links : Learned) (lists : List (List LinkNo)) (trees : List Mended) (u
   pub links-are : (n : ℕ) (ls d : List LinkNo) → n < s.nodes → ls ≡ get_or lists n d → AreAtNode s.ends s.nodes n ls
   links-are n ls d below is =
       subst (λ (x : Switched). n < x.nodes → AreAtNode x.ends x.nodes n ls) view
-      (λ h. subst (AreAtNode links.ends links.nodes n) (get_or_default lists n [] d (subst (λ k. n < k) (sym kept.by_node.one_each) h) ∙ sym is) (kept.by_node.at n h))
+      (λ h. subst (AreAtNode links.ends links.nodes n) (get_or_default lists n [] d (subst (λ k. n < k) (sym kept.by_node.one_each) h)
+      ∙ sym is) (kept.by_node.at n h))
       below
 
   pub root-is : (e : ℕ) (m d : Mended) → e < length s.edges → m ≡ get_or trees e d → m.root ≡ edge_at s e
@@ -65,18 +67,21 @@ module _ (links : Learned) (lists : List (List LinkNo)) (trees : List Mended) (u
           (subst (λ u. IsTree w u m.root m.tree) f.up (own f.sound w (record { nodes = over.nodes ∙ sym f.of.nodes; ends = over.ends ∙ sym f.of.ends })))
 
   -- its costs are those to the edge
-  pub costs-are : (e : ℕ) (m d : Mended) → s.failed ≡ false → e < length s.edges → m ≡ get_or trees e d → IsOwn m → (w : Wiring) → IsOver w s → (n : ℕ) → n < s.nodes
+  pub costs-are : (e : ℕ) (m d : Mended) → s.failed ≡ false → e < length s.edges → m ≡ get_or trees e d → IsOwn m → (w : Wiring) → IsOver w s → (n : ℕ) →
+      n < s.nodes
       → dist_at m.tree n ≡ dist_in (dists_to w s.up (edge_at s e)) n
   costs-are e m d sound inside is own w over n below =
       cost-is w s.up (edge_at s e) m.tree (joins w over) (tree-is e m d sound inside is own w over) n (subst (λ k. n < k) (sym over.nodes) below)
 
   -- and fit
-  pub costs-fit : (e : ℕ) (n : ℕ) (o : Option ℕ) → ((w : Wiring) → IsOver w s → o ≡ dist_in (dists_to w s.up (edge_at s e)) n) → IfSome o (λ cost. cost < 4294967295)
+  pub costs-fit : (e : ℕ) (n : ℕ) (o : Option ℕ) → ((w : Wiring) → IsOver w s → o ≡ dist_in (dists_to w s.up (edge_at s e)) n) →
+      IfSome o (λ cost. cost < 4294967295)
   costs-fit e n o is = cost-fits (plain s) s.nodes s.up (edge_at s e) n o network-is (length-replicate s.nodes 0) (is (plain s) (plain-over s))
 
   -- the next hop by it, over the links at the node
   pub hops-are : (e : ℕ) (m d : Mended) → s.failed ≡ false → e < length s.edges → m ≡ get_or trees e d → IsOwn m → (n : ℕ) → n < s.nodes → n ≢ edge_at s e
-      → (ends : List LinkEnds) (ups : List Bool) (table : PathTable) (ls dls : List LinkNo) → ends ≡ links.ends → ups ≡ up → table ≡ m.tree → ls ≡ get_or lists n dls
+      → (ends : List LinkEnds) (ups : List Bool) (table : PathTable) (ls dls : List LinkNo) → ends ≡ links.ends → ups ≡ up → table ≡ m.tree →
+      ls ≡ get_or lists n dls
       → (w : Wiring) → IsOver w s → nearest_over (wired ends) ups table.dists n ls ≡ next w s.up n (edge_at s e)
   hops-are e m d sound inside is own n below apart ends ups table ls dls ends-are ups-are table-is ls-are w over =
       ap (λ (x : List LinkEnds). nearest_over (wired x) ups table.dists n ls) (ends-are ∙ ap (λ (x : Switched). x.ends) view ∙ sym over.ends)

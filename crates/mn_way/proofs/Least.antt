@@ -64,7 +64,8 @@ cost-is w v root table joins tree n below =
 
 pub cost-fits : (w : Wiring) (nodes : ℕ) (v : View) (to n : ℕ) (o : Option ℕ) → IsNetwork nodes w.ends → length w.loopbacks ≡ nodes
     → o ≡ dist_in (dists_to w v to) n → IfSome o (λ cost. cost < 4294967295)
-cost-fits w nodes v to n o network same is = by o (subst (λ q. AtMost q (65535 * length w.loopbacks)) (sym is) (dist-most w v to (costs-small w nodes network) n))
+cost-fits w nodes v to n o network same is =
+    by o (subst (λ q. AtMost q (65535 * length w.loopbacks)) (sym is) (dist-most w v to (costs-small w nodes network) n))
   where
     few : length w.loopbacks ≤ 256
     few = subst (λ n. n ≤ 256) (sym same) network.few_nodes
@@ -98,5 +99,7 @@ hop-there w v root joins n below apart o is = by o (subst (IsNext w v n root) (s
     by : (o : Option (NodeNo × LinkNo)) → IsNext w v n root (as_hop o) → IfSome o (λ hop. (hop.0.0 < length w.loopbacks) × (hop.1.0 < length w.ends))
     by None h = tt
     by (Some hop) h =
-        let ends = joins hop.1.0 h.1.there in
-        (subst (λ k. k < length w.loopbacks) (sym h.0) (cond_below ((link w hop.1.0).a.0 == n) (link w hop.1.0).b.0 (link w hop.1.0).a.0 _ ends.1 ends.0), h.1.there)
+        let ends = joins hop.1.0 h.1.there in (
+          subst (λ k. k < length w.loopbacks) (sym h.0) (cond_below ((link w hop.1.0).a.0 == n) (link w hop.1.0).b.0 (link w hop.1.0).a.0 _ ends.1 ends.0),
+          h.1.there,
+        )

@@ -1,5 +1,6 @@
 -- A way is walked hop by hop.
-use Rattle.std.proofs.Common.{ℕ, zero, suc, ◌≡◌, ◌+◌, ◌-◌, ◌<◌, Bool, true, false, cond, List, [], ◌∷◌, ◌++◌, length, refl, arith, sym, ◌∙◌, ap, Option, None, Some}
+use Rattle.std.proofs.Common.{ℕ, zero, suc, ◌≡◌, ◌+◌, ◌-◌, ◌<◌, Bool, true, false, cond, List, [], ◌∷◌, ◌++◌, length, refl, arith, sym, ◌∙◌, ap, Option, None}
+use Rattle.std.proofs.Common.{Some}
 use Rattle.std.specs.Prelude.{◌&&◌, option_map}
 use Rattle.std.specs.List.{list_all}
 use Rattle.std.proofs.lemmas.List.{length-map}
@@ -36,7 +37,8 @@ count-first ldp n hops = by (list_all (has_ldp ldp) hops)
     by true = ap (λ m. Some m) same
     by false = refl
 
-pub count-on : (ldp : List Bool) (passed : ℕ) (hop : Hop) (hops : List Hop) → has_ldp ldp hop ≡ true → counted ldp passed (hop ∷ hops) ≡ counted ldp (passed + 1) hops
+pub count-on : (ldp : List Bool) (passed : ℕ) (hop : Hop) (hops : List Hop) → has_ldp ldp hop ≡ true →
+    counted ldp passed (hop ∷ hops) ≡ counted ldp (passed + 1) hops
 count-on ldp passed hop hops on =
     ap (λ k. cond (k && list_all (has_ldp ldp) hops) (Some (passed + suc (length hops))) None) on
     ∙ ap (λ m. cond (list_all (has_ldp ldp) hops) (Some m) None) same

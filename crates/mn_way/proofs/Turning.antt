@@ -1,5 +1,6 @@
 -- Links are turned one by one, and tree by tree.
-use Rattle.std.proofs.Common.{ℕ, zero, suc, ◌≡◌, ◌≢◌, ◌+◌, ◌-◌, ◌<◌, ◌≤◌, Bool, true, false, List, [], ◌∷◌, ◌++◌, length, map, replicate, get_or, set, take, refl, arith, sym, ◌∙◌, ap, subst, inl, inr, length-set, get_or-set_other}
+use Rattle.std.proofs.Common.{ℕ, zero, suc, ◌≡◌, ◌≢◌, ◌+◌, ◌-◌, ◌<◌, ◌≤◌, Bool, true, false, List, [], ◌∷◌, ◌++◌, length, map, replicate, get_or, set, take}
+use Rattle.std.proofs.Common.{refl, arith, sym, ◌∙◌, ap, subst, inl, inr, length-set, get_or-set_other}
 use Rattle.std.proofs.Math.Seq.{map-set_same}
 use Rattle.std.proofs.lemmas.Bool.Decides.{eqb_tells}
 use Rattle.std.proofs.lemmas.Grind.{get_or-set_at}
@@ -63,7 +64,8 @@ turned-one links ups l up old new h same turned sound = record {
   sound = sound;
 }
 
-module _ (trees : List Mended) (at : ℕ) (old new : Mended) (e : Mended) (is : old ≡ get_or trees at e) (there : at < length trees) (same : IsSameBut old new) where
+module _ (trees : List Mended) (at : ℕ) (old new : Mended) (e : Mended) (is : old ≡ get_or trees at e) (there : at < length trees)
+    (same : IsSameBut old new) where
   pub roots-stay : roots_of (set trees at new) ≡ roots_of trees
   roots-stay = map-set_same (λ (t : Mended). t.root) trees at new e (same.root ∙ ap (λ (t : Mended). t.root) is)
 
@@ -90,7 +92,8 @@ module _ (trees : List Mended) (at : ℕ) (old new : Mended) (e : Mended) (is : 
       lesser : {k : ℕ} → k < at + 1 → k ≢ at → k < at
       lesser g q = omega (arith, g, q)
 
-  pub left-after : (l : ℕ) (up : Bool) → ((k : ℕ) (d : Mended) → at ≤ k → k < length trees → CanTurn l up (get_or trees k d)) → (k : ℕ) (d : Mended) → at + 1 ≤ k
+  pub left-after : (l : ℕ) (up : Bool) → ((k : ℕ) (d : Mended) → at ≤ k → k < length trees → CanTurn l up (get_or trees k d)) → (k : ℕ) (d : Mended) →
+      at + 1 ≤ k
       → k < length (set trees at new) → CanTurn l up (get_or (set trees at new) k d)
   left-after l up = behind (CanTurn l up)
 
@@ -102,7 +105,8 @@ module _ (trees : List Mended) (at : ℕ) (old new : Mended) (e : Mended) (is : 
     pub done-after : ((k : ℕ) (d : Mended) → k < at → k < length trees → Follows links (set ups l up) (get_or trees k d)) → (k : ℕ) (d : Mended) → k < at + 1
         → k < length (set trees at new) → Follows links (set ups l up) (get_or (set trees at new) k d)
     done-after =
-        before (Follows links (set ups l up)) (turned-one links ups l up old new (subst (Follows links ups) (sym is) (waiting at e (omega arith) there)) same turned sound)
+        before (Follows links (set ups l up))
+        (turned-one links ups l up old new (subst (Follows links ups) (sym is) (waiting at e (omega arith) there)) same turned sound)
 
 -- 3. One tree more
 

@@ -69,7 +69,7 @@ impl Ways {
 
     /// Appends the nodes of the label switched path from the node to the edge, both included; nothing where none leads there.
     ///
-    /// An `Err` is want of memory: a part of them may then be appended.
+    /// An `Err` means out of memory: a part of them may then be appended.
     pub fn put_path(
         &self,
         node: NodeNo,
@@ -95,7 +95,7 @@ impl Ways {
 
     /// Appends the links of the way from the node to the edge, whatever LDP; none where no links lead there.
     ///
-    /// An `Err` is want of memory: a part of them may then be appended.
+    /// An `Err` means out of memory: a part of them may then be appended.
     pub fn put_links(
         &self,
         node: NodeNo,

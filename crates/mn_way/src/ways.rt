@@ -60,7 +60,7 @@ impl Ways {
 
     /// Makes a link up or down, and mends each tree. A link that is so already takes nothing.
     ///
-    /// An `Err` is want of memory. The ways have then failed, and are of no use.
+    /// An `Err` means out of memory. The ways have then failed, and are of no use.
     pub fn set_up(&mut self, link: LinkNo, up: bool) -> Result<(), AllocError>
         requires sound { self.old.failed ≡ false }
         requires there { link.0 < length self.old.ends }

@@ -38,7 +38,8 @@ positive (x ∷ xs) zero d all h = at_most_tells 1 x.cost (and_left _ _ (and_lef
 positive (x ∷ xs) (suc l) d all h = positive xs l d (and_right _ _ all) (omega (arith, h))
 
 pub all-cost : (t : Network) → IsLawful t → AllCost (wiring_of t)
-all-cost t lawful l h = positive t.links l (record { a = record { 0 = 0 }; b = record { 0 = 0 }; cost = 0; delay = 0; loss = 0; life = 0 }) lawful.links.figures h
+all-cost t lawful l h = positive t.links l (record { a = record { 0 = 0 }; b = record { 0 = 0 }; cost = 0; delay = 0; loss = 0; life = 0 }) lawful.links.figures
+    h
 
 -- 2. One hop more
 
@@ -79,7 +80,8 @@ module _ (t : Network) (c : Config) (to : ℕ) (lawful : IsLawful t) where
     where
       by : (o : Option Hop) → IsNext w v n to o → ⊥
       by None h = h least.walk.0 least.walk.1
-      by (Some hop) h = too_much (link w hop.1).cost h.1.rest (all-cost t lawful hop.1 h.1.there) (one-least w v n to ((link w hop.1).cost + h.1.rest) d h.1.whole least)
+      by (Some hop) h = too_much (link w hop.1).cost h.1.rest (all-cost t lawful hop.1 h.1.there)
+          (one-least w v n to ((link w hop.1).cost + h.1.rest) d h.1.whole least)
         where
           too_much : (c r : ℕ) → 1 ≤ c → c + r ≡ d → ⊥
           too_much c r a b = omega (arith, a, b, fits)
@@ -128,7 +130,8 @@ same-tests one other (hop ∷ hops) same =
     ∙ ap (λ b. has_ldp other hop && b)
     (same-tests one other hops (All-tail (λ l. slice_index_or one l false ≡ slice_index_or other l false) hop.1 (links_on hops) same))
 
-same-labels : (one other : List Bool) (n : ℕ) (o : Option (List Hop)) → All (λ l. slice_index_or one l false ≡ slice_index_or other l false) (links_on (unwrap_or o []))
+same-labels : (one other : List Bool) (n : ℕ) (o : Option (List Hop)) →
+    All (λ l. slice_index_or one l false ≡ slice_index_or other l false) (links_on (unwrap_or o []))
     → option_and_then (labelled one n) o ≡ option_and_then (labelled other n) o
 same-labels one other n None same = refl
 same-labels one other n (Some hops) same = ap (λ b. cond b (Some (nodes_on n hops)) None) (same-tests one other hops same)

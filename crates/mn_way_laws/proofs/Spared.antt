@@ -52,7 +52,8 @@ module _ (w : Wiring) (u : View) (to : ℕ) (joins : JoinsNodes w) where
   pub links-there : (f n : ℕ) → n < length w.loopbacks → All (λ l. l < length w.ends) (links_on (hops_within w u to f n))
   links-there zero n below = All-nil (λ l. l < length w.ends)
   links-there (suc f) n below = elim (eqb_tells n to) [
-    | inl e ↦ subst (λ hops. All (λ l. l < length w.ends) (links_on hops)) (sym (at-end w u to n (suc f) (none-here w u n to e.1))) (All-nil (λ l. l < length w.ends))
+    | inl e ↦ subst (λ hops. All (λ l. l < length w.ends) (links_on hops)) (sym (at-end w u to n (suc f) (none-here w u n to e.1)))
+        (All-nil (λ l. l < length w.ends))
     | inr e ↦ by_hop (λ m h. links-there f m h) (next w u n to) (next_is w u to joins n below e.1)
   ]
     where
@@ -92,7 +93,8 @@ module _ (w : Wiring) (v u : View) (to : ℕ) (joins : JoinsNodes w) (once : Joi
   walks-before [] a b h = h
   walks-before (l ∷ ls) a b h = by (λ e. walks-before ls (across w l a) b e) (may_go w u a l) refl h
     where
-      by : (walk_end w u (across w l a) ls ≡ Some b → walk_end w v (across w l a) ls ≡ Some b) → (g : Bool) → may_go w u a l ≡ g → cond g (walk_end w u (across w l a) ls) None ≡ Some b
+      by : (walk_end w u (across w l a) ls ≡ Some b → walk_end w v (across w l a) ls ≡ Some b) → (g : Bool) → may_go w u a l ≡ g →
+          cond g (walk_end w u (across w l a) ls) None ≡ Some b
           → cond (may_go w v a l) (walk_end w v (across w l a) ls) None ≡ Some b
       by more true g e = ap (λ c. cond c (walk_end w v (across w l a) ls) None) (goes-before a l g) ∙ more e
       by more false g e = absurd (none_is b e)
@@ -233,7 +235,8 @@ module _ (w : Wiring) (v u : View) (to : ℕ) (joins : JoinsNodes w) (once : Joi
       by (Some d) is least =
           let ups : AllUp (hops_within w v to d n) = subst (λ o. AllUp (unwrap_or (option_map (λ cost. hops_within w v to cost n) o) [])) is up in
           let stays = stays-from d n d (omega arith) below least ups in
-          let now : dist_in (dists_to w u to) n ≡ Some d = one-dist w u n to (dist_in (dists_to w u to) n) (Some d) (dists_are_least w u to joins n below) stays.least in
+          let now : dist_in (dists_to w u to) n ≡ Some d =
+          one-dist w u n to (dist_in (dists_to w u to) n) (Some d) (dists_are_least w u to joins n below) stays.least in
           record {
             same_way =
                 ap (option_map (λ cost. hops_within w u to cost n)) now ∙ ap (λ hops. Some hops) stays.hops

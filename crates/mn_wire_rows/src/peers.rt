@@ -6,7 +6,7 @@ use mn_rows::{Answer, Call, displayed, shown};
 use mn_states::BgpState;
 use std::alloc::Global;
 
-/// The end at 192.0.2.3, which has said OPEN.
+/// The end at 192.0.2.3, which has sent OPEN.
 pub(crate) fn second_edge() -> BgpSession {
     BgpSession::open(65_000, 0xC000_0203, 0xC000_0201)
 }

@@ -15,7 +15,7 @@ const STATES: [LdpState; 4] = [
     LdpState::Operational,
 ];
 
-/// The end at 192.0.2.1, which has heard nothing.
+/// The end at 192.0.2.1, which has received nothing.
 pub(crate) fn first_router() -> Session {
     Session {
         me: 0xC000_0201,

@@ -1,5 +1,6 @@
 use Rattle.std.proofs.lemmas.Result.{err_from_is_err_and}
-use Rattle.mn_bgp_reflected.proofs.Messages.{said_by, read_no_update, read_no_originator, read_no_clusters, read_whole, fails_so, originator_never, clusters_never}
+use Rattle.mn_bgp_reflected.proofs.Messages.{said_by, read_no_update, read_no_originator, read_no_clusters, read_whole, fails_so, originator_never}
+use Rattle.mn_bgp_reflected.proofs.Messages.{clusters_never}
 use Rattle.mn_bgp_reflected.proofs.read.reflected_of.Goals as goal
 
 pub returns-in_err-update-clause-reading : goal.returns-in_err-update-clause-reading

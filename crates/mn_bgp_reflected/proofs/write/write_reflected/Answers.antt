@@ -28,7 +28,8 @@ returns-clause-written c =
     c.extend_from_slice-2.new.self.items (attribute_bytes (written_originator c.args.originator)) (attribute_bytes (written_clusters c.args.clusters.now))
     c.deref.result.now c.deref-2.result.now (update_bytes (announced c.args.next_hop c.args.route.now c.args.targets.now))
     c.in_ok-message.ensures.items c.in_ok-extend_from_slice.ensures.items c.in_ok-put_originator.ensures c.in_ok-put_clusters.ensures
-    c.in_ok-extend_from_slice-2.ensures.items (c.deref.ensures.value ∙ c.in_ok-announced.ensures.written) (c.deref-2.ensures.value ∙ c.in_ok-announced.ensures.written))
+    c.in_ok-extend_from_slice-2.ensures.items (c.deref.ensures.value ∙ c.in_ok-announced.ensures.written) (c.deref-2.ensures.value
+    ∙ c.in_ok-announced.ensures.written))
 
 pub returns-clause-read_again : goal.returns-clause-read_again
 returns-clause-read_again c =

@@ -18,7 +18,8 @@ loop-one-preserved c =
     let was : List ℕ = map (λ (fec : NodeNo). fec.0) c.loop-one.begun.items in
     elim c.if-begins.branch [
       | then-begins w ↦ record {
-        rest = rest_more (begun_since c.args.bound.now) c.args.before.now i none was (map (λ (fec : NodeNo). fec.0) c.if-begins.begun.items) _ c.loop-one-test.true
+        rest = rest_more (begun_since c.args.bound.now) c.args.before.now i none was (map (λ (fec : NodeNo). fec.0) c.if-begins.begun.items) _
+            c.loop-one-test.true
             (ap (λ v. map (λ (fec : NodeNo). fec.0) v.items) w.begun-is
             ∙ ap (map (λ (fec : NodeNo). fec.0)) w.push_reserved.ensures.items
             ∙ map-append (λ (fec : NodeNo). fec.0) c.loop-one.begun.items (one.fec ∷ [])
@@ -27,7 +28,8 @@ loop-one-preserved c =
         room = rw w.begun-is (omega (arith, w.push_reserved.ensures.len, w.push_reserved.ensures.capacity, c.loop-one.invariant.room));
       }
       | else-begins w ↦ record {
-        rest = rest_more (begun_since c.args.bound.now) c.args.before.now i none was (map (λ (fec : NodeNo). fec.0) c.if-begins.begun.items) _ c.loop-one-test.true
+        rest = rest_more (begun_since c.args.bound.now) c.args.before.now i none was (map (λ (fec : NodeNo). fec.0) c.if-begins.begun.items) _
+            c.loop-one-test.true
             (ap (λ v. map (λ (fec : NodeNo). fec.0) v.items) w.begun-is ∙ sym (append-nil was)
             ∙ ap (λ ys. was ++ ys) (begun_case c.args.bound.now one false (sym w.if-begins.false ∙ c.begins.ensures)))
             c.loop-one.invariant.rest;

@@ -6,7 +6,8 @@ use Rattle.mn_bindings.proofs.known.follow.Goals as goal
 
 pub follow_one-requires-clause-fit : goal.follow_one-requires-clause-fit
 follow_one-requires-clause-fit c =
-    fits_still c.args.events.now c.loop-event.event-index _ _ _ _ _ c.loop-event-test.true c.requires.fit c.loop-event.invariant.owed c.loop-event.invariant.rested
+    fits_still c.args.events.now c.loop-event.event-index _ _ _ _ _ c.loop-event-test.true c.requires.fit c.loop-event.invariant.owed
+    c.loop-event.invariant.rested
 
 pub follow_one-requires-clause-rows : goal.follow_one-requires-clause-rows
 follow_one-requires-clause-rows c =

@@ -12,7 +12,8 @@ loop-one-preserved c =
     let none : SoFar = record { fec = record { 0 = 0 }; offered = false } in
     let one = slice_index_or c.args.before.now c.loop-one.one-index none in
     let new : c.if-ends.rests ≡ all_stopped c.args.tick c.loop-one.rests (ended_since c.args.bound.now one) = elim c.if-ends.branch [
-      | then-ends w ↦ ended_case c.args.tick c.args.bound.now one c.loop-one.rests c.if-ends.rests true (sym w.if-ends.true ∙ c.ends.ensures) (w.rests-is ∙ w.stop.ensures)
+      | then-ends w ↦ ended_case c.args.tick c.args.bound.now one c.loop-one.rests c.if-ends.rests true (sym w.if-ends.true ∙ c.ends.ensures) (w.rests-is
+          ∙ w.stop.ensures)
       | else-ends w ↦ ended_case c.args.tick c.args.bound.now one c.loop-one.rests c.if-ends.rests false (sym w.if-ends.false ∙ c.ends.ensures) w.rests-is
     ] in
     record {

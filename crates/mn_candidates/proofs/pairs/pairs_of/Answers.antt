@@ -9,14 +9,17 @@ use Rattle.mn_candidates.proofs.pairs.pairs_of.Goals as goal
 pub returns-then-len-gt-MOST_PAIRS : goal.returns-then-len-gt-MOST_PAIRS
 returns-then-len-gt-MOST_PAIRS c =
     let below : c.loop-site.site < length c.args.topology.now.sites = omega arith in
-    let now : c.push_pairs.new.pairs.items ≡ flat_map (pairs_from c.args.topology.now) (take (c.loop-site.site + 1) (range_with_len 0 (length c.args.topology.now.sites))) =
+    let now : c.push_pairs.new.pairs.items ≡ flat_map (pairs_from c.args.topology.now)
+    (take (c.loop-site.site + 1) (range_with_len 0 (length c.args.topology.now.sites))) =
     c.in_ok-push_pairs.ensures ∙ ap (λ xs. xs ++ pairs_from c.args.topology.now c.loop-site.site) c.loop-site.invariant.so_far
     ∙ sym (more_number (pairs_from c.args.topology.now) (length c.args.topology.now.sites) c.loop-site.site below) in
     let many : most_pairs < length c.push_pairs.new.pairs.items = search rules in
     let whole : length c.push_pairs.new.pairs.items
-    + length (flat_map (pairs_from c.args.topology.now) (drop (c.loop-site.site + 1) (range_with_len 0 (length c.args.topology.now.sites)))) ≡ length (pairs_of c.args.topology.now) =
+    + length (flat_map (pairs_from c.args.topology.now) (drop (c.loop-site.site + 1) (range_with_len 0 (length c.args.topology.now.sites))))
+    ≡ length (pairs_of c.args.topology.now) =
     sym (length-append c.push_pairs.new.pairs.items _)
-    ∙ ap (λ xs. length (xs ++ flat_map (pairs_from c.args.topology.now) (drop (c.loop-site.site + 1) (range_with_len 0 (length c.args.topology.now.sites))))) now
+    ∙ ap (λ xs. length (xs ++ flat_map (pairs_from c.args.topology.now) (drop (c.loop-site.site + 1) (range_with_len 0 (length c.args.topology.now.sites)))))
+    now
     ∙ ap length (and_the_rest (pairs_from c.args.topology.now) (length c.args.topology.now.sites) (c.loop-site.site + 1)) in
     omega (arith, many, whole)
 
@@ -31,5 +34,7 @@ loop-site-preserved c =
 
 pub returns : goal.returns
 returns c =
-    let past : length c.args.topology.now.sites ≤ c.loop-site.site = omega arith in
-    (c.loop-site.invariant.so_far ∙ ap (flat_map (pairs_from c.args.topology.now)) (all_numbers (length c.args.topology.now.sites) c.loop-site.site past), c.loop-site.invariant.few)
+    let past : length c.args.topology.now.sites ≤ c.loop-site.site = omega arith in (
+      c.loop-site.invariant.so_far ∙ ap (flat_map (pairs_from c.args.topology.now)) (all_numbers (length c.args.topology.now.sites) c.loop-site.site past),
+      c.loop-site.invariant.few,
+    )

@@ -8,5 +8,6 @@ pub returns : goal.returns
 returns c =
     let new : list_any (same_prefix c.args.prefix) c.args.seen.now.items ≡ false =
     ap (list_any (same_prefix c.args.prefix)) (sym c.as_slice.ensures.value) ∙ sym c.is_among.ensures ∙ c.if-is_among.false in
-    adds_it c.args.site.0 c.args.prefix c.args.seen.now.items c.push.new.self.items c.args.pairs.now.items c.push_pair.new.pairs.items new c.in_ok-push.ensures.items
+    adds_it c.args.site.0 c.args.prefix c.args.seen.now.items c.push.new.self.items c.args.pairs.now.items c.push_pair.new.pairs.items new
+    c.in_ok-push.ensures.items
     c.in_ok-push_pair.ensures

@@ -19,4 +19,5 @@ returns c =
     adds_all c.args.site.0 (prefixes_towards c.args.topology.now c.args.site.0) (site_at c.args.topology.now c.args.site.0).prefixes c.loop-other.seen.items
     c.args.pairs.now.items c.loop-other.pairs.items
     (adds_as c.args.site.0 _ _ _ _ _ _
-    (ap (flat_map (prefixes_of c.args.topology.now c.args.site.0)) (all_numbers (length c.args.topology.now.sites) c.loop-other.other past)) c.loop-other.invariant)
+    (ap (flat_map (prefixes_of c.args.topology.now c.args.site.0)) (all_numbers (length c.args.topology.now.sites) c.loop-other.other past))
+    c.loop-other.invariant)

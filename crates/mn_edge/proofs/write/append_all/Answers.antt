@@ -1,4 +1,5 @@
-use Rattle.std.proofs.Common.{ℕ, List, [], ◌∷◌, ◌++◌, Some, sym, ◌∙◌, ap, subst, take, drop, ◌<◌, length, append_assoc, ◌+◌, refl, ◌≡◌, get_or, String, Vec, string_bytes}
+use Rattle.std.proofs.Common.{ℕ, List, [], ◌∷◌, ◌++◌, Some, sym, ◌∙◌, ap, subst, take, drop, ◌<◌, length, append_assoc, ◌+◌, refl, ◌≡◌, get_or, String, Vec}
+use Rattle.std.proofs.Common.{string_bytes}
 use Rattle.std.proofs.Common.{rules}
 use Rattle.std.proofs.lemmas.List.{take_all, length-map, take_more, take-append-drop, append-nil, get_or-map}
 use Rattle.std.specs.declared.alloc.Global.{Global}
@@ -64,7 +65,8 @@ loop-piece-preserved g c = record {
       ∙ ap (λ l. Some (laid (written names l) base))
       (append_assoc done some (p ∷ [])
       ∙ ap (λ l. done ++ l) (ap (λ x. some ++ x ∷ []) at ∙ sym (take_more (pairs c.args.pieces.now) c.loop-piece.piece-index p within)));
-  there = λ all. there_grown (names_of c.args.pieces.now) c.as_str.result.now c.deref.result.now _ _ c.in_ok-append.ensures.grown (c.loop-piece.invariant.there all);
+  there = λ all. there_grown (names_of c.args.pieces.now) c.as_str.result.now c.deref.result.now _ _ c.in_ok-append.ensures.grown
+      (c.loop-piece.invariant.there all);
   reads = c.in_ok-append.ensures.reads ∙ c.loop-piece.invariant.reads;
   writes = c.in_ok-append.ensures.writes ∙ c.loop-piece.invariant.writes;
 }

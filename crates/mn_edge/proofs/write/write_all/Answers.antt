@@ -39,5 +39,7 @@ returns-clause-part g c = on_err_weaker c.append_all.result (λ part m is.
 
 pub returns-clause-writes : goal.returns-clause-writes
 returns-clause-writes g c =
-    begun_counted (g.S.Shelf.files c.args.shelf.now) (g.S.Shelf.files c.begin_all.new.shelf) (texts c.args.names.now) c.args.pieces.now _ _ _ c.append_all.result
-    c.requires (λ none. (g.met.S.Shelf.told c.args.shelf.now none).1) c.in_ok-begin_all.ensures.begun c.in_ok-begin_all.ensures.writes c.append_all.ensures.writes
+    begun_counted (g.S.Shelf.files c.args.shelf.now) (g.S.Shelf.files c.begin_all.new.shelf) (texts c.args.names.now) c.args.pieces.now _ _ _
+    c.append_all.result
+    c.requires (λ none. (g.met.S.Shelf.told c.args.shelf.now none).1) c.in_ok-begin_all.ensures.begun c.in_ok-begin_all.ensures.writes
+    c.append_all.ensures.writes

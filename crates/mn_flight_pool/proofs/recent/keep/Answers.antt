@@ -19,7 +19,8 @@ returns-clause-last c =
         front = ptrs c.args.recent.now.items;
         cut =
             ptrs_push c.args.recent.now.items c.args.node
-            ∙ ap (λ l. ptrs c.args.recent.now.items ++ ptrs l) (ap (λ l. l ++ c.args.node ∷ []) (sym w.clear.ensures.items) ∙ ap (λ v. v.items ++ c.args.node ∷ []) (sym w.recent-is)
+            ∙ ap (λ l. ptrs c.args.recent.now.items ++ ptrs l) (ap (λ l. l ++ c.args.node ∷ []) (sym w.clear.ensures.items)
+            ∙ ap (λ v. v.items ++ c.args.node ∷ []) (sym w.recent-is)
             ∙ sym c.push_reserved.ensures.items);
       }
       | else-len-ge-MOST_RECENT w ↦ record {

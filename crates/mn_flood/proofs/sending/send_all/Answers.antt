@@ -8,7 +8,11 @@ pub send_over-requires-clause-room : goal.send_over-requires-clause-room
 send_over-requires-clause-room c =
     let row = c.adverts-advert-items.result.now in
     let few : length (over_it c.args.links.now c.args.node.0 c.args.link.0 (take c.loop-advert.advert-index row)) ≤ length c.args.database.now =
-    omega (arith, few_over c.args.links.now c.args.node.0 c.args.link.0 row c.loop-advert.advert-index, ap (λ (r : List (Option Advert)). length r) c.adverts-advert-items.ensures) in
+    omega (
+      arith,
+      few_over c.args.links.now c.args.node.0 c.args.link.0 row c.loop-advert.advert-index,
+      ap (λ (r : List (Option Advert)). length r) c.adverts-advert-items.ensures,
+    ) in
     still_room c.args.queue.now c.loop-advert.queue _ (length c.args.database.now) _ c.loop-advert.invariant few c.requires.room
 
 pub loop-advert-preserved : goal.loop-advert-preserved
@@ -16,10 +20,12 @@ loop-advert-preserved c =
     let row = c.adverts-advert-items.result.now in
     elim c.match-advert.branch [
       | in-Some+in_ok-send_over w ↦
-          one_sent c.args.links.now c.args.node.0 c.args.link.0 c.args.queue.now c.loop-advert.queue c.match-advert.queue row c.loop-advert.advert-index c.advert-item.result w.in-Some.advert
+          one_sent c.args.links.now c.args.node.0 c.args.link.0 c.args.queue.now c.loop-advert.queue c.match-advert.queue row c.loop-advert.advert-index
+          c.advert-item.result w.in-Some.advert
           c.loop-advert-test.true c.loop-advert.invariant (sym c.advert-item.is ∙ w.in-Some.is) (w.queue-is ∙ w.in_ok-send_over.ensures.sent)
       | in_default w ↦
-          w.queue-is ∙ no_one_sent c.args.links.now c.args.node.0 c.args.link.0 c.args.queue.now c.loop-advert.queue row c.loop-advert.advert-index c.advert-item.result
+          w.queue-is ∙ no_one_sent c.args.links.now c.args.node.0 c.args.link.0 c.args.queue.now c.loop-advert.queue row c.loop-advert.advert-index
+          c.advert-item.result
           c.loop-advert-test.true c.loop-advert.invariant (sym c.advert-item.is ∙ w.in_default.is)
     ]
 
@@ -27,5 +33,9 @@ pub returns-clause-made : goal.returns-clause-made
 returns-clause-made c =
     let row = c.adverts-advert-items.result.now in
     let few : length (over_it c.args.links.now c.args.node.0 c.args.link.0 (take c.loop-advert.advert-index row)) ≤ length c.args.database.now =
-    omega (arith, few_over c.args.links.now c.args.node.0 c.args.link.0 row c.loop-advert.advert-index, ap (λ (r : List (Option Advert)). length r) c.adverts-advert-items.ensures) in
+    omega (
+      arith,
+      few_over c.args.links.now c.args.node.0 c.args.link.0 row c.loop-advert.advert-index,
+      ap (λ (r : List (Option Advert)). length r) c.adverts-advert-items.ensures,
+    ) in
     few_more c.args.queue.now c.loop-advert.queue _ (length c.args.database.now) c.loop-advert.invariant few

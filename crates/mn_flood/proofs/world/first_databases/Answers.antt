@@ -6,7 +6,7 @@ use Rattle.mn_flood.proofs.world.first_databases.Goals as goal
 
 pub loop-node-preserved : goal.loop-node-preserved
 loop-node-preserved c =
-    let row = λ (node : ℕ). map (first_of node) (range_with_len 0 c.args.nodes) in
+    let kept_by = λ (node : ℕ). map (first_of node) (range_with_len 0 c.args.nodes) in
     let grown : c.push.new.self.items ≡ c.loop-node.kept.items ++ map (first_of c.loop-node.node) (range_with_len 0 c.args.nodes) ∷ [] = search rules in
     grown ∙ ap (λ xs. xs ++ map (first_of c.loop-node.node) (range_with_len 0 c.args.nodes) ∷ []) c.loop-node.invariant
-    ∙ sym (map-range_with_len_more row 0 c.loop-node.node c.loop-node.node (omega arith))
+    ∙ sym (map-range_with_len_more kept_by 0 c.loop-node.node c.loop-node.node (omega arith))

@@ -5,7 +5,8 @@ use Rattle.mn_wiring.specs.declared.links.Dir.{Dir}
 use Rattle.mn_flood_laws.specs.Flood.{Hear}
 use Rattle.mn_flood_laws.specs.Course.{every_hearing}
 use Rattle.mn_flood.specs.Floods.{FloodNow, happened, refusal_of}
-use Rattle.mn_flood_run.proofs.Courses.{ComesTo, IsFirst, begins, none_first, some_first, unrefused, first_within, turn_more, ends_quiet, ends_full, hears, ends_by}
+use Rattle.mn_flood_run.proofs.Courses.{ComesTo, IsFirst, begins, none_first, some_first, unrefused, first_within, turn_more, ends_quiet, ends_full, hears}
+use Rattle.mn_flood_run.proofs.Courses.{ends_by}
 use Rattle.mn_flood_run.proofs.play.drain.Goals as goal
 
 pub loop-turn-init : goal.loop-turn-init

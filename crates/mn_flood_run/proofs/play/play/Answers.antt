@@ -23,9 +23,16 @@ loop-line-preserved g c =
     let below : c.loop-line.line-index < length c.args.lines.now = c.loop-line-test.true in
     record {
       over = c.in_ok-played.ensures.wiring ∙ c.loop-line.invariant.over;
-      few = let few = c.loop-line.invariant.few in let one = at_most_one c.in_ok-played.played in let count = c.in_ok-refused.ensures.counted in omega (arith, few, one, count);
-      played = line_played c.args.topology.now c.args.lines.now c.loop-line.line-index _ _ c.loop-line.refused c.loop-line.flood c.loop-line.invariant.played _ below
-          (item_is c.args.lines.now c.loop-line.line-index _ below) c.loop-line.flood.wiring c.loop-line.invariant.over c.in_ok-played.played c.play_line.new.flood
+      few = let few = c.loop-line.invariant.few in let one = at_most_one c.in_ok-played.played in let count = c.in_ok-refused.ensures.counted in omega (
+        arith,
+        few,
+        one,
+        count,
+      );
+      played = line_played c.args.topology.now c.args.lines.now c.loop-line.line-index _ _ c.loop-line.refused c.loop-line.flood c.loop-line.invariant.played _
+          below
+          (item_is c.args.lines.now c.loop-line.line-index _ below) c.loop-line.flood.wiring c.loop-line.invariant.over c.in_ok-played.played
+          c.play_line.new.flood
           c.in_ok-played.ensures.played _ c.in_ok-refused.field-0 c.in_default.not-TooManySteps c.in_ok-refused.ensures.told c.in_ok-refused.ensures.counted;
     }
 

@@ -6,7 +6,8 @@ use Rattle.mn_flood_run.proofs.play.play_line.Goals as goal
 
 pub returns-in-Change-clause-played : goal.returns-in-Change-clause-played
 returns-in-Change-clause-played c =
-    line_follows c.answer_of.result c.change.result c.args.line c.args.flood.now c.change.new.self (Change c.in-Change.link.0 c.in-Change.up) c.done-steps.result
+    line_follows c.answer_of.result c.change.result c.args.line c.args.flood.now c.change.new.self (Change c.in-Change.link.0 c.in-Change.up)
+    c.done-steps.result
     (ap ordered c.in-Change.is) (c.change.ensures.refused, c.change.ensures.unchanged, c.change.ensures.done, c.change.ensures.else_memory) c.done-steps.ensures
     c.answer_of.ensures
 

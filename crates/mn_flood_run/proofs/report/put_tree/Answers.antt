@@ -11,19 +11,22 @@ loop-to-init g c = λ view is. told_nothing _
 pub loop-to-preserved : goal.loop-to-preserved
 loop-to-preserved g c = λ view is.
     let below : c.loop-to.to < length c.args.topology.now.loopbacks = omega arith in
-    told_next_number (walk_row c.args.topology.now view c.args.node.0) (length c.args.topology.now.loopbacks) c.loop-to.to _ _ _ below (c.loop-to.invariant view is)
+    told_next_number (walk_row c.args.topology.now view c.args.node.0) (length c.args.topology.now.loopbacks) c.loop-to.to _ _ _ below
+    (c.loop-to.invariant view is)
     (c.in_ok-put_walk_to.ensures view is)
 
 pub returns-in_err-put_walk_to : goal.returns-in_err-put_walk_to
 returns-in_err-put_walk_to g c = λ view is.
     let below : c.loop-to.to < length c.args.topology.now.loopbacks = omega arith in
     tells_as _ _ _ _ _
-    (tells_cut_number (walk_row c.args.topology.now view c.args.node.0) (length c.args.topology.now.loopbacks) c.loop-to.to _ _ _ _ _ c.from_residual.ensures below
+    (tells_cut_number (walk_row c.args.topology.now view c.args.node.0) (length c.args.topology.now.loopbacks) c.loop-to.to _ _ _ _ _ c.from_residual.ensures
+    below
     (c.loop-to.invariant view is) (c.in_err-put_walk_to.ensures view is)) (tree_rows c.args.topology.now view c.args.node.0)
 
 pub returns : goal.returns
 returns g c = λ view is.
     let past : length c.args.topology.now.loopbacks ≤ c.loop-to.to = omega arith in
     tells_as _ _ _ _ _
-    (tells_all_numbers (walk_row c.args.topology.now view c.args.node.0) (length c.args.topology.now.loopbacks) c.loop-to.to _ _ past (c.loop-to.invariant view is))
+    (tells_all_numbers (walk_row c.args.topology.now view c.args.node.0) (length c.args.topology.now.loopbacks) c.loop-to.to _ _ past
+    (c.loop-to.invariant view is))
     (tree_rows c.args.topology.now view c.args.node.0)

@@ -14,4 +14,5 @@ returns-in_err-tree g c =
 
 pub returns : goal.returns
 returns g c = c.put_tree.ensures (flooded (wiring_of c.args.topology.now) c.args.flood.now.world c.args.node.0)
-    (subst (λ wiring. IsTree wiring (flooded wiring c.args.flood.now.world c.args.node.0) c.args.node.0 c.in_ok-tree.tree) c.requires.over c.in_ok-tree.ensures.flooded)
+    (subst (λ wiring. IsTree wiring (flooded wiring c.args.flood.now.world c.args.node.0) c.args.node.0 c.in_ok-tree.tree) c.requires.over
+    c.in_ok-tree.ensures.flooded)

@@ -9,5 +9,6 @@ use Rattle.mn_flood_run.proofs.report.put_trees.Given as goal
 
 abbrev pub invariant-loop-node : goal.invariant-loop-node
 invariant-loop-node g l =
-    Told (flat_map (λ node. tree_text l.topology (flooded (wiring_of l.topology) l.flood.world node) node) (take l.node (range_with_len 0 (length l.topology.loopbacks))))
+    Told (flat_map (λ node. tree_text l.topology (flooded (wiring_of l.topology) l.flood.world node) node)
+    (take l.node (range_with_len 0 (length l.topology.loopbacks))))
     (standing l.fn.page (g.O.Sink.written l.fn.out) (g.O.Sink.faults l.fn.out)) (standing l.page (g.O.Sink.written l.out) (g.O.Sink.faults l.out))

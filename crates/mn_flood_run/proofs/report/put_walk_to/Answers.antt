@@ -19,7 +19,9 @@ pub returns : goal.returns
 returns g c = λ view is. tells_as _ _ _ _ _
     (c.put_walk.ensures view
     (c.dist-dist.ensures.value
-    ∙ c.tree_is_computed.ensures.dist (wiring_of c.args.topology.now) view c.args.node.0 c.args.to.0 c.args.tree.now is c.laws.ensures.joins_nodes c.requires.node c.requires.to)
+    ∙ c.tree_is_computed.ensures.dist (wiring_of c.args.topology.now) view c.args.node.0 c.args.to.0 c.args.tree.now is c.laws.ensures.joins_nodes
+    c.requires.node c.requires.to)
     (c.next-hop.ensures.value
-    ∙ c.tree_is_computed.ensures.next (wiring_of c.args.topology.now) view c.args.node.0 c.args.to.0 c.args.tree.now is c.laws.ensures.joins_nodes c.requires.node c.requires.to))
+    ∙ c.tree_is_computed.ensures.next (wiring_of c.args.topology.now) view c.args.node.0 c.args.to.0 c.args.tree.now is c.laws.ensures.joins_nodes
+    c.requires.node c.requires.to))
     (one_walk_row c.args.topology.now view c.args.node.0 c.args.to.0 (other_test c.args.to.0 c.args.node.0 c.if-to-node.false))

@@ -19,7 +19,8 @@ returns-in-Ok-Ok-clause-told g c = λ files is before begun.
     script_told t c.in-Ok-Ok.lines.items c.args.script.now files before _ c.flood_lines.result read.0
     (c.where_none_flies_the_printed_trees_are_those_of_the_links.ensures t c.in-Ok-Ok.lines.items c.laws.ensures fit.0)
     (c.each_drain_of_a_script_is_bounded.ensures t c.in-Ok-Ok.lines.items c.laws.ensures fit.0)
-    (subst (λ lines. TextIs (Some (flood_done t lines)) before (g.O.Sink.written c.flood_lines.new.out) c.flood_lines.result) c.as_slice.ensures.value (c.flood_lines.ensures.text before begun))
+    (subst (λ lines. TextIs (Some (flood_done t lines)) before (g.O.Sink.written c.flood_lines.new.out) c.flood_lines.result) c.as_slice.ensures.value
+    (c.flood_lines.ensures.text before begun))
 
 pub returns-in-Err-Failed-clause-answers : goal.returns-in-Err-Failed-clause-answers
 returns-in-Err-Failed-clause-answers g c = λ files is.
@@ -38,5 +39,6 @@ returns-in-Ok-Err-clause-cause g c = sink_caused _ _ _ c.refuse.result c.in-Ok-E
 pub returns-in-Err-Failed-clause-cause : goal.returns-in-Err-Failed-clause-cause
 returns-in-Err-Failed-clause-cause g c =
     caused_read _ _ _ _ c.load_lines.ensures.writes refl
-    (λ absent files is. ap (λ input. with_lines_of (flood_says c.args.topology.now) input (λ lines. Some (flood_done c.args.topology.now lines))) (absent files is))
+    (λ absent files is. ap (λ input. with_lines_of (flood_says c.args.topology.now) input (λ lines. Some (flood_done c.args.topology.now lines)))
+    (absent files is))
     (rw c.in-Err-Failed.field-0-is at c.in-Err-Failed.ensures.reads)

@@ -8,7 +8,8 @@ returns-in_err-outcome-clause-part g c =
 
 pub returns-in_err-end-clause-part : goal.returns-in_err-end-clause-part
 returns-in_err-end-clause-part g c =
-    part_if_end_errs _ (report c.args.topology.now (course_of c.args.topology.now c.args.lines.now)) _ _ _ c.in_ok-page.ensures _ _ c.in_ok-outcome.ensures.told.put c.in_err-end.ensures.part
+    part_if_end_errs _ (report c.args.topology.now (course_of c.args.topology.now c.args.lines.now)) _ _ _ c.in_ok-page.ensures _ _
+    c.in_ok-outcome.ensures.told.put c.in_err-end.ensures.part
 
 pub returns-clause-put : goal.returns-clause-put
 returns-clause-put g c = λ before is.

@@ -28,7 +28,8 @@ returns-in-All-clause-told g c =
     let past = rw c.in-All.is at c.in_ok-refused.ensures.played in
     tells_ok (report c.args.topology.now (course_of c.args.topology.now c.args.lines.now)) _ _ _
     (all_told c.args.topology.now c.args.lines.now c.play.new.flood c.in-All.refused _ _ past _ _
-    (told_of _ _ _ c.in_ok-put_trees-in-All.field-0 c.in_ok-put_trees-in-All.ensures) (told_of _ _ _ c.in_ok-put_total-in-All.field-0 c.in_ok-put_total-in-All.ensures))
+    (told_of _ _ _ c.in_ok-put_trees-in-All.field-0 c.in_ok-put_trees-in-All.ensures)
+    (told_of _ _ _ c.in_ok-put_total-in-All.field-0 c.in_ok-put_total-in-All.ensures))
 
 pub returns-in_err-put-in-TooManySteps-clause-told : goal.returns-in_err-put-in-TooManySteps-clause-told
 returns-in_err-put-in-TooManySteps-clause-told g c =

@@ -23,18 +23,23 @@ returns-in-Ok-Ok-clause-told g c = λ m is before begun one read_one.
 pub returns-in-Ok-Err-clause-answers : goal.returns-in-Ok-Err-clause-answers
 returns-in-Ok-Err-clause-answers g c = λ m is.
     let read = subst (SecondIs (file m c.args.second.now)) c.in-Ok-Err.field-0-is (c.in-Ok-Err.ensures.answer m is) in
-    refused (with_first c.args.folder.now m c.args.second.now c.args.joints.now c.args.script.now c.args.capture.now c.args.first) c.in-Ok-Err.outcome m _ _ _ _ _ c.refuse.result
-    (read (with_both c.args.folder.now m c.args.joints.now c.args.script.now c.args.capture.now c.args.first)) (c.load_second.ensures.same ∙ is) c.refuse.ensures.outcome c.refuse.ensures.text c.refuse.ensures.cause
+    refused (with_first c.args.folder.now m c.args.second.now c.args.joints.now c.args.script.now c.args.capture.now c.args.first) c.in-Ok-Err.outcome m _ _ _ _
+    _ c.refuse.result
+    (read (with_both c.args.folder.now m c.args.joints.now c.args.script.now c.args.capture.now c.args.first)) (c.load_second.ensures.same
+    ∙ is) c.refuse.ensures.outcome c.refuse.ensures.text c.refuse.ensures.cause
 
 pub returns-in-Ok-Err-clause-told : goal.returns-in-Ok-Err-clause-told
 returns-in-Ok-Err-clause-told g c = λ m is before begun one read_one.
     undone one c.args.second.now c.args.joints.now c.args.script.now c.args.capture.now c.args.folder.now m before _ _ c.refuse.result c.refuse.ensures.undone
 
 pub returns-in-Err-Failed-clause-answers : goal.returns-in-Err-Failed-clause-answers
-returns-in-Err-Failed-clause-answers g c = λ m is. fault_answers (with_first c.args.folder.now m c.args.second.now c.args.joints.now c.args.script.now c.args.capture.now c.args.first) m _ _ (c.load_second.ensures.same ∙ is)
+returns-in-Err-Failed-clause-answers g c =
+    λ m is. fault_answers (with_first c.args.folder.now m c.args.second.now c.args.joints.now c.args.script.now c.args.capture.now c.args.first) m _ _
+    (c.load_second.ensures.same ∙ is)
 
 pub returns-clause-answers : goal.returns-clause-answers
-returns-clause-answers g c = λ m is. memory_answers (with_first c.args.folder.now m c.args.second.now c.args.joints.now c.args.script.now c.args.capture.now c.args.first) m _ _ (c.load_second.ensures.same ∙ is)
+returns-clause-answers g c = λ m is. memory_answers (with_first c.args.folder.now m c.args.second.now c.args.joints.now c.args.script.now c.args.capture.now
+    c.args.first) m _ _ (c.load_second.ensures.same ∙ is)
 
 pub returns-in-Ok-Ok-clause-cause : goal.returns-in-Ok-Ok-clause-cause
 returns-in-Ok-Ok-clause-cause g c =
@@ -48,4 +53,6 @@ returns-in-Ok-Err-clause-cause g c = sink_caused _ _ _ c.refuse.result c.in-Ok-E
 
 pub returns-in-Err-Failed-clause-cause : goal.returns-in-Err-Failed-clause-cause
 returns-in-Err-Failed-clause-cause g c =
-    caused_read _ _ _ _ c.load_second.ensures.writes refl (λ absent m is. ap (λ input. with_second input (with_both c.args.folder.now m c.args.joints.now c.args.script.now c.args.capture.now c.args.first)) (absent m is)) (rw c.in-Err-Failed.field-0-is at c.in-Err-Failed.ensures.reads)
+    caused_read _ _ _ _ c.load_second.ensures.writes refl
+    (λ absent m is. ap (λ input. with_second input (with_both c.args.folder.now m c.args.joints.now c.args.script.now c.args.capture.now c.args.first))
+    (absent m is)) (rw c.in-Err-Failed.field-0-is at c.in-Err-Failed.ensures.reads)

@@ -17,7 +17,8 @@ use Rattle.mn_join_run.proofs.lines.do_line.Goals as goal
 
 pub returns-in-Ok-Some-clause-went : goal.returns-in-Ok-Some-clause-went
 returns-in-Ok-Some-clause-went g c = λ pairing start run names keeps.
-    let kept = subst (λ f. Keeps pairing start run c.args.pair.now c.args.desk.now (outside c.args.desk.now.page (g.O.Sink.written c.args.out.now) c.args.file.now.held f))
+    let kept = subst (λ f. Keeps pairing start run c.args.pair.now c.args.desk.now
+    (outside c.args.desk.now.page (g.O.Sink.written c.args.out.now) c.args.file.now.held f))
     (sym c.fetch.ensures.same) keeps in
     record {
       packet = Some c.in-Ok-Some.packet.now;
@@ -27,7 +28,8 @@ returns-in-Ok-Some-clause-went g c = λ pairing start run names keeps.
 
 pub returns-in_ok-put_refused-in-Ok-None-clause-went : goal.returns-in_ok-put_refused-in-Ok-None-clause-went
 returns-in_ok-put_refused-in-Ok-None-clause-went g c = λ pairing start run names keeps.
-    let kept = subst (λ f. Keeps pairing start run c.args.pair.now c.args.desk.now (outside c.args.desk.now.page (g.O.Sink.written c.args.out.now) c.args.file.now.held f))
+    let kept = subst (λ f. Keeps pairing start run c.args.pair.now c.args.desk.now
+    (outside c.args.desk.now.page (g.O.Sink.written c.args.out.now) c.args.file.now.held f))
     (sym c.fetch.ensures.same) keeps in
     let desk : Desk = record { page = c.put_refused.new.page; line = c.put_refused.new.line; sent = c.args.desk.now.sent } in
     let now = outside c.put_refused.new.page (g.O.Sink.written c.put_refused.new.out) c.args.file.now.held (g.S.Shelf.files c.fetch.new.shelf) in
@@ -37,7 +39,8 @@ returns-in_ok-put_refused-in-Ok-None-clause-went g c = λ pairing start run name
       went = record_missing pairing start run c.args.line.now c.args.pair.now c.args.desk.now desk
           (outside c.args.desk.now.page (g.O.Sink.written c.args.out.now) c.args.file.now.held (g.S.Shelf.files c.fetch.new.shelf)) now refl kept
           (refused_on start run c.args.line.now.number (codes "NoRecord") c.args.desk.now.page c.put_refused.new.page (g.O.Sink.written c.args.out.now)
-          (g.O.Sink.written c.put_refused.new.out) c.args.file.now.held (g.S.Shelf.files c.fetch.new.shelf) c.in_ok-put_refused-in-Ok-None.ensures.put kept.outside);
+          (g.O.Sink.written c.put_refused.new.out) c.args.file.now.held (g.S.Shelf.files c.fetch.new.shelf) c.in_ok-put_refused-in-Ok-None.ensures.put
+          kept.outside);
     }
 
 pub returns-in_ok-put_refused-in-Ok-None-clause-framed : goal.returns-in_ok-put_refused-in-Ok-None-clause-framed
@@ -46,7 +49,8 @@ returns-in_ok-put_refused-in-Ok-None-clause-framed g c =
 
 pub returns-in_err-put_refused-in-Ok-None-clause-went : goal.returns-in_err-put_refused-in-Ok-None-clause-went
 returns-in_err-put_refused-in-Ok-None-clause-went g c = λ pairing start run names keeps.
-    let kept = subst (λ f. Keeps pairing start run c.args.pair.now c.args.desk.now (outside c.args.desk.now.page (g.O.Sink.written c.args.out.now) c.args.file.now.held f))
+    let kept = subst (λ f. Keeps pairing start run c.args.pair.now c.args.desk.now
+    (outside c.args.desk.now.page (g.O.Sink.written c.args.out.now) c.args.file.now.held f))
     (sym c.fetch.ensures.same) keeps in
     let desk : Desk = record { page = c.put_refused.new.page; line = c.put_refused.new.line; sent = c.args.desk.now.sent } in
     let now = outside c.put_refused.new.page (g.O.Sink.written c.put_refused.new.out) c.args.file.now.held (g.S.Shelf.files c.fetch.new.shelf) in
@@ -55,7 +59,8 @@ returns-in_err-put_refused-in-Ok-None-clause-went g c = λ pairing start run nam
       is_packet = rw c.in-Ok-None.field-0-is at (c.in-Ok-None.ensures.told start.names);
       went = went_cut pairing start (with_packet pairing run c.args.line.now None) c.args.pair.now desk now c.from_residual.result _ c.from_residual.ensures.1
           (refused_cut start run c.args.line.now.number (codes "NoRecord") c.args.desk.now.page c.put_refused.new.page (g.O.Sink.written c.args.out.now)
-          (g.O.Sink.written c.put_refused.new.out) c.args.file.now.held c.args.file.now.held (g.S.Shelf.files c.fetch.new.shelf) c.in_err-put_refused-in-Ok-None.ensures.part
+          (g.O.Sink.written c.put_refused.new.out) c.args.file.now.held c.args.file.now.held
+          (g.S.Shelf.files c.fetch.new.shelf) c.in_err-put_refused-in-Ok-None.ensures.part
           kept.outside);
     }
 
@@ -66,7 +71,8 @@ returns-in_err-put_refused-in-Ok-None-clause-framed g c =
 pub returns-in-Err-Failed-clause-went : goal.returns-in-Err-Failed-clause-went
 returns-in-Err-Failed-clause-went g c = λ pairing start run names keeps.
     let now = outside c.args.desk.now.page (g.O.Sink.written c.args.out.now) c.args.file.now.held (g.S.Shelf.files c.fetch.new.shelf) in
-    let kept = subst (λ f. Keeps pairing start run c.args.pair.now c.args.desk.now (outside c.args.desk.now.page (g.O.Sink.written c.args.out.now) c.args.file.now.held f))
+    let kept = subst (λ f. Keeps pairing start run c.args.pair.now c.args.desk.now
+    (outside c.args.desk.now.page (g.O.Sink.written c.args.out.now) c.args.file.now.held f))
     (sym c.fetch.ensures.same) keeps in
     line_cut pairing start run c.args.line.now (g.S.Shelf.files c.args.shelf.now) c.args.capture.now c.args.pair.now c.args.desk.now now Read
     (λ packet. line_unplayed pairing start run c.args.line.now packet now kept.outside)
@@ -78,7 +84,8 @@ returns-in-Err-Failed-clause-framed g c =
 pub returns-in-Err-NoMemory-clause-went : goal.returns-in-Err-NoMemory-clause-went
 returns-in-Err-NoMemory-clause-went g c = λ pairing start run names keeps.
     let now = outside c.args.desk.now.page (g.O.Sink.written c.args.out.now) c.args.file.now.held (g.S.Shelf.files c.fetch.new.shelf) in
-    let kept = subst (λ f. Keeps pairing start run c.args.pair.now c.args.desk.now (outside c.args.desk.now.page (g.O.Sink.written c.args.out.now) c.args.file.now.held f))
+    let kept = subst (λ f. Keeps pairing start run c.args.pair.now c.args.desk.now
+    (outside c.args.desk.now.page (g.O.Sink.written c.args.out.now) c.args.file.now.held f))
     (sym c.fetch.ensures.same) keeps in
     line_cut pairing start run c.args.line.now (g.S.Shelf.files c.args.shelf.now) c.args.capture.now c.args.pair.now c.args.desk.now now NoMemory
     (λ packet. line_unplayed pairing start run c.args.line.now packet now kept.outside)

@@ -100,6 +100,7 @@ returns-in_err-do_line-clause-cause g c =
     (g.S.Shelf.read_faults l.shelf, g.S.Shelf.write_faults l.shelf, g.O.Sink.faults l.out)
     (g.S.Shelf.read_faults c.do_line.new.shelf, g.S.Shelf.write_faults c.do_line.new.shelf, g.O.Sink.faults c.do_line.new.out)
     (Err c.in_err-do_line.field-0.0)
-    (λ none. sym (same_packets _ _ _ _ l.invariant.framed) ∙ ap (λ n. told_packets (g.S.Shelf.files l.shelf) n c.args.capture.now) (sym l.invariant.names) ∙ none)
+    (λ none. sym (same_packets _ _ _ _ l.invariant.framed) ∙ ap (λ n. told_packets (g.S.Shelf.files l.shelf) n c.args.capture.now) (sym l.invariant.names)
+    ∙ none)
     (λ lacks all. subst (λ n. Lacking n (g.S.Shelf.files l.shelf)) l.invariant.names lacks (l.invariant.framed.stays all))
     c.in_err-do_line.ensures.cause))

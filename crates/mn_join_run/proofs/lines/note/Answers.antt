@@ -32,26 +32,31 @@ returns-in_err-send-in-All-clause-noted g c = λ pairing start run course names 
     let mid = stands_out start run course c.args.pair.now.exits exits c.args.desk.now.page (g.O.Sink.written c.args.out.now) c.args.file.now.held
     c.put_exits.new.self.held (g.S.Shelf.files c.args.shelf.now) (g.S.Shelf.files c.put_exits.new.shelf) stands
     (subst (λ n. (bytes : List ℕ) → Holding n bytes c.args.file.now.held (g.S.Shelf.files c.args.shelf.now) →
-    Holding n (bytes ++ flat_map exit_record c.args.pair.now.exits) c.put_exits.new.self.held (g.S.Shelf.files c.put_exits.new.shelf)) (sym names) c.in_ok-put_exits.ensures.grown) in
+    Holding n (bytes ++ flat_map exit_record c.args.pair.now.exits) c.put_exits.new.self.held (g.S.Shelf.files c.put_exits.new.shelf))
+    (sym names) c.in_ok-put_exits.ensures.grown) in
     noted_cut start (after_course pairing run c.args.line.now course (ending_of c.args.played)) c.send.new.self
     (outside c.send.new.self.page (g.O.Sink.written c.args.out.now) c.put_exits.new.self.held (g.S.Shelf.files c.put_exits.new.shelf))
     c.from_residual-in_err-send-in-All.result _ c.from_residual-in_err-send-in-All.ensures.1
     (stood_noted pairing start run c.args.line.now course (ending_of c.args.played)
     (outside c.send.new.self.page (g.O.Sink.written c.args.out.now) c.put_exits.new.self.held (g.S.Shelf.files c.put_exits.new.shelf))
     (subst (λ w. Stands start (refused_texts (goes_on run course)) (exits_file (goes_on run course).exits)
-    (outside w (g.O.Sink.written c.args.out.now) c.put_exits.new.self.held (g.S.Shelf.files c.put_exits.new.shelf))) (sym c.in_err-send-in-All.ensures.page) mid))
+    (outside w (g.O.Sink.written c.args.out.now) c.put_exits.new.self.held (g.S.Shelf.files c.put_exits.new.shelf))) (sym c.in_err-send-in-All.ensures.page)
+    mid))
 
 pub returns-in_ok-send-in-All-clause-noted : goal.returns-in_ok-send-in-All-clause-noted
 returns-in_ok-send-in-All-clause-noted g c = λ pairing start run course names topology exits sendings stands.
     let mid = stands_out start run course c.args.pair.now.exits exits c.args.desk.now.page (g.O.Sink.written c.args.out.now) c.args.file.now.held
     c.put_exits.new.self.held (g.S.Shelf.files c.args.shelf.now) (g.S.Shelf.files c.put_exits.new.shelf) stands
     (subst (λ n. (bytes : List ℕ) → Holding n bytes c.args.file.now.held (g.S.Shelf.files c.args.shelf.now) →
-    Holding n (bytes ++ flat_map exit_record c.args.pair.now.exits) c.put_exits.new.self.held (g.S.Shelf.files c.put_exits.new.shelf)) (sym names) c.in_ok-put_exits.ensures.grown) in
+    Holding n (bytes ++ flat_map exit_record c.args.pair.now.exits) c.put_exits.new.self.held (g.S.Shelf.files c.put_exits.new.shelf))
+    (sym names) c.in_ok-put_exits.ensures.grown) in
     subst (λ p. IsNoted {T = Unit {0}} start (after_course pairing run c.args.line.now course (ending_of p)) c.send.new.self
-    (outside c.send.new.self.page (g.O.Sink.written c.args.out.now) c.put_exits.new.self.held (g.S.Shelf.files c.put_exits.new.shelf)) (Ok tt)) (sym c.in-All.is) (
+    (outside c.send.new.self.page (g.O.Sink.written c.args.out.now) c.put_exits.new.self.held (g.S.Shelf.files c.put_exits.new.shelf)) (Ok tt))
+    (sym c.in-All.is) (
       c.in_ok-send-in-All.ensures.sent ∙ ap (λ l. l ++ sending_by c.args.line.now.number c.args.line.now.command) sendings,
       subst (λ w. Stands start (refused_texts (goes_on run course)) (exits_file (goes_on run course).exits)
-          (outside w (g.O.Sink.written c.args.out.now) c.put_exits.new.self.held (g.S.Shelf.files c.put_exits.new.shelf))) (sym c.in_ok-send-in-All.ensures.page) mid,
+          (outside w (g.O.Sink.written c.args.out.now) c.put_exits.new.self.held (g.S.Shelf.files c.put_exits.new.shelf)))
+          (sym c.in_ok-send-in-All.ensures.page) mid,
     )
 
 pub returns-in_err-put_refused-in-Refused-clause-noted : goal.returns-in_err-put_refused-in-Refused-clause-noted
@@ -59,7 +64,8 @@ returns-in_err-put_refused-in-Refused-clause-noted g c = λ pairing start run co
     let mid = stands_out start run course c.args.pair.now.exits exits c.args.desk.now.page (g.O.Sink.written c.args.out.now) c.args.file.now.held
     c.put_exits.new.self.held (g.S.Shelf.files c.args.shelf.now) (g.S.Shelf.files c.put_exits.new.shelf) stands
     (subst (λ n. (bytes : List ℕ) → Holding n bytes c.args.file.now.held (g.S.Shelf.files c.args.shelf.now) →
-    Holding n (bytes ++ flat_map exit_record c.args.pair.now.exits) c.put_exits.new.self.held (g.S.Shelf.files c.put_exits.new.shelf)) (sym names) c.in_ok-put_exits.ensures.grown) in
+    Holding n (bytes ++ flat_map exit_record c.args.pair.now.exits) c.put_exits.new.self.held (g.S.Shelf.files c.put_exits.new.shelf))
+    (sym names) c.in_ok-put_exits.ensures.grown) in
     let now = outside c.put_refused.new.page (g.O.Sink.written c.put_refused.new.out) c.put_exits.new.self.held (g.S.Shelf.files c.put_exits.new.shelf) in
     let cause = cause_text (network pairing c.args.line.now.which).site_names c.in-Refused.why in
     noted_cut start (after_course pairing run c.args.line.now course (ending_of c.args.played))
@@ -78,7 +84,8 @@ returns-in_ok-put_refused-in-Refused-clause-noted g c = λ pairing start run cou
     let mid = stands_out start run course c.args.pair.now.exits exits c.args.desk.now.page (g.O.Sink.written c.args.out.now) c.args.file.now.held
     c.put_exits.new.self.held (g.S.Shelf.files c.args.shelf.now) (g.S.Shelf.files c.put_exits.new.shelf) stands
     (subst (λ n. (bytes : List ℕ) → Holding n bytes c.args.file.now.held (g.S.Shelf.files c.args.shelf.now) →
-    Holding n (bytes ++ flat_map exit_record c.args.pair.now.exits) c.put_exits.new.self.held (g.S.Shelf.files c.put_exits.new.shelf)) (sym names) c.in_ok-put_exits.ensures.grown) in
+    Holding n (bytes ++ flat_map exit_record c.args.pair.now.exits) c.put_exits.new.self.held (g.S.Shelf.files c.put_exits.new.shelf))
+    (sym names) c.in_ok-put_exits.ensures.grown) in
     let now = outside c.put_refused.new.page (g.O.Sink.written c.put_refused.new.out) c.put_exits.new.self.held (g.S.Shelf.files c.put_exits.new.shelf) in
     let cause = cause_text (network pairing c.args.line.now.which).site_names c.in-Refused.why in
     let desk : Desk = record { page = c.put_refused.new.page; line = c.put_refused.new.line; sent = c.args.desk.now.sent } in

@@ -9,7 +9,8 @@ returns-in_err-sites g c = λ pairing run stands is. tells_err _ _ _ NoMemory _ 
 
 pub returns-in_err-put_packets : goal.returns-in_err-put_packets
 returns-in_err-put_packets g c = λ pairing run stands is.
-    tells_first _ _ _ _ _ _ c.from_residual-in_err-put_packets.ensures (c.in_err-put_packets.ensures pairing run stands (c.in_ok-sites.ensures pairing run.both stands) is)
+    tells_first _ _ _ _ _ _ c.from_residual-in_err-put_packets.ensures
+    (c.in_err-put_packets.ensures pairing run stands (c.in_ok-sites.ensures pairing run.both stands) is)
 
 pub returns : goal.returns
 returns g c = λ pairing run stands is.

@@ -21,7 +21,8 @@ returns-in_err-end-clause-went g c = λ pairing start run names framed went.
     (g.S.Shelf.files c.end.new.shelf) stands why.0 (no_read_of _ why.0 why.2)
     (framed_both start.names start.base (g.S.Shelf.files c.args.shelf.now) (g.S.Shelf.files c.end.new.shelf) framed
     (subst (λ n. Framed n (g.S.Shelf.files c.args.shelf.now) (g.S.Shelf.files c.end.new.shelf)) (sym names) c.in_err-end.ensures.framed))
-    (subst (λ n. (bytes : List ℕ) → Holding n bytes c.args.file.now.held (g.S.Shelf.files c.args.shelf.now) → Beginning n bytes (g.S.Shelf.files c.end.new.shelf))
+    (subst (λ n. (bytes : List ℕ) → Holding n bytes c.args.file.now.held (g.S.Shelf.files c.args.shelf.now) →
+    Beginning n bytes (g.S.Shelf.files c.end.new.shelf))
     (sym names) c.in_err-end.ensures.part))
 
 pub returns-in_err-put_last-clause-went : goal.returns-in_err-put_last-clause-went

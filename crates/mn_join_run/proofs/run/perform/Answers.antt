@@ -21,7 +21,8 @@ returns-in_err-file-clause-ends g c = λ pairing stands goes m is bytes there.
     let run = run_of pairing (packets_in c.args.capture.now bytes) c.args.lines.now in
     let why = err_from_is_err_and c.from_residual.result c.from_residual.ensures.1 in
     subst (RunEnds pairing start run (g.S.Shelf.files c.open.new.shelf) (g.O.Sink.written c.args.out.now)) (sym why.1)
-    (not_begun pairing start run (g.S.Shelf.files c.open.new.shelf) why.0 (no_read_of _ why.0 why.2) (λ base there. c.in_err-file.ensures.part base there run.exits))
+    (not_begun pairing start run (g.S.Shelf.files c.open.new.shelf) why.0 (no_read_of _ why.0 why.2)
+    (λ base there. c.in_err-file.ensures.part base there run.exits))
 
 pub returns-in_default-clause-ends : goal.returns-in_default-clause-ends
 returns-in_default-clause-ends g c = λ pairing stands goes m is bytes there.
@@ -97,7 +98,8 @@ returns-in_err-how-clause-cause g c =
     let untold = untold_absent (g.S.Shelf.files c.args.shelf.now) (g.S.Shelf.files c.open.new.shelf) names c.args.capture.now
     (λ m bytes is there. (
       packets_in c.args.capture.now bytes,
-      subst (λ n. told_packets (g.S.Shelf.files c.open.new.shelf) n c.args.capture.now ≡ Some (packets_in c.args.capture.now bytes)) (sym c.in_ok-file.ensures.names)
+      subst (λ n. told_packets (g.S.Shelf.files c.open.new.shelf) n c.args.capture.now ≡ Some (packets_in c.args.capture.now bytes))
+          (sym c.in_ok-file.ensures.names)
           (packets_told c.args.folder.now c.args.capture.now c.requires.start.pairing.first m (g.S.Shelf.files c.open.new.shelf) bytes c.requires.apart
           (subst (λ n. Framed n (Some m) (g.S.Shelf.files c.open.new.shelf)) c.in_ok-file.ensures.names
           (subst (λ o. Framed names o (g.S.Shelf.files c.open.new.shelf)) is c.in_ok-file.ensures.framed)) there),

@@ -9,8 +9,10 @@ use Rattle.mn_lsr.proofs.speaking.say_all.Given as goal
 
 abbrev pub invariant-loop-tell : goal.invariant-loop-tell
 invariant-loop-tell l = let w : Wiring = record { loopbacks = l.loopbacks; ends = l.ends } in record {
-  said : map pdu_of l.out.items ++ pdus_by w l.me.0 (own_labels l.me.0 l.labels.labels) l.withdrawn l.sessions.items (flat_map (said_by_tell w l.me.0) (drop l.tell-index l.tells))
-      ≡ map pdu_of l.fn.out.items ++ pdus_by w l.me.0 (own_labels l.me.0 l.labels.labels) l.withdrawn l.fn.sessions.items (flat_map (said_by_tell w l.me.0) l.tells);
+  said : map pdu_of l.out.items ++ pdus_by w l.me.0 (own_labels l.me.0 l.labels.labels) l.withdrawn l.sessions.items
+      (flat_map (said_by_tell w l.me.0) (drop l.tell-index l.tells))
+      ≡ map pdu_of l.fn.out.items ++ pdus_by w l.me.0 (own_labels l.me.0 l.labels.labels) l.withdrawn l.fn.sessions.items
+      (flat_map (said_by_tell w l.me.0) l.tells);
   counted : ends_after l.sessions.items (flat_map (said_by_tell w l.me.0) (drop l.tell-index l.tells)) ≡ ends_after l.fn.sessions.items
       (flat_map (said_by_tell w l.me.0) l.tells);
   one_each : length l.sessions.items ≡ length l.ends;

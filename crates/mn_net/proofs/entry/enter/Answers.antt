@@ -68,7 +68,8 @@ way_out-way-requires-clause-stands c = (c.requires.stands.0, c.requires.stands.4
 pub returns-clause-fate : goal.returns-clause-fate
 returns-clause-fate c = λ journal inputs lawful routes transport.
     let resolves =
-    and_right (is_cut_off c.in_ok-entered.entered c.way_out-outer.result) c.args.topology.now.resolve (sym c.looks_again.ensures ∙ c.if-not-looks_again.false) in
+    and_right (is_cut_off c.in_ok-entered.entered c.way_out-outer.result) c.args.topology.now.resolve (sym c.looks_again.ensures
+    ∙ c.if-not-looks_again.false) in
     c.in_ok-resolved.ensures.fate resolves journal inputs lawful routes
     (subst (λ n. AreWays c.args.topology.now (world_of c.args.topology.now journal) n c.ways-ways.result) c.home_of-node.ensures.home
     (c.ways-ways.ensures journal transport))

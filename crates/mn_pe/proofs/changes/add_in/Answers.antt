@@ -6,4 +6,5 @@ returns-in-None c = told_nobody c.args.number.0 _ _ c.args.vrfs.now.items c.dere
 
 pub returns-in-Some : goal.returns-in-Some
 returns-in-Some c = told_one c.args.number.0 _ _ c.args.vrfs.now.items c.deref.result.now c.deref.ensures.value c.in-Some.at c.index_mut.result.now
-    c.add_static.new.self c.add_static.result c.requires c.in-Some.ensures c.index_mut.ensures.value c.add_static.ensures.ok c.add_static.ensures.err c.add_static.ensures.refusal
+    c.add_static.new.self c.add_static.result c.requires c.in-Some.ensures c.index_mut.ensures.value c.add_static.ensures.ok c.add_static.ensures.err
+    c.add_static.ensures.refusal

@@ -20,7 +20,8 @@ loop-vrf-preserved c =
     elim c.if-number.branch [
       | then-number+in_ok-put_vrf w ↦
           put_more c.loop-vrf.out.items (exports_by c.args.labels.now c.vrf-item.result.vrf) c.if-number.out.items
-          (exports_at_among c.args.labels.now c.args.number.0 (told (drop c.loop-vrf.vrf-index c.args.vrfs.now))) (exports_at_among c.args.labels.now c.args.number.0 (told rest)) (exports_at_among c.args.labels.now c.args.number.0 (told c.args.vrfs.now))
+          (exports_at_among c.args.labels.now c.args.number.0 (told (drop c.loop-vrf.vrf-index c.args.vrfs.now)))
+          (exports_at_among c.args.labels.now c.args.number.0 (told rest)) (exports_at_among c.args.labels.now c.args.number.0 (told c.args.vrfs.now))
           (step ∙ kept_in (λ (u : VrfState). exports_by c.args.labels.now u) (λ (u : VrfState). u.number == c.args.number.0) c.vrf-item.result.vrf (told rest)
           (eq-eqb c.vrf-item.result.vrf.number c.args.number.0 (sym (ap (λ (n : VrfNo). n.0) c.number.ensures) ∙ w.if-number.true)))
           (ap (λ out. out.items) w.out-is ∙ w.in_ok-put_vrf.ensures) c.loop-vrf.invariant

@@ -19,15 +19,20 @@ loop-vrf-preserved c =
     (drop_at c.args.vrfs.now c.loop-vrf.vrf-index c.vrf-item.result c.loop-vrf-test.true c.vrf-item.is) in
     elim c.if-number.branch [
       | then-number+in_ok-put_over w ↦
-          put_more c.loop-vrf.out.items (exports_by_over c.args.labels.now c.args.site.0 c.vrf-item.result.vrf c.vrf-item.result.vrf.exports) c.if-number.out.items
-          (exports_over_among c.args.labels.now c.args.number.0 c.args.site.0 (told (drop c.loop-vrf.vrf-index c.args.vrfs.now))) (exports_over_among c.args.labels.now c.args.number.0 c.args.site.0 (told rest)) (exports_over_among c.args.labels.now c.args.number.0 c.args.site.0 (told c.args.vrfs.now))
-          (step ∙ kept_in (λ (u : VrfState). exports_by_over c.args.labels.now c.args.site.0 u u.exports) (λ (u : VrfState). u.number == c.args.number.0) c.vrf-item.result.vrf (told rest)
+          put_more c.loop-vrf.out.items (exports_by_over c.args.labels.now c.args.site.0 c.vrf-item.result.vrf c.vrf-item.result.vrf.exports)
+          c.if-number.out.items
+          (exports_over_among c.args.labels.now c.args.number.0 c.args.site.0 (told (drop c.loop-vrf.vrf-index c.args.vrfs.now)))
+          (exports_over_among c.args.labels.now c.args.number.0 c.args.site.0 (told rest))
+          (exports_over_among c.args.labels.now c.args.number.0 c.args.site.0 (told c.args.vrfs.now))
+          (step ∙ kept_in (λ (u : VrfState). exports_by_over c.args.labels.now c.args.site.0 u u.exports) (λ (u : VrfState). u.number == c.args.number.0)
+          c.vrf-item.result.vrf (told rest)
           (eq-eqb c.vrf-item.result.vrf.number c.args.number.0 (sym (ap (λ (n : VrfNo). n.0) c.number.ensures) ∙ w.if-number.true)))
           (ap (λ out. out.items) w.out-is ∙ w.in_ok-put_over.ensures) c.loop-vrf.invariant
       | else-number w ↦
           ap (λ out. out.items ++ exports_over_among c.args.labels.now c.args.number.0 c.args.site.0 (told rest)) w.out-is
           ∙ sym (ap (λ ys. c.loop-vrf.out.items ++ ys)
-          (step ∙ left_out (λ (u : VrfState). exports_by_over c.args.labels.now c.args.site.0 u u.exports) (λ (u : VrfState). u.number == c.args.number.0) c.vrf-item.result.vrf (told rest)
+          (step ∙ left_out (λ (u : VrfState). exports_by_over c.args.labels.now c.args.site.0 u u.exports) (λ (u : VrfState). u.number == c.args.number.0)
+          c.vrf-item.result.vrf (told rest)
           (other_test c.vrf-item.result.vrf.number c.args.number.0 (λ q. w.if-number.false (ap (λ (n : VrfNo). n.0) c.number.ensures ∙ q)))))
           ∙ c.loop-vrf.invariant
     ]

@@ -8,7 +8,7 @@ use Rattle.mn_pe.proofs.Unheard.{taken-of, unheard-taken}
 use Rattle.mn_pe.proofs.hearing.hear_one_reached.Goals as goal
 use Rattle.mn_pe.proofs.hearing.hear_one_reached.Goals.{Joined-has, then-has+in_ok-take_in_all, else-has+in_ok-offer_in_all}
 
--- each VRF has taken it: one that wasn't heard was held by none
+-- each VRF has taken it: one that wasn't received was held by none
 taken : (c : Joined-has) → c.if-has.vrfs.items ≡ map (taking
     (far_route c.args.loopback c.args.peer.0 c.args.route.now.rd c.args.route.now.prefix c.args.route.now.label) c.args.targets.now) c.args.vrfs.now.items
 taken c =

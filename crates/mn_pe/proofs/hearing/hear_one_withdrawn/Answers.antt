@@ -16,7 +16,7 @@ returns-then-remove-clause-edge c =
     (subst (λ (heard : List Heard). AreOfEdge (map (giving r) hs) heard c.args.loopback c.args.peer.0) (sym c.remove.ensures.removed)
     (given-of hs c.args.heard.now c.args.loopback c.args.peer.0 c.requires c.args.route.now.rd c.args.route.now.prefix))
 
--- it wasn't heard, so none holds it
+-- it wasn't received, so none holds it
 pub returns-else-remove-clause-vrfs : goal.returns-else-remove-clause-vrfs
 returns-else-remove-clause-vrfs c =
     let none : has_heard c.args.route.now.rd c.args.route.now.prefix c.args.heard.now ≡ false = sym c.remove.ensures.there ∙ c.if-remove.false in

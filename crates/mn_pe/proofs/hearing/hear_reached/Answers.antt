@@ -12,7 +12,7 @@ hear_one_reached-requires-clause-label c =
     (subst AreLabelled (drop_at c.args.routes.now c.loop-route.route-index c.route-item.result c.loop-route-test.true c.route-item.is)
     c.loop-route.invariant.labels).0
 
--- one route more is heard
+-- one route more is received
 pub loop-route-preserved : goal.loop-route-preserved
 loop-route-preserved c =
     let rest : List VpnRoute = drop (c.loop-route.route-index + 1) c.args.routes.now in

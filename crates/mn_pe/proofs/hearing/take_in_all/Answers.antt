@@ -6,5 +6,7 @@ use Rattle.mn_pe.proofs.hearing.take_in_all.Goals as goal
 -- one more VRF is changed
 pub loop-at-preserved : goal.loop-at-preserved
 loop-at-preserved c =
-    one_changed (taking (c.args.prefix, c.args.source) c.args.targets.now) c.args.vrfs.now.items c.loop-at.vrfs.items c.loop-at.at c.index_mut.result.now c.take_route.new.vrf
-    (grind (arith, c.loop-at-test.true, c.loop-at.auto.at-end, c.len-at-end.ensures)) c.loop-at.invariant c.index_mut.ensures.value c.in_ok-take_route.ensures.ok
+    one_changed (taking (c.args.prefix, c.args.source) c.args.targets.now) c.args.vrfs.now.items c.loop-at.vrfs.items c.loop-at.at c.index_mut.result.now
+    c.take_route.new.vrf
+    (grind (arith, c.loop-at-test.true, c.loop-at.auto.at-end, c.len-at-end.ensures)) c.loop-at.invariant c.index_mut.ensures.value
+    c.in_ok-take_route.ensures.ok

@@ -5,7 +5,8 @@ use Rattle.mn_pe.proofs.start.sites_of.Goals as goal
 
 pub loop-site-preserved : goal.loop-site-preserved
 loop-site-preserved c =
-    took (λ (site : SiteDef). site.vrf) c.args.sites.now c.loop-site.site-index c.site-item.result c.loop-site.out.items c.push.new.self.items c.site-item.result.vrf
+    took (λ (site : SiteDef). site.vrf) c.args.sites.now c.loop-site.site-index c.site-item.result c.loop-site.out.items c.push.new.self.items
+    c.site-item.result.vrf
     c.loop-site-test.true c.site-item.is c.loop-site.invariant refl c.in_ok-push.ensures.items
 
 pub returns : goal.returns

@@ -31,7 +31,8 @@ returns-clause-framed g c = ok_then c.put_heads.result _ _ (c.put_heads.ensures.
 
 pub returns-clause-part : goal.returns-clause-part
 returns-clause-part g c = err_then c.put_heads.result _ _ (c.put_heads.ensures.puts c.requires.files).may (λ may m is folder capture entries named_so.
-    heads_part folder c.args.topology.now capture entries c.args.output.now c.put_heads.new.output m _ _ c.requires.fresh.0 named_so c.put_heads.ensures.stays.names
+    heads_part folder c.args.topology.now capture entries c.args.output.now c.put_heads.new.output m _ _ c.requires.fresh.0 named_so
+    c.put_heads.ensures.stays.names
     c.requires.fresh.1 (subst (λ n. Stands n [] m (g.S.Shelf.files c.begin_all.new.shelf)) c.names.ensures (c.in_ok-begin_all.ensures.begun m is))
     c.put_heads.ensures.stays.framed may)
 

@@ -32,7 +32,8 @@ returns-in_err-put_frame_head-clause-puts g c = λ for.
     let below : c.loop-link.link < length c.links-link-end.result.now = c.loop-link-test.true in omega (arith, many, below))))
 
 pub returns-in_err-put_frame_head-clause-stays : goal.returns-in_err-put_frame_head-clause-stays
-returns-in_err-put_frame_head-clause-stays g c = stays_out c.from_residual.ensures (stays_then c.loop-link.invariant.stays c.in_err-put_frame_head.ensures.stays)
+returns-in_err-put_frame_head-clause-stays g c =
+    stays_out c.from_residual.ensures (stays_then c.loop-link.invariant.stays c.in_err-put_frame_head.ensures.stays)
 
 pub returns-clause-puts : goal.returns-clause-puts
 returns-clause-puts g c = λ for.

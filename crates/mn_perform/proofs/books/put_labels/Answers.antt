@@ -17,7 +17,8 @@ next_node f n lines are k =
     joined_in 1 k (flat_map f (range_with_len 0 n)) lines
     ∙ ap (λ l. only_in 1 l k) (ap (λ l. flat_map f (range_with_len 0 n) ++ l) are ∙ one_node_more f n)
 
-lines_of : (topology t : Network) (node : ℕ) (givings own : List Given) → topology ≡ t → givings ≡ own → label_lines topology node givings ≡ label_lines t node own
+lines_of : (topology t : Network) (node : ℕ) (givings own : List Given) → topology ≡ t → givings ≡ own →
+    label_lines topology node givings ≡ label_lines t node own
 lines_of topology t node givings own same told = ap (label_lines topology node) told ∙ ap (λ u. label_lines u node own) same
 
 pub loop-number-init : goal.loop-number-init
@@ -49,7 +50,8 @@ returns-in_err-put_labels_of-clause-puts g c =
     (nodes_more f (c.loop-number.number + 1) (length c.args.net.now.topology.loopbacks) (omega (arith, many, below)))))
 
 pub returns-in_err-put_labels_of-clause-stays : goal.returns-in_err-put_labels_of-clause-stays
-returns-in_err-put_labels_of-clause-stays g c = stays_out c.from_residual.ensures (stays_then c.loop-number.invariant.stays c.in_err-put_labels_of.ensures.stays)
+returns-in_err-put_labels_of-clause-stays g c =
+    stays_out c.from_residual.ensures (stays_then c.loop-number.invariant.stays c.in_err-put_labels_of.ensures.stays)
 
 pub returns-clause-puts : goal.returns-clause-puts
 returns-clause-puts g c =

@@ -109,14 +109,16 @@ returns-clause-went g c = λ all told.
     (l.invariant.at all told)
 
 pub perform_line-requires-clause-files : goal.perform_line-requires-clause-files
-perform_line-requires-clause-files g c = still_for _ _ _ _ c.loop-line.invariant.names c.loop-line.invariant.places c.loop-line.invariant.topology c.requires.files
+perform_line-requires-clause-files g c =
+    still_for _ _ _ _ c.loop-line.invariant.names c.loop-line.invariant.places c.loop-line.invariant.topology c.requires.files
 
 pub returns-in_err-perform_line-clause-cause : goal.returns-in_err-perform_line-clause-cause
 returns-in_err-perform_line-clause-cause g c =
     let l = c.loop-line in
     let untold : Type 0 = told_packets (g.S.Shelf.files c.args.shelf.now) c.args.books.now.names c.args.capture.now ≡ None in
     let now : Type 0 = told_packets (g.S.Shelf.files l.shelf) l.books.names c.args.capture.now ≡ None in
-    let still : now → untold = λ none. sym (ap (λ n. told_packets (g.S.Shelf.files l.shelf) n c.args.capture.now) l.invariant.names ∙ l.invariant.told) ∙ none in
+    let still : now → untold = λ none. sym (ap (λ n. told_packets (g.S.Shelf.files l.shelf) n c.args.capture.now) l.invariant.names ∙ l.invariant.told)
+    ∙ none in
     rw (err_is c.from_residual.result c.in_err-perform_line.field-0.0 c.from_residual.ensures.1)
     (blamed_after {T = Unit {0}} untold untold
     (g.S.Shelf.read_faults c.args.shelf.now, g.S.Shelf.write_faults c.args.shelf.now, g.O.Sink.faults c.args.out.now)

@@ -15,7 +15,8 @@ returns-in_ok-note-in-Ok-clause-went g c = λ all told begun run running keeps.
 pub returns-in_err-note-in-Ok-clause-went : goal.returns-in_err-note-in-Ok-clause-went
 returns-in_err-note-in-Ok-clause-went g c = λ all told begun run running keeps.
     rw (err_is c.from_residual.result c.in_err-note-in-Ok.field-0.0 c.from_residual.ensures.1)
-    (line_cut _ _ _ _ c.args.line.now _ c.record_line.new.net _ c.record_line.new.books _ c.args.desk.now _ _ _ _ running keeps c.in_err-note-in-Ok.field-0.0 c.in-Ok.played
+    (line_cut _ _ _ _ c.args.line.now _ c.record_line.new.net _ c.record_line.new.books _ c.args.desk.now _ _ _ _ running keeps c.in_err-note-in-Ok.field-0.0
+    c.in-Ok.played
     c.requires.shows
     (c.in-Ok.ensures.course all told) c.record_line.ensures.topology (c.in-Ok.ensures.after all told)
     (rw c.record_line.ensures.topology at (rw c.topology.ensures at c.in_err-note-in-Ok.ensures.part)))

@@ -13,6 +13,7 @@ returns-clause-after g c = λ all told.
     let shelf : g.S.Shelf.files c.shelf-1.given.0 ≡ g.S.Shelf.files c.record_with.new.recorder.shelf.now = search rules in
     let output : c.output-1.given.0 ≡ c.record_with.new.recorder.output.now = search rules in
     rw (shelf, output)
-    (recorded_after c.record_with.new.net c.record_with.new.recorder.output.now c.record_with.new.recorder.capture.now (g.S.Shelf.files c.record_with.new.recorder.shelf.now)
+    (recorded_after c.record_with.new.net c.record_with.new.recorder.output.now c.record_with.new.recorder.capture.now
+    (g.S.Shelf.files c.record_with.new.recorder.shelf.now)
     (told_packets (g.S.Shelf.files c.args.shelf.now) c.args.output.now.names c.args.capture.now) c.record_with.result
     (goes_on_packets _ _ _ _ _ _ c.record_with.ensures.goes_on) c.record_with.ensures.after all told)

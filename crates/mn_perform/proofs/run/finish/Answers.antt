@@ -8,14 +8,18 @@ use Rattle.std.proofs.Common.{sym, ◌∙◌}
 use Rattle.mn_perform.proofs.run.finish.Goals as goal
 
 pub returns-in_err-close-clause-put_part : goal.returns-in_err-close-clause-put_part
-returns-in_err-close-clause-put_part g c = err c.from_residual.result _ (λ all before notes stands on. part_of_more before notes _ _ (part_of before notes _ _ on))
+returns-in_err-close-clause-put_part g c =
+    err c.from_residual.result _ (λ all before notes stands on. part_of_more before notes _ _ (part_of before notes _ _ on))
 
 pub returns-in_err-end-clause-part : goal.returns-in_err-end-clause-part
-returns-in_err-end-clause-part g c = err c.from_residual-in_err-end.result _ (λ base all framed stands. whole_part _ base _ (c.in_ok-close.ensures.whole base all framed stands.stands stands.holds))
+returns-in_err-end-clause-part g c =
+    err c.from_residual-in_err-end.result _
+    (λ base all framed stands. whole_part _ base _ (c.in_ok-close.ensures.whole base all framed stands.stands stands.holds))
 
 pub returns-in_err-end-clause-put_part : goal.returns-in_err-end-clause-put_part
 returns-in_err-end-clause-put_part g c =
-    err c.from_residual-in_err-end.result _ (λ all before notes stands on. c.in_err-end.ensures.part (inputs_of all c.args.net.now.journal) before notes stands.stands on)
+    err c.from_residual-in_err-end.result _
+    (λ all before notes stands on. c.in_err-end.ensures.part (inputs_of all c.args.net.now.journal) before notes stands.stands on)
 
 pub returns-in_err-close-clause-unread : goal.returns-in_err-close-clause-unread
 returns-in_err-close-clause-unread g c = λ e.

@@ -63,7 +63,8 @@ returns-clause-ended g c = λ m is bytes there.
     c.in_ok-books.ensures.names framed in
     played_ends c.args.folder.now c.args.topology c.args.lines.now c.args.capture.now m bytes c.in_ok-books.books.names _ there c.requires.apart
     c.in_ok-books.ensures.names framed c.perform_script.result
-    (subst (λ t. RunEnds t (packets_in c.args.capture.now bytes) c.args.lines.now c.perform_script.result) c.in-Ok-new.ensures.topology (c.perform_script.ensures.ended _ told_so))
+    (subst (λ t. RunEnds t (packets_in c.args.capture.now bytes) c.args.lines.now c.perform_script.result) c.in-Ok-new.ensures.topology
+    (c.perform_script.ensures.ended _ told_so))
 
 pub returns-clause-files : goal.returns-clause-files
 returns-clause-files g c = λ m is bytes there.
@@ -74,7 +75,8 @@ returns-clause-files g c = λ m is bytes there.
     played_files c.args.folder.now c.args.topology c.args.lines.now c.args.capture.now m bytes c.in_ok-books.books.names _ there c.requires.apart
     c.in_ok-books.ensures.names framed
     (g.S.Shelf.files c.perform_script.new.shelf) c.perform_script.result
-    (subst (λ t. RunFiles t (packets_in c.args.capture.now bytes) c.args.lines.now c.in_ok-books.books.names m (g.S.Shelf.files c.perform_script.new.shelf) c.perform_script.result)
+    (subst (λ t. RunFiles t (packets_in c.args.capture.now bytes) c.args.lines.now c.in_ok-books.books.names m (g.S.Shelf.files c.perform_script.new.shelf)
+    c.perform_script.result)
     c.in-Ok-new.ensures.topology
     (c.perform_script.ensures.files _ told_so m framed))
 

@@ -41,7 +41,8 @@ returns-clause-begun g c = λ all told base framed. no_read _ base _ c.finish.re
 pub returns-in_err-how-clause-begun : goal.returns-in_err-how-clause-begun
 returns-in_err-how-clause-begun g c = λ all told base framed.
     rw (err_is c.from_residual.result c.in_err-how.field-0.0 c.from_residual.ensures.1)
-    (broken_begun _ _ _ c.args.lines.now _ c.args.books.now.names base _ _ c.in_err-how.field-0.0 c.perform_lines.ensures.names (c.in_err-how.ensures.went all told)
+    (broken_begun _ _ _ c.args.lines.now _ c.args.books.now.names base _ _ c.in_err-how.field-0.0 c.perform_lines.ensures.names
+    (c.in_err-how.ensures.went all told)
     (framed_both _ _ _ _ framed c.perform_lines.ensures.framed))
 
 pub returns-clause-untold : goal.returns-clause-untold

@@ -13,7 +13,8 @@ place_of-requires c =
 
 pub loop-route-preserved : goal.loop-route-preserved
 loop-route-preserved c = record {
-  routes = one_placed c.args.routes.now c.loop-route.found.items _ c.loop-route.route-index c.route-item.result c.place_of.result c.loop-route-test.true c.route-item.is
+  routes = one_placed c.args.routes.now c.loop-route.found.items _ c.loop-route.route-index c.route-item.result c.place_of.result c.loop-route-test.true
+      c.route-item.is
       c.loop-route.invariant.routes c.in_ok-push.ensures.items;
   placed = subst (All (IsPlaced (numbers_of c.args.edges.now))) (sym c.in_ok-push.ensures.items)
       (All-push (IsPlaced (numbers_of c.args.edges.now)) c.loop-route.found.items (record { route = c.route-item.result; place = c.place_of.result })

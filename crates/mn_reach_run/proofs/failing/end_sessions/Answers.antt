@@ -21,4 +21,5 @@ loop-part-preserved c = record {
 pub returns-clause-ended : goal.returns-clause-ended
 returns-clause-ended c = λ one other.
     c.loop-part.invariant.ended one other
-    ∙ ap (λ ps. list_any (is_between one other) c.args.reach.now.ended || is_bgp_off ps one other) (take_all c.loop-part.part-index c.args.parts.now (omega arith))
+    ∙ ap (λ ps. list_any (is_between one other) c.args.reach.now.ended || is_bgp_off ps one other)
+    (take_all c.loop-part.part-index c.args.parts.now (omega arith))

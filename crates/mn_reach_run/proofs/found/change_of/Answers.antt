@@ -4,14 +4,16 @@ use Rattle.mn_reach_run.proofs.found.change_of.Goals as goal
 
 pub returns-then-is_spared-clause-change : goal.returns-then-is_spared-clause-change
 returns-then-is_spared-clause-change c = λ parts known.
-    spared_nothing c.args.topology.now c.args.settings parts c.args.found.now known (c.alike_failures_have_the_same_fates.ensures c.args.topology.now) c.args.pair
+    spared_nothing c.args.topology.now c.args.settings parts c.args.found.now known (c.alike_failures_have_the_same_fates.ensures c.args.topology.now)
+    c.args.pair
     c.requires.pair (c.is_spared.ensures.stays c.if-is_spared.true c.args.settings.ttl)
 
 pub returns-then-is_spared-clause-line : goal.returns-then-is_spared-clause-line
 returns-then-is_spared-clause-line c = λ parts known number.
     spared_line c.args.topology.now c.args.settings parts c.args.found.now known (c.alike_failures_have_the_same_fates.ensures c.args.topology.now) c.args.pair
     c.requires.pair
-    (spared_nothing c.args.topology.now c.args.settings parts c.args.found.now known (c.alike_failures_have_the_same_fates.ensures c.args.topology.now) c.args.pair
+    (spared_nothing c.args.topology.now c.args.settings parts c.args.found.now known (c.alike_failures_have_the_same_fates.ensures c.args.topology.now)
+    c.args.pair
     c.requires.pair (c.is_spared.ensures.stays c.if-is_spared.true c.args.settings.ttl)) number (fate_as c.args.verdict.now)
 
 pub returns-clause-change : goal.returns-clause-change

@@ -32,7 +32,8 @@ loop-pair-preserved c =
     record {
       reach = c.loop-pair.invariant.reach;
       whole = whole_more c.args.topology.now c.args.settings c.loop-pair.pair c.loop-pair.found.whole.items c.push.new.self.items c.in_ok-verdict.verdict
-          (pair_at c.args.found.now.reach.plan c.loop-pair.pair) below (sym (pair_is c.args.topology.now c.args.found.now.reach c.requires.ready c.loop-pair.pair))
+          (pair_at c.args.found.now.reach.plan c.loop-pair.pair) below
+          (sym (pair_is c.args.topology.now c.args.found.now.reach c.requires.ready c.loop-pair.pair))
           c.loop-pair.invariant.whole c.in_ok-push.ensures.items
           (c.in_ok-verdict.ensures
           ∙ ap (λ (r : Reaching). fate_of c.args.topology.now c.args.settings [] (pair_at r.plan c.loop-pair.pair)) c.loop-pair.invariant.reach);

@@ -6,7 +6,8 @@ use Rattle.mn_reach_run.proofs.Lasting.{first_at, line_done, line_cut, lines_don
 use Rattle.mn_reach_run.proofs.play.play.Goals as goal
 
 pub loop-line-init : goal.loop-line-init
-loop-line-init g c = first_at c.args.topology.now c.args.lines.now c.args.player.now.found c.args.player.now.sums _ _ c.requires.ready c.requires.whole c.requires.start c.first-manner.ensures
+loop-line-init g c = first_at c.args.topology.now c.args.lines.now c.args.player.now.found c.args.player.now.sums _ _ c.requires.ready c.requires.whole
+    c.requires.start c.first-manner.ensures
 
 pub loop-line-preserved : goal.loop-line-preserved
 loop-line-preserved g c =
@@ -24,5 +25,6 @@ returns-in_err-play_line g c =
 
 pub returns : goal.returns
 returns g c =
-    lines_done c.args.topology.now c.args.lines.now c.loop-line.line-index c.loop-line.manner c.loop-line.player.found _ _ _ c.tell_if_new.result c.loop-line.invariant
+    lines_done c.args.topology.now c.args.lines.now c.loop-line.line-index c.loop-line.manner c.loop-line.player.found _ _ _ c.tell_if_new.result
+    c.loop-line.invariant
     (omega arith) c.tell_if_new.ensures.told

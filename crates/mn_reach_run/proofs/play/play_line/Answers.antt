@@ -8,7 +8,8 @@ returns-then-is_setting-clause-told g c = setting_played c.args.topology.now c.a
 
 pub returns-then-is_setting-clause-lasts : goal.returns-then-is_setting-clause-lasts
 returns-then-is_setting-clause-lasts g c =
-    lasts_behind_setting c.args.topology.now c.args.manner c.args.line.now c.args.player.now.found c.requires.fits (sym c.is_setting.ensures ∙ c.if-is_setting.true)
+    lasts_behind_setting c.args.topology.now c.args.manner c.args.line.now c.args.player.now.found c.requires.fits (sym c.is_setting.ensures
+    ∙ c.if-is_setting.true)
     c.requires.lasts
 
 pub returns-in_err-tell_if_new-clause-told : goal.returns-in_err-tell_if_new-clause-told

@@ -27,10 +27,12 @@ returns-in-Ok-Ok-clause-answers g c = λ files is.
     let read = subst (LinesAre (failure_says t) (file files c.args.failures.now)) c.in-Ok-Ok.field-0-is (c.in-Ok-Ok.ensures.answer files is) in
     subst (λ a. Answers a files (g.S.Shelf.files c.load_failures.new.shelf) (g.O.Sink.written c.args.out.now) (g.O.Sink.written c.reach_lines.new.out)
     c.reach_lines.result) (sym (read.1 (λ lines. Some (reach_done t lines))))
-    (sink_answers (Some (reach_done t c.in-Ok-Ok.lines.items)) files _ _ _ (g.O.Sink.faults c.args.out.now) (g.O.Sink.faults c.reach_lines.new.out) c.reach_lines.result
+    (sink_answers (Some (reach_done t c.in-Ok-Ok.lines.items)) files _ _ _ (g.O.Sink.faults c.args.out.now) (g.O.Sink.faults c.reach_lines.new.out)
+    c.reach_lines.result
     (writes_none t c.in-Ok-Ok.lines.items) (c.load_failures.ensures.same ∙ is)
     (subst (λ lines. OutcomeIs (Some (reach_done t lines)) c.reach_lines.result) c.as_slice.ensures.value c.reach_lines.ensures.outcome)
-    (λ before begun. subst (λ lines. TextIs (Some (reach_done t lines)) before (g.O.Sink.written c.reach_lines.new.out) c.reach_lines.result) c.as_slice.ensures.value
+    (λ before begun. subst (λ lines. TextIs (Some (reach_done t lines)) before (g.O.Sink.written c.reach_lines.new.out) c.reach_lines.result)
+    c.as_slice.ensures.value
     (c.reach_lines.ensures.text before begun)) c.reach_lines.ensures.cause)
 
 pub returns-in-Err-Failed-clause-answers : goal.returns-in-Err-Failed-clause-answers
@@ -50,5 +52,6 @@ returns-in-Ok-Err-clause-cause g c = sink_caused _ _ _ c.refuse.result c.in-Ok-E
 pub returns-in-Err-Failed-clause-cause : goal.returns-in-Err-Failed-clause-cause
 returns-in-Err-Failed-clause-cause g c =
     caused_read _ _ _ _ c.load_failures.ensures.writes refl
-    (λ absent files is. ap (λ input. with_lines_of (failure_says c.args.topology.now) input (λ lines. Some (reach_done c.args.topology.now lines))) (absent files is))
+    (λ absent files is. ap (λ input. with_lines_of (failure_says c.args.topology.now) input (λ lines. Some (reach_done c.args.topology.now lines)))
+    (absent files is))
     (rw c.in-Err-Failed.field-0-is at c.in-Err-Failed.ensures.reads)

@@ -8,7 +8,8 @@ use Rattle.mn_reach_run.proofs.run.reach_whole.Goals as goal
 
 pub returns-clause-answers : goal.returns-clause-answers
 returns-clause-answers g c = λ files is.
-    sink_answers (Some (reach_done c.args.topology.now [])) files _ _ _ (g.O.Sink.faults c.args.out.now) (g.O.Sink.faults c.reach_lines.new.out) c.reach_lines.result
+    sink_answers (Some (reach_done c.args.topology.now [])) files _ _ _ (g.O.Sink.faults c.args.out.now) (g.O.Sink.faults c.reach_lines.new.out)
+    c.reach_lines.result
     (writes_none c.args.topology.now []) is c.reach_lines.ensures.outcome c.reach_lines.ensures.text c.reach_lines.ensures.cause
 
 pub returns-clause-told : goal.returns-clause-told

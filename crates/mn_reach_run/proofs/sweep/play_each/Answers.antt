@@ -8,7 +8,8 @@ use Rattle.mn_reach_run.proofs.sweep.play_each.Goals as goal
 
 pub returns-in-Link-clause-told : goal.returns-in-Link-clause-told
 returns-in-Link-clause-told g c =
-    sweeps_as c.args.at.topology.now c.args.at.settings c.args.at.line (flat_map (alone kind.Link) (range_with_len 0 (count_of c.args.at.topology.now kind.Link)))
+    sweeps_as c.args.at.topology.now c.args.at.settings c.args.at.line
+    (flat_map (alone kind.Link) (range_with_len 0 (count_of c.args.at.topology.now kind.Link)))
     (each_of c.args.at.topology.now c.args.each) _ _ c.play_kind.result
     (mapped (λ l. part_of kind.Link l ∷ []) (links c.args.at.topology.now) ∙ sym (ap (each_of c.args.at.topology.now) c.in-Link.is)) c.play_kind.ensures.told
 
@@ -16,13 +17,16 @@ pub returns-in-Ldp-clause-told : goal.returns-in-Ldp-clause-told
 returns-in-Ldp-clause-told g c =
     sweeps_as c.args.at.topology.now c.args.at.settings c.args.at.line (flat_map (alone kind.Ldp) (range_with_len 0 (count_of c.args.at.topology.now kind.Ldp)))
     (each_of c.args.at.topology.now c.args.each) _ _ c.play_kind-in-Ldp.result
-    (mapped (λ l. part_of kind.Ldp l ∷ []) (links c.args.at.topology.now) ∙ sym (ap (each_of c.args.at.topology.now) c.in-Ldp.is)) c.play_kind-in-Ldp.ensures.told
+    (mapped (λ l. part_of kind.Ldp l ∷ []) (links c.args.at.topology.now)
+    ∙ sym (ap (each_of c.args.at.topology.now) c.in-Ldp.is)) c.play_kind-in-Ldp.ensures.told
 
 pub returns-in-Node-clause-told : goal.returns-in-Node-clause-told
 returns-in-Node-clause-told g c =
-    sweeps_as c.args.at.topology.now c.args.at.settings c.args.at.line (flat_map (alone kind.Node) (range_with_len 0 (count_of c.args.at.topology.now kind.Node)))
+    sweeps_as c.args.at.topology.now c.args.at.settings c.args.at.line
+    (flat_map (alone kind.Node) (range_with_len 0 (count_of c.args.at.topology.now kind.Node)))
     (each_of c.args.at.topology.now c.args.each) _ _ c.play_kind-in-Node.result
-    (mapped (λ l. part_of kind.Node l ∷ []) (nodes c.args.at.topology.now) ∙ sym (ap (each_of c.args.at.topology.now) c.in-Node.is)) c.play_kind-in-Node.ensures.told
+    (mapped (λ l. part_of kind.Node l ∷ []) (nodes c.args.at.topology.now)
+    ∙ sym (ap (each_of c.args.at.topology.now) c.in-Node.is)) c.play_kind-in-Node.ensures.told
 
 pub returns-in-Bgp-clause-told : goal.returns-in-Bgp-clause-told
 returns-in-Bgp-clause-told g c =

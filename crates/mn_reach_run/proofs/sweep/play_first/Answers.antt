@@ -9,14 +9,16 @@ pub returns-then-is_outside-clause-told : goal.returns-then-is_outside-clause-to
 returns-then-is_outside-clause-told g c =
     sweeps_as c.args.at.topology.now c.args.at.settings c.args.at.line []
     (first_with c.args.at.topology.now c.args.asked.many c.args.asked.from c.args.asked.to c.args.first) _ _ (Ok tt)
-    (sym (ap (λ b. if b then [] else if c.args.asked.many == 2 then two_with c.args.at.topology.now c.args.first else three_with c.args.at.topology.now c.args.first)
+    (sym (ap (λ b. if b then [] else if c.args.asked.many == 2 then two_with c.args.at.topology.now c.args.first else three_with c.args.at.topology.now
+    c.args.first)
     (sym c.is_outside.ensures ∙ c.if-is_outside.true))) (sweeps_none c.args.at.topology.now c.args.at.settings c.args.at.line _)
 
 pub returns-then-asked-eq2-clause-told : goal.returns-then-asked-eq2-clause-told
 returns-then-asked-eq2-clause-told g c =
     sweeps_as c.args.at.topology.now c.args.at.settings c.args.at.line (two_with c.args.at.topology.now c.args.first)
     (first_with c.args.at.topology.now c.args.asked.many c.args.asked.from c.args.asked.to c.args.first) _ _ c.play_two.result
-    (sym (ap (λ b. if b then [] else if c.args.asked.many == 2 then two_with c.args.at.topology.now c.args.first else three_with c.args.at.topology.now c.args.first)
+    (sym (ap (λ b. if b then [] else if c.args.asked.many == 2 then two_with c.args.at.topology.now c.args.first else three_with c.args.at.topology.now
+    c.args.first)
     (sym c.is_outside.ensures ∙ c.if-is_outside.false)
     ∙ ap (λ b. if b then two_with c.args.at.topology.now c.args.first else three_with c.args.at.topology.now c.args.first)
     (test_same c.args.asked.many 2 c.if-asked-eq2.true))) c.play_two.ensures.told
@@ -25,7 +27,8 @@ pub returns-else-asked-eq2-clause-told : goal.returns-else-asked-eq2-clause-told
 returns-else-asked-eq2-clause-told g c =
     sweeps_as c.args.at.topology.now c.args.at.settings c.args.at.line (three_with c.args.at.topology.now c.args.first)
     (first_with c.args.at.topology.now c.args.asked.many c.args.asked.from c.args.asked.to c.args.first) _ _ c.play_three.result
-    (sym (ap (λ b. if b then [] else if c.args.asked.many == 2 then two_with c.args.at.topology.now c.args.first else three_with c.args.at.topology.now c.args.first)
+    (sym (ap (λ b. if b then [] else if c.args.asked.many == 2 then two_with c.args.at.topology.now c.args.first else three_with c.args.at.topology.now
+    c.args.first)
     (sym c.is_outside.ensures ∙ c.if-is_outside.false)
     ∙ ap (λ b. if b then two_with c.args.at.topology.now c.args.first else three_with c.args.at.topology.now c.args.first)
     (other_test c.args.asked.many 2 c.if-asked-eq2.false))) c.play_three.ensures.told

@@ -9,7 +9,8 @@ use Rattle.mn_reach_run.proofs.sweep.play_two.Goals as goal
 
 pub play_seconds-requires-clause-known : goal.play_seconds-requires-clause-known
 play_seconds-requires-clause-known g c =
-    known_so c.args.at.topology.now c.args.at.settings [] (link_down c.args.first ∷ []) c.args.player.now.found _ c.requires.known c.in_ok-fail.ensures.plan refl
+    known_so c.args.at.topology.now c.args.at.settings [] (link_down c.args.first ∷ []) c.args.player.now.found _ c.requires.known c.in_ok-fail.ensures.plan
+    refl
     (subst (λ part. HaveFailed c.args.at.topology.now c.args.at.settings.ends (part ∷ []) c.fail.new.reach) c.link_down.ensures
     (failed_too c.args.at.topology.now c.args.at.settings.ends [] (c.link_down.result ∷ []) c.args.player.now.found.reach c.fail.new.reach
     c.requires.known.failed c.in_ok-fail.ensures.failed))
@@ -26,8 +27,10 @@ returns-in_err-play_seconds-clause-told g c =
 
 pub returns-in_err-mend-clause-told : goal.returns-in_err-mend-clause-told
 returns-in_err-mend-clause-told g c =
-    sweeps_err c.args.at.topology.now c.args.at.settings c.args.at.line (two_with c.args.at.topology.now c.args.first) _ _ NoMemory _ c.from_residual-in_err-mend.ensures
-    (sweeps_want_behind c.args.at.topology.now c.args.at.settings c.args.at.line (two_with c.args.at.topology.now c.args.first) _ _ c.in_ok-play_seconds.ensures.told)
+    sweeps_err c.args.at.topology.now c.args.at.settings c.args.at.line (two_with c.args.at.topology.now c.args.first) _ _ NoMemory _
+    c.from_residual-in_err-mend.ensures
+    (sweeps_want_behind c.args.at.topology.now c.args.at.settings c.args.at.line (two_with c.args.at.topology.now c.args.first) _ _
+    c.in_ok-play_seconds.ensures.told)
 
 pub returns-clause-known : goal.returns-clause-known
 returns-clause-known g c =

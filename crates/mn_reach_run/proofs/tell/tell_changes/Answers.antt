@@ -74,11 +74,13 @@ returns-clause-told g c = λ parts known count is.
     let past : length (pairs_of t) ≤ c.loop-pair.pair =
     subst (λ (ps : List Pair). length ps ≤ c.loop-pair.pair) (c.pairs-pair-end.ensures ∙ c.requires.ready.pairs) c.loop-pair-test.false in
     tells_ok _ _ _ c.loop-pair.changes
-    (told_by _ _ _ (tells_all (told_change t c.args.settings count parts) (pairs_of t) c.loop-pair.pair _ _ past (c.loop-pair.invariant.told parts known count is)))
+    (told_by _ _ _ (tells_all (told_change t c.args.settings count parts) (pairs_of t) c.loop-pair.pair _ _ past
+    (c.loop-pair.invariant.told parts known count is)))
 
 pub returns-clause-counted : goal.returns-clause-counted
 returns-clause-counted g c = λ parts known.
     let t = c.args.topology.now in
     let past : length (pairs_of t) ≤ c.loop-pair.pair =
     subst (λ (ps : List Pair). length ps ≤ c.loop-pair.pair) (c.pairs-pair-end.ensures ∙ c.requires.ready.pairs) c.loop-pair-test.false in
-    subst (λ ps. AreCounted t c.args.settings parts ps c.loop-pair.changes) (take_all c.loop-pair.pair (pairs_of t) past) (c.loop-pair.invariant.counted parts known)
+    subst (λ ps. AreCounted t c.args.settings parts ps c.loop-pair.changes) (take_all c.loop-pair.pair (pairs_of t) past)
+    (c.loop-pair.invariant.counted parts known)

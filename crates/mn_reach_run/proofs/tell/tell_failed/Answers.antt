@@ -66,5 +66,6 @@ returns-clause-told g c = λ count is.
     let t = c.args.topology.now in
     tells_like _ _ _ _ c.tell_changes-2.result
     (tells_behind (head_text t count c.args.failing.line c.args.failing.parts.now None) (told_changes t c.args.settings count c.args.failing.parts.now) _ _ _
-    c.tell_changes-2.result (told_by _ _ _ (c.in_ok-tell_head-2.ensures count is)) (c.tell_changes-2.ensures.told c.args.failing.parts.now c.requires.known count is))
+    c.tell_changes-2.result (told_by _ _ _ (c.in_ok-tell_head-2.ensures count is))
+    (c.tell_changes-2.ensures.told c.args.failing.parts.now c.requires.known count is))
     (by_losses t c.args.settings count c.args.failing.line c.args.failing.parts.now c.if-settings.false)

@@ -12,11 +12,13 @@ returns-in_err-fail-clause-told g c = λ count is. tells_out _ _ _ NoMemory _ c.
 
 pub returns-in_err-mend-clause-told : goal.returns-in_err-mend-clause-told
 returns-in_err-mend-clause-told g c = λ count is.
-    tells_out _ _ _ NoMemory _ c.from_residual-in_err-mend.ensures (want_behind _ _ _ (told_of _ _ _ c.in_ok-changes.changes (c.in_ok-changes.ensures.told count is)))
+    tells_out _ _ _ NoMemory _ c.from_residual-in_err-mend.ensures
+    (want_behind _ _ _ (told_of _ _ _ c.in_ok-changes.changes (c.in_ok-changes.ensures.told count is)))
 
 pub tell_failed-requires-clause-known : goal.tell_failed-requires-clause-known
 tell_failed-requires-clause-known g c =
-    known_so c.args.topology.now c.args.settings c.args.failing.front.now c.args.failing.parts.now c.args.found.now _ c.requires.known c.in_ok-fail.ensures.plan refl
+    known_so c.args.topology.now c.args.settings c.args.failing.front.now c.args.failing.parts.now c.args.found.now _ c.requires.known c.in_ok-fail.ensures.plan
+    refl
     (subst (λ ps. HaveFailed c.args.topology.now c.args.settings.ends ps c.fail.new.reach) (sym c.requires.parts)
     (failed_too c.args.topology.now c.args.settings.ends c.args.failing.front.now c.args.failing.more.now c.args.found.now.reach c.fail.new.reach
     c.requires.known.failed c.in_ok-fail.ensures.failed))

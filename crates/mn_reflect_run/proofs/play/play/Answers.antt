@@ -5,7 +5,8 @@ use Rattle.mn_reflect_telling.specs.Mentions.{numbers_of}
 use Rattle.mn_reflect_run.specs.declared.command.ReflectLine.{ReflectLine}
 use Rattle.mn_reflect_run.specs.Course.{run_of}
 use Rattle.mn_reflect_run.specs.Language.{command_fits}
-use Rattle.mn_reflect_run.proofs.Plays.{none_played, want_at, line_played, played_cut, cut_at, plays_err, plays_as, cut_as, all_played, tells_in, at_most_one, this_fits, table_there, over_after}
+use Rattle.mn_reflect_run.proofs.Plays.{none_played, want_at, line_played, played_cut, cut_at, plays_err, plays_as, cut_as, all_played, tells_in, at_most_one}
+use Rattle.mn_reflect_run.proofs.Plays.{this_fits, table_there, over_after}
 use Rattle.mn_reflect_run.proofs.play.play.Goals as goal
 
 pub loop-line-init : goal.loop-line-init
@@ -36,7 +37,8 @@ put_told-requires-clause-over g c =
     let lines : List ReflectLine = c.lines-lines.result.now in
     let fit : All (λ (line : ReflectLine). command_fits t reflectors line.command ≡ true) lines =
     subst (All (λ (line : ReflectLine). command_fits t reflectors line.command ≡ true)) (sym c.lines-lines.ensures) c.requires.lawful.fit in
-    over_after t reflectors _ (run_of t reflectors (take c.loop-line.line-index lines)) _ c.in_ok-played.played c.play_line.new.reflect c.in_default.not-TooManySteps
+    over_after t reflectors _ (run_of t reflectors (take c.loop-line.line-index lines)) _ c.in_ok-played.played c.play_line.new.reflect
+    c.in_default.not-TooManySteps
     (c.in_ok-played.ensures t reflectors (run_of t reflectors (take c.loop-line.line-index lines)) c.loop-line.invariant.played.at
     (this_fits t reflectors lines c.loop-line.line-index c.line-item.result c.line-item.is c.loop-line-test.true fit))
 
@@ -47,7 +49,8 @@ put_told-requires-clause-there g c =
     let lines : List ReflectLine = c.lines-lines.result.now in
     let fit : All (λ (line : ReflectLine). command_fits t reflectors line.command ≡ true) lines =
     subst (All (λ (line : ReflectLine). command_fits t reflectors line.command ≡ true)) (sym c.lines-lines.ensures) c.requires.lawful.fit in
-    table_there t reflectors c.line-item.result.command (this_fits t reflectors lines c.loop-line.line-index c.line-item.result c.line-item.is c.loop-line-test.true fit)
+    table_there t reflectors c.line-item.result.command
+    (this_fits t reflectors lines c.loop-line.line-index c.line-item.result c.line-item.is c.loop-line-test.true fit)
 
 pub loop-line-preserved : goal.loop-line-preserved
 loop-line-preserved g c =
@@ -62,7 +65,12 @@ loop-line-preserved g c =
     c.in_ok-played.ensures t reflectors (run_of t reflectors (take c.loop-line.line-index lines)) past.at
     (this_fits t reflectors lines c.loop-line.line-index c.line-item.result c.line-item.is below fit) in
     record {
-      few = let few = c.loop-line.invariant.few in let one = at_most_one c.in_ok-played.played in let count = c.in_ok-refused.ensures.counted in omega (arith, few, one, count);
+      few = let few = c.loop-line.invariant.few in let one = at_most_one c.in_ok-played.played in let count = c.in_ok-refused.ensures.counted in omega (
+        arith,
+        few,
+        one,
+        count,
+      );
       played = line_played t reflectors lines c.loop-line.line-index _ _ c.loop-line.refused c.loop-line.reflect past c.line-item.result below
           c.line-item.is c.in_ok-played.played c.play_line.new.reflect follows _ c.in_ok-refused.field-0
           c.in_default.not-TooManySteps

@@ -9,7 +9,8 @@ returns-in-Do c =
     (subst (λ done. IfOk c.do_step.result (DoesStep done c.args.reflect.now c.do_step.new.reflect)) c.in-Do.step-is c.do_step.ensures)
 
 pub returns-in-Drain : goal.returns-in-Drain
-returns-in-Drain c = line_drains c.drain.result c.args.line c.args.reflect.now c.drain.new.reflect c.in-Drain.most _ c.in-Drain.is c.most_of.ensures c.drain.ensures
+returns-in-Drain c = line_drains c.drain.result c.args.line c.args.reflect.now c.drain.new.reflect c.in-Drain.most _ c.in-Drain.is c.most_of.ensures
+    c.drain.ensures
 
 pub returns-in-Show : goal.returns-in-Show
 returns-in-Show c = line_shows c.args.line c.args.reflect.now _ c.in-Show.is

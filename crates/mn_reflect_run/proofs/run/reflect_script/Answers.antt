@@ -34,5 +34,6 @@ returns-in-Ok-Err-clause-cause g c = sink_caused _ _ _ c.refuse.result c.in-Ok-E
 pub returns-in-Err-Failed-clause-cause : goal.returns-in-Err-Failed-clause-cause
 returns-in-Err-Failed-clause-cause g c =
     caused_read _ _ _ _ c.load_script.ensures.writes refl
-    (λ absent files is. ap (λ input. with_script_of (script_of c.args.topology.now) input (λ read. Some (reflect_done c.args.topology.now read))) (absent files is))
+    (λ absent files is. ap (λ input. with_script_of (script_of c.args.topology.now) input (λ read. Some (reflect_done c.args.topology.now read)))
+    (absent files is))
     (rw c.in-Err-Failed.field-0-is at c.in-Err-Failed.ensures.reads)

@@ -16,7 +16,8 @@ overflow_add-count c =
 
 pub loop-site-preserved : goal.loop-site-preserved
 loop-site-preserved c =
-    counted_on c.args.topology.now _ c.loop-site.site-index c.loop-site.count c.site-item.result _ c.sites-site-items.ensures c.loop-site-test.true c.site-item.is
+    counted_on c.args.topology.now _ c.loop-site.site-index c.loop-site.count c.site-item.result _ c.sites-site-items.ensures c.loop-site-test.true
+    c.site-item.is
     c.as_slice.ensures c.loop-site.invariant
 
 pub returns : goal.returns

@@ -19,7 +19,8 @@ returns-then-ne c =
       | then-label w ↦ by_label same_rt (λ a b. refl) c.args.old.now c.args.new.now
           (λ same. w.if-label.true (c.label.ensures ∙ same ∙ sym c.label-2.ensures))
       | else-label w ↦ by_targets same_rt (λ a b. refl) c.args.old.now c.args.new.now
-          (sym (w.ne.ensures ∙ ap (λ ts. differ ts w.targets-else-label.result.now) w.targets.ensures ∙ ap (differ c.args.old.now.targets) w.targets-else-label.ensures)
+          (sym (w.ne.ensures ∙ ap (λ ts. differ ts w.targets-else-label.result.now) w.targets.ensures
+          ∙ ap (differ c.args.old.now.targets) w.targets-else-label.ensures)
           ∙ sym w.value-is ∙ c.if-ne.true)
     ]
 
@@ -30,6 +31,7 @@ returns-else-ne c =
     ∙ elim c.if-label.branch [
       | then-label w ↦ absurd (no (sym c.if-ne.false ∙ w.value-is ∙ unlike c.label.result c.label-2.result w.if-label.true))
       | else-label w ↦ by_clusters same_rt (λ a b. refl) c.args.old.now c.args.new.now (sym c.label.ensures ∙ w.if-label.false ∙ c.label-2.ensures)
-          (sym (w.ne.ensures ∙ ap (λ ts. differ ts w.targets-else-label.result.now) w.targets.ensures ∙ ap (differ c.args.old.now.targets) w.targets-else-label.ensures)
+          (sym (w.ne.ensures ∙ ap (λ ts. differ ts w.targets-else-label.result.now) w.targets.ensures
+          ∙ ap (differ c.args.old.now.targets) w.targets-else-label.ensures)
           ∙ sym w.value-is ∙ c.if-ne.false)
     ]

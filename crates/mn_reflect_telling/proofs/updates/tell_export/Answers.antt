@@ -12,7 +12,8 @@ loop-peer-preserved c =
     record {
       told = sent_at (λ (peer : NodeNo). export_letter c.args.topology.now c.args.edge.0 peer.0 c.args.comes c.args.export.now) c.args.peers.now at.peer-index
           (record { 0 = 0 }) at.mail c.send.new.mail _ c.loop-peer-test.true
-          (c.in_ok-send.ensures.sent ∙ ap (λ bytes. posted (letter_of c.args.edge.0 (slice_index_or c.args.peers.now at.peer-index (record { 0 = 0 })).0 bytes ∷ []) at.mail)
+          (c.in_ok-send.ensures.sent ∙ ap (λ bytes. posted (letter_of c.args.edge.0 (slice_index_or c.args.peers.now at.peer-index (record { 0 = 0 })).0 bytes
+          ∷ []) at.mail)
           c.in_ok-bytes.ensures)
           at.invariant.told;
       nodes = c.in_ok-send.ensures.nodes ∙ at.invariant.nodes;
@@ -22,7 +23,8 @@ pub returns-clause-told : goal.returns-clause-told
 returns-clause-told c =
     let at = c.loop-peer in
     let end : at.peer-index ≡ length c.args.peers.now = omega arith in
-    sent_all (λ (peer : NodeNo). export_letter c.args.topology.now c.args.edge.0 peer.0 c.args.comes c.args.export.now) c.args.peers.now at.peer-index at.mail _ end
+    sent_all (λ (peer : NodeNo). export_letter c.args.topology.now c.args.edge.0 peer.0 c.args.comes c.args.export.now) c.args.peers.now at.peer-index at.mail _
+    end
     at.invariant.told
 
 pub returns-clause-nodes : goal.returns-clause-nodes

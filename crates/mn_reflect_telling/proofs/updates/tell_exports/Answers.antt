@@ -9,7 +9,8 @@ pub loop-export-preserved : goal.loop-export-preserved
 loop-export-preserved c =
     let at = c.loop-export in
     record {
-      told = told_next (λ (export : Exported). map (λ (peer : NodeNo). export_letter c.args.topology.now c.args.edge.0 peer.0 c.args.comes export) c.args.peers.now)
+      told = told_next (λ (export : Exported). map (λ (peer : NodeNo). export_letter c.args.topology.now c.args.edge.0 peer.0 c.args.comes export)
+          c.args.peers.now)
           c.args.exports.now at.export-index c.export-item.result at.mail c.tell_export.new.mail _ c.loop-export-test.true c.export-item.is
           c.in_ok-tell_export.ensures.told at.invariant.told;
       nodes = c.in_ok-tell_export.ensures.nodes ∙ at.invariant.nodes;

@@ -9,7 +9,8 @@ use Rattle.mn_routing.proofs.flying.steady_peers.Goals as goal
 pub loop-peer-preserved : goal.loop-peer-preserved
 loop-peer-preserved c =
     steady_next c.args.ends.now c.loop-peer.peer None c.loop-peer.peers.items c.put_if.new.peers.items (peers_from 0 c.args.ends.now) c.loop-peer-test.true
-    (c.in_ok-put_if.ensures ∙ ap (λ steady. c.loop-peer.peers.items ++ (if steady then record { 0 = c.loop-peer.peer } ∷ [] else [])) c.is_steady-steady.ensures)
+    (c.in_ok-put_if.ensures ∙ ap (λ steady. c.loop-peer.peers.items ++ (if steady then record { 0 = c.loop-peer.peer } ∷ [] else []))
+    c.is_steady-steady.ensures)
     c.loop-peer.invariant
 
 pub returns : goal.returns

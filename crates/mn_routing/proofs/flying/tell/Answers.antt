@@ -49,7 +49,8 @@ returns-clause-told c =
     let at = c.loop-export in
     let t = c.args.topology.now in
     sym (append-nil at.messages.items)
-    ∙ sym (ap (λ (xs : List Exported). at.messages.items ++ put_all (c.args.clock.tick + t.bgp_delay) at.number (news_to t c.args.edge.0 c.args.peers.now c.args.comes xs))
+    ∙ sym (ap (λ (xs : List Exported). at.messages.items ++ put_all (c.args.clock.tick + t.bgp_delay) at.number
+    (news_to t c.args.edge.0 c.args.peers.now c.args.comes xs))
     (none_left c.args.exports.now at.export-index c.loop-export-test.false))
     ∙ at.invariant.sent
 

@@ -38,4 +38,5 @@ returns-in-Ok-Err-clause-cause g c = sink_caused _ _ _ c.refuse.result c.in-Ok-E
 pub returns-in-Err-Failed-clause-cause : goal.returns-in-Err-Failed-clause-cause
 returns-in-Err-Failed-clause-cause g c =
     caused_read _ _ _ _ c.load_topology.ensures.writes refl
-    (λ absent m is. ap (λ input. with_topology input (λ t. Some (checked t))) (ap (file m) (sym c.word.ensures) ∙ absent m is)) (rw c.in-Err-Failed.field-0-is at c.in-Err-Failed.ensures.reads)
+    (λ absent m is. ap (λ input. with_topology input (λ t. Some (checked t))) (ap (file m) (sym c.word.ensures)
+    ∙ absent m is)) (rw c.in-Err-Failed.field-0-is at c.in-Err-Failed.ensures.reads)

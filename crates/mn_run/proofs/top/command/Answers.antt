@@ -19,7 +19,8 @@ pub returns-clause-unread : goal.returns-clause-unread
 returns-clause-unread g c = λ m is. (c.answer.ensures.ends.answers m is).is_unread
 
 pub returns-clause-complete : goal.returns-clause-complete
-returns-clause-complete g c = λ m is. completes _ _ _ _ c.answer.result (λ none. none m is) (c.answer.ensures.ends.answers m is).outcome_is c.answer.ensures.cause
+returns-clause-complete g c = λ m is. completes _ _ _ _ c.answer.result (λ none. none m is) (c.answer.ensures.ends.answers m is).outcome_is
+    c.answer.ensures.cause
 
 pub returns-clause-sound : goal.returns-clause-sound
 returns-clause-sound g c = λ m is. soundly _ _ _ _ c.answer.result (λ none. none m is) (c.answer.ensures.ends.answers m is).outcome_is c.answer.ensures.cause

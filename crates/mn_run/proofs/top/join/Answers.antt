@@ -19,9 +19,18 @@ join-requires g c =
 pub returns-clause-ends : goal.returns-clause-ends
 returns-clause-ends g c =
     join_ends (texts c.args.words.now) _ _ _ _ c.join.result
-    (λ m is. rw (sym c.word.ensures, sym c.word-2.ensures, sym c.word-3.ensures, sym c.word-4.ensures, sym c.word-5.ensures, sym c.word-6.ensures) (c.join.ensures.answers m is))
-    (λ m is text begun. rw (sym c.word.ensures, sym c.word-2.ensures, sym c.word-3.ensures, sym c.word-4.ensures, sym c.word-5.ensures, sym c.word-6.ensures) (c.join.ensures.told m is text begun))
+    (λ m is. rw (sym c.word.ensures, sym c.word-2.ensures, sym c.word-3.ensures, sym c.word-4.ensures, sym c.word-5.ensures, sym c.word-6.ensures)
+    (c.join.ensures.answers m is))
+    (λ m is text begun. rw (sym c.word.ensures, sym c.word-2.ensures, sym c.word-3.ensures, sym c.word-4.ensures, sym c.word-5.ensures, sym c.word-6.ensures)
+    (c.join.ensures.told m is text begun))
 
 pub returns-clause-cause : goal.returns-clause-cause
 returns-clause-cause g c =
-    caused_after _ _ _ _ _ c.join.result refl refl refl (λ none m is. rw (sym c.word.ensures, sym c.word-2.ensures, sym c.word-3.ensures, sym c.word-4.ensures, sym c.word-5.ensures, sym c.word-6.ensures) (none m is)) c.join.ensures.cause
+    caused_after _ _ _ _ _ c.join.result refl refl refl (λ none m is. rw (
+      sym c.word.ensures,
+      sym c.word-2.ensures,
+      sym c.word-3.ensures,
+      sym c.word-4.ensures,
+      sym c.word-5.ensures,
+      sym c.word-6.ensures,
+    ) (none m is)) c.join.ensures.cause

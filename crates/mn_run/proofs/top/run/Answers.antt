@@ -26,9 +26,12 @@ returns-in-Ok-Ok-clause-ends g c =
     (λ m is. loaded_by_words (texts c.args.words.now) _ _ _ m (Ok c.in-Ok-Ok.inputs) (sym c.word.ensures) (sym c.word-2.ensures) (sym c.word-3.ensures)
     (subst (LoadedIs c.word.result.now c.word-2.result.now c.word-3.result.now m) c.in-Ok-Ok.field-0-is (c.in-Ok-Ok.ensures.answer m is)))
     (fit.2 ∙ c.word-3.ensures) c.laws.ensures fit.0 fit.1
-    (subst (λ n. ForDone (λ answer m. Answers answer m (g.S.Shelf.files c.run_inputs.new.shelf) (g.O.Sink.written c.args.out.now) (g.O.Sink.written c.run_inputs.new.out)
-    c.run_inputs.result) n c.in-Ok-Ok.inputs.topology c.in-Ok-Ok.inputs.lines.items c.in-Ok-Ok.inputs.capture (g.S.Shelf.files c.args.shelf.now)) c.word-folder.ensures
-    (subst (ForDone (λ answer m. Answers answer m (g.S.Shelf.files c.run_inputs.new.shelf) (g.O.Sink.written c.args.out.now) (g.O.Sink.written c.run_inputs.new.out)
+    (subst (λ n. ForDone (λ answer m. Answers answer m (g.S.Shelf.files c.run_inputs.new.shelf) (g.O.Sink.written c.args.out.now)
+    (g.O.Sink.written c.run_inputs.new.out)
+    c.run_inputs.result) n c.in-Ok-Ok.inputs.topology c.in-Ok-Ok.inputs.lines.items c.in-Ok-Ok.inputs.capture (g.S.Shelf.files c.args.shelf.now))
+    c.word-folder.ensures
+    (subst (ForDone (λ answer m. Answers answer m (g.S.Shelf.files c.run_inputs.new.shelf) (g.O.Sink.written c.args.out.now)
+    (g.O.Sink.written c.run_inputs.new.out)
     c.run_inputs.result) c.word-folder.result.now c.in-Ok-Ok.inputs.topology c.in-Ok-Ok.inputs.lines.items c.in-Ok-Ok.inputs.capture) c.load.ensures.same
     c.run_inputs.ensures.answers))
 
@@ -64,4 +67,5 @@ returns-in-Ok-Err-clause-cause g c = sink_caused _ _ _ c.refuse.result c.in-Ok-E
 pub returns-in-Err-Failed-clause-cause : goal.returns-in-Err-Failed-clause-cause
 returns-in-Err-Failed-clause-cause g c =
     caused_read _ _ _ _ c.load.ensures.writes refl
-    (λ none m is. rw (sym c.word.ensures, sym c.word-2.ensures, sym c.word-3.ensures) (none (word (texts c.args.words.now) 4) m is)) (rw c.in-Err-Failed.field-0-is at c.in-Err-Failed.ensures.reads)
+    (λ none m is. rw (sym c.word.ensures, sym c.word-2.ensures, sym c.word-3.ensures) (none (word (texts c.args.words.now) 4) m is))
+    (rw c.in-Err-Failed.field-0-is at c.in-Err-Failed.ensures.reads)

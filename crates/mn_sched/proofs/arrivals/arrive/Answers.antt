@@ -10,7 +10,8 @@ pub returns-clause-arrives : goal.returns-clause-arrives
 returns-clause-arrives c = λ inputs stands.
     let journal = same_journal c.args.arrivals c.in-Some.item.due c.args.net.now c.set_clock.new.net c.set_clock.ensures.past in
     let mid = c.set_clock.ensures.stands inputs stands in
-    let answer = opens_then c.args.net.now c.set_clock.new.net inputs c.delivery.result (delivery c.in-Some.item) c.step.result journal c.set_clock.ensures.topology
+    let answer = opens_then c.args.net.now c.set_clock.new.net inputs c.delivery.result (delivery c.in-Some.item) c.step.result journal
+    c.set_clock.ensures.topology
     c.delivery.ensures (c.in-Some.ensures.opens inputs stands) (c.step.ensures.answer inputs mid) in
     arrives_by c.args.arrivals c.in-Some.item c.args.net.now c.set_clock.new.net c.step.new.self inputs c.delivery.result c.step.result c.set_clock.ensures.past
     c.set_clock.ensures.topology c.delivery.ensures (ap injects c.delivery.ensures ∙ c.in-Some.ensures.fits.1) answer c.step.ensures.longer

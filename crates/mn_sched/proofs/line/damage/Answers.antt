@@ -37,14 +37,17 @@ finish-requires g c =
     let entry = entry_for net.tick c.args.damage in
     let long = ok_then c.damage-stepped.result _ _ c.damage-stepped.ensures.longer (by_damage net c.damage-stepped.new.self c.args.damage) in
     record {
-      stood = stood_by c.damage-stepped.result net c.damage-stepped.new.self entry net.tick (λ inputs. inputs) (g.W.Watch.packets rested) (g.W.Watch.stands rested)
+      stood = stood_by c.damage-stepped.result net c.damage-stepped.new.self entry net.tick (λ inputs. inputs) (g.W.Watch.packets rested)
+          (g.W.Watch.stands rested)
           (λ all told. let both = c.requires.together all (sym held.2 ∙ told) in (both.0, held.3 _ _ _ both.1))
           (λ all told. damage_takes_no_input all net.journal net.tick c.args.damage) long c.damage-stepped.ensures.stands;
-      made = made_by c.damage-stepped.result net c.damage-stepped.new.self entry net.tick (λ inputs. inputs) (g.W.Watch.packets rested) (g.W.Watch.stands rested)
+      made = made_by c.damage-stepped.result net c.damage-stepped.new.self entry net.tick (λ inputs. inputs) (g.W.Watch.packets rested)
+          (g.W.Watch.stands rested)
           (λ all told. let both = c.requires.together all (sym held.2 ∙ told) in (both.0, held.3 _ _ _ both.1))
           (λ all told. damage_takes_no_input all net.journal net.tick c.args.damage) long c.damage-stepped.ensures.stands
           c.damage-stepped.ensures.first c.damage-stepped.ensures.end;
-      fitting = fits_by c.damage-stepped.result net c.damage-stepped.new.self entry net.tick (damages_fit net.topology net.tick c.args.damage c.requires.fits) long;
+      fitting = fits_by c.damage-stepped.result net c.damage-stepped.new.self entry net.tick (damages_fit net.topology net.tick c.args.damage c.requires.fits)
+          long;
     }
 
 pub returns-clause-course : goal.returns-clause-course
@@ -54,7 +57,8 @@ returns-clause-course g c = λ all told.
     let found = rw c.in-Ok-Some.field-0-is at c.in-Ok-Some.ensures.found in
     let answer = c.damage-stepped.ensures.answer (inputs_of all net.journal) (c.requires.together all told).0 in
     subst (λ x. Takes x c.damage-stepped.new.self c.finish.result)
-    (damaged_so net.topology all (past_of net) c.args.damage c.in-Ok-Some.bytes.now (subst (λ n. record_of all n ≡ Some c.in-Ok-Some.bytes.now) number (found.1 all told)))
+    (damaged_so net.topology all (past_of net) c.args.damage c.in-Ok-Some.bytes.now
+    (subst (λ n. record_of all n ≡ Some c.in-Ok-Some.bytes.now) number (found.1 all told)))
     (takes_by net c.damage-stepped.new.self (entry_for net.tick c.args.damage) net.tick
     (damage_refused_by net.topology all (past_of net) c.args.damage c.in-Ok-Some.bytes.now) c.damage-stepped.result c.finish.result answer
     (ok_then c.damage-stepped.result _ _ c.damage-stepped.ensures.longer (by_damage net c.damage-stepped.new.self c.args.damage))

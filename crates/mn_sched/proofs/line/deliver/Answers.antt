@@ -96,7 +96,8 @@ returns-in_err-left-clause-course g c = λ all before.
     let handed = err_from_is_err_and c.from_residual.result c.from_residual.ensures.1 in
     rw (handed.1, handed.2, c.in_err-left.ensures.memory)
     (subst (λ (x : Course). IsFirstPart net.journal x.past.entries) (l.invariant.course all before)
-    (subst (λ (p : Past). IsFirstPart p.entries (deliver c.args.net.now.topology all c.args.arrivals (c.args.most - l.turn) (past_of l.net)).past.entries) (sym past)
+    (subst (λ (p : Past). IsFirstPart p.entries (deliver c.args.net.now.topology all c.args.arrivals (c.args.most - l.turn) (past_of l.net)).past.entries)
+    (sym past)
     (deliver_more c.args.net.now.topology all c.args.arrivals (c.args.most - l.turn) (past_of l.net))))
 
 pub returns-in_default-clause-gone : goal.returns-in_default-clause-gone

@@ -9,5 +9,6 @@ returns-clause-drained g c = λ capture told.
     let old = c.args.net.now in
     drains_by capture old c.deliver.new.net (subst IsLawful c.topology.ensures c.laws-2.ensures)
     (lawful_past old capture (c.requires.together capture told).0
-    (c.laws.ensures.forward (inputs_of capture old.journal) (c.requires.together capture told).0)) c.requires.early c.args.most c.most_of.result c.deliver.result
+    (c.laws.ensures.forward (inputs_of capture old.journal) (c.requires.together capture told).0)) c.requires.early c.args.most c.most_of.result
+    c.deliver.result
     c.as_played.result c.most_of.ensures (c.deliver.ensures.course capture (c.requires.together capture told).0) c.as_played.ensures

@@ -3,7 +3,8 @@ use Rattle.mn_course_laws.specs.Course.{inputs_of, refusal_now, stepped}
 use Rattle.mn_sched.specs.Playing.{past_of, Takes}
 use Rattle.mn_sched.specs.Playing.{After}
 use Rattle.mn_sched.proofs.Growing.{err_then}
-use Rattle.mn_sched.proofs.Telling.{leaves, made_last, last_fits, step_paced, few_ticks, step_grown, step_kept, finished_refused, stood, takes_input, step_takes, stepped_inject, stepped_more}
+use Rattle.mn_sched.proofs.Telling.{leaves, made_last, last_fits, step_paced, few_ticks, step_grown, step_kept, finished_refused, stood, takes_input}
+use Rattle.mn_sched.proofs.Telling.{step_takes, stepped_inject, stepped_more}
 use Rattle.mn_sched.proofs.Telling.{after_step, after_fault}
 use Rattle.mn_sched.proofs.Delivering.{first_part_refl}
 use Rattle.mn_sched.proofs.Telling.{fault_takes, fault_missing}

@@ -50,7 +50,8 @@ returns-clause-clock g c =
     let net = c.args.net.now in
     let end : ℕ = net.tick + c.args.ticks in
     let clock : c.max.result ≡ max c.deliver.new.net.tick end = search rules in
-    run_paced net c.deliver.new.net c.advance.new.self c.args.ticks c.requires.few c.in_ok-deliver.ensures.clock (ap (λ n. n.tick) c.advance.ensures.set ∙ clock)
+    run_paced net c.deliver.new.net c.advance.new.self c.args.ticks c.requires.few c.in_ok-deliver.ensures.clock (ap (λ n. n.tick) c.advance.ensures.set
+    ∙ clock)
     (ap (λ n. n.journal) c.advance.ensures.set)
 
 pub returns-clause-grown : goal.returns-clause-grown

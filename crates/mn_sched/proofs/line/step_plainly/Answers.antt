@@ -2,7 +2,8 @@ use Rattle.std.proofs.Common.{[], sym, subst}
 use Rattle.mn_course_laws.specs.Course.{inputs_of, refusal_now}
 use Rattle.mn_sched.specs.Playing.{past_of, Takes}
 use Rattle.mn_sched.proofs.Growing.{err_then}
-use Rattle.mn_sched.proofs.Telling.{leaves, made_last, last_fits, step_paced, few_ticks, step_grown, step_kept, finished_refused, stood, takes_no_input, step_takes, stepped_plain, after_step, step_goes_on}
+use Rattle.mn_sched.proofs.Telling.{leaves, made_last, last_fits, step_paced, few_ticks, step_grown, step_kept, finished_refused, stood, takes_no_input}
+use Rattle.mn_sched.proofs.Telling.{step_takes, stepped_plain, after_step, step_goes_on}
 use Rattle.mn_sched.proofs.line.step_plainly.Goals as goal
 
 pub finish-requires : goal.finish-requires

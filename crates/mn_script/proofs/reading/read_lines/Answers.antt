@@ -26,9 +26,11 @@ lines-preserved g c =
         | then-is_some w ↦
             let place : w.len.result ≡ length c.lines.script.items = w.len.ensures ∙ c.lines.script.ok.0 in
             rw (w.known-is, place)
-            (all_said (g.L.Language.says c.args.language.now) c.lines.script.items c.put.new.script.items c.in-Ok.said c.lines.known c.slot_of-slot.result c.lines.number c.in-Some.line put said (sym c.is_some.ensures ∙ w.if-is_some.true) c.lines.invariant.known)
+            (all_said (g.L.Language.says c.args.language.now) c.lines.script.items c.put.new.script.items c.in-Ok.said c.lines.known c.slot_of-slot.result
+            c.lines.number c.in-Some.line put said (sym c.is_some.ensures ∙ w.if-is_some.true) c.lines.invariant.known)
         | else-is_some w ↦ rw w.known-is
-            (all_stay (g.L.Language.says c.args.language.now) c.lines.script.items c.put.new.script.items c.in-Ok.said c.lines.known put c.lines.invariant.known)
+            (all_stay (g.L.Language.says c.args.language.now) c.lines.script.items c.put.new.script.items c.in-Ok.said c.lines.known put
+            c.lines.invariant.known)
       ];
       slots = elim c.if-is_some.branch [
         | then-is_some w ↦ rw w.known-is (length-set c.lines.known c.slot_of-slot.result _ ∙ c.lines.invariant.slots)

@@ -42,7 +42,8 @@ returns-then-is_rd_taken c =
 pub returns : goal.returns
 returns c =
     let fresh = (ap (λ names. has_name names c.in_ok-name.name.now) (sym c.names.ensures) ∙ sym c.has.ensures ∙ c.if-has.false) in
-    let known = (ap (λ names. named_at names (codes "node") (table_view c.args.entry.now)) (sym c.names-2.ensures) ∙ sym c.named_at.ensures.value ∙ c.in-Some.is) in
+    let known = (ap (λ names. named_at names (codes "node") (table_view c.args.entry.now)) (sym c.names-2.ensures) ∙ sym c.named_at.ensures.value
+    ∙ c.in-Some.is) in
     record {
       lawful =
           no_rule c.args.nodes.now.names c.args.vrfs.now (table_view c.args.entry.now) _ _ _ c.in_ok-name.ensures c.in-Some.node

@@ -13,7 +13,8 @@ loop-edge-preserved c =
     let items = c.in_ok-push.ensures.items in
     record {
       roots =
-          ap roots_of items ∙ one-root trees new c.args.edges.now c.loop-edge.edge-index _ c.loop-edge-test.true c.loop-edge.invariant.roots c.in_ok-new.ensures.root;
+          ap roots_of items ∙ one-root trees new c.args.edges.now c.loop-edge.edge-index _ c.loop-edge-test.true c.loop-edge.invariant.roots
+          c.in_ok-new.ensures.root;
       follow =
           subst (All (Follows links (replicate (length links.ends) true))) (sym {A = List Mended} items)
           (All-push (Follows links (replicate (length links.ends) true)) trees new c.loop-edge.invariant.follow c.in_ok-new.ensures.follows);

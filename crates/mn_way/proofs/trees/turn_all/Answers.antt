@@ -6,7 +6,8 @@ use Rattle.mn_way.proofs.trees.turn_all.Goals as goal
 pub returns-in_err-turn-clause-roots : goal.returns-in_err-turn-clause-roots
 returns-in_err-turn-clause-roots c =
     let there : c.loop-at.at < length c.loop-at.trees.items = omega arith in
-    roots-stay c.loop-at.trees.items c.loop-at.at c.index_mut.result.now c.turn.new.self _ c.index_mut.ensures.value there c.turn.ensures.same ∙ c.loop-at.invariant.roots
+    roots-stay c.loop-at.trees.items c.loop-at.at c.index_mut.result.now c.turn.new.self _ c.index_mut.ensures.value there c.turn.ensures.same
+    ∙ c.loop-at.invariant.roots
 
 pub loop-at-preserved : goal.loop-at-preserved
 loop-at-preserved c =

@@ -43,7 +43,8 @@ invariant_of-self-2 c =
           ∙ ap (λ (r : Resting). length r.owed) c.follow.ensures ∙ events_owed c.args.tick c.self.inside.rests c.args.events.now ∙ c.self.invariant.0 ∙ same,
       ap (λ (r : Resting). length r.rested) c.stop.ensures ∙ stopped_rested c.args.tick c.owe.new.rests ended
           ∙ ap (λ (r : Resting). length r.rested) c.owe.ensures ∙ ap length (owed_for_rested c.follow.new.rests c.deref-3.result.now)
-          ∙ ap (λ (r : Resting). length r.rested) c.follow.ensures ∙ events_rested c.args.tick c.self.inside.rests c.args.events.now ∙ c.self.invariant.1 ∙ same,
+          ∙ ap (λ (r : Resting). length r.rested) c.follow.ensures ∙ events_rested c.args.tick c.self.inside.rests c.args.events.now ∙ c.self.invariant.1
+          ∙ same,
     )
 
 pub begin-requires-clause-below : goal.begin-requires-clause-below

@@ -7,7 +7,8 @@ use Rattle.mn_bindings.proofs.known.Lib.hear_aside.Goals as goal
 
 pub returns-clause-after : goal.returns-clause-after
 returns-clause-after c = λ tick.
-    subst (λ (k : Known). (let o : Known = record { bindings = c.hear_aside.new.self; resting = c.self.inside.rests } in o) ≡ known_after k (c.args.event ∷ []) tick)
+    subst (λ (k : Known). (let o : Known = record { bindings = c.hear_aside.new.self; resting = c.self.inside.rests } in o) ≡ known_after k
+    (c.args.event ∷ []) tick)
     c.self.view_is
     (ap (λ (b : Bindings). let o : Known = record { bindings = b; resting = c.self.inside.rests } in o) c.hear_aside.ensures
     ∙ sym (known_aside (record { bindings = c.self.inside.bound; resting = c.self.inside.rests }) c.args.event tick

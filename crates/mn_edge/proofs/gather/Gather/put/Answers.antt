@@ -5,7 +5,8 @@ use Rattle.mn_edge.specs.Kept.{held_bytes, most_held, with_piece, HoldsOn, Begin
 use Rattle.mn_edge.specs.FaultLaws.{counted_out, counted_alone, counted_alone_out}
 use Rattle.mn_edge.specs.KeptLaws.{framed_both, framed_same, begins_on}
 use Rattle.mn_edge.specs.Written.{texts}
-use Rattle.mn_edge.proofs.Gathering.{more_held, room_some, bytes_more, files_same, none_held-files, none_held-bytes, none_held-same, grown_twice, grown_none, grown_part}
+use Rattle.mn_edge.proofs.Gathering.{more_held, room_some, bytes_more, files_same, none_held-files, none_held-bytes, none_held-same, grown_twice, grown_none}
+use Rattle.mn_edge.proofs.Gathering.{grown_part}
 use Rattle.mn_edge.proofs.Results.{on_err, either}
 use Rattle.mn_edge.proofs.gather.Gather.put.Goals as goal
 
@@ -114,7 +115,8 @@ loop-rest-preserved g c =
     }
 
 pub returns-clause-grown : goal.returns-clause-grown
-returns-clause-grown g c = on_ok_weaker c.hold-2.result (λ (ok : c.hold-2.new.self ≡ with_piece c.loop-rest.self c.args.file c.loop-rest.rest.now) contents holds.
+returns-clause-grown g c = on_ok_weaker c.hold-2.result
+    (λ (ok : c.hold-2.new.self ≡ with_piece c.loop-rest.self c.args.file c.loop-rest.rest.now) contents holds.
     let i = c.loop-rest.invariant in
     let names = texts c.args.names.now in
     let here : c.args.file < length c.loop-rest.self = rw i.files c.requires.file in

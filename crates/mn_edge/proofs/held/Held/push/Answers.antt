@@ -1,4 +1,5 @@
-use Rattle.std.proofs.Common.{◌≡◌, ◌<◌, ◌≤◌, ◌++◌, ℕ, List, [], length, map, slice_set, true, false, refl, ap, sym, ◌∙◌, arith, length-append, Option, Some, None, Result, Ok, Err, IfOk}
+use Rattle.std.proofs.Common.{◌≡◌, ◌<◌, ◌≤◌, ◌++◌, ℕ, List, [], length, map, slice_set, true, false, refl, ap, sym, ◌∙◌, arith, length-append, Option, Some}
+use Rattle.std.proofs.Common.{None, Result, Ok, Err, IfOk}
 use Rattle.std.specs.Prelude.{IfSome, is_err}
 use Rattle.std.proofs.lemmas.List.{append-nil, length-map, length-set}
 use Rattle.mn_edge.specs.Kept.{held_bytes, most_held, with_piece}
@@ -10,7 +11,8 @@ none_then : {T E : Type 0} (r : Result (Option T) E) (P Q : Type 0) → IfOk r (
 none_then (Ok o) P Q p f = λ e. f (p e)
 none_then (Err e) P Q p f = tt
 
-some_then : {T E : Type 0} (r : Result (Option T) E) (P Q : T → Type 0) → IfOk r (λ back. IfSome back P) → ((t : T) → P t → Q t) → IfOk r (λ back. IfSome back Q)
+some_then : {T E : Type 0} (r : Result (Option T) E) (P Q : T → Type 0) → IfOk r (λ back. IfSome back P) → ((t : T) → P t → Q t) →
+    IfOk r (λ back. IfSome back Q)
 some_then (Ok None) P Q p f = tt
 some_then (Ok (Some t)) P Q p f = f t p
 some_then (Err e) P Q p f = tt
@@ -24,11 +26,17 @@ grew (Ok (Some t)) room old new text P sound none some = ([], omega arith, some.
 grew (Err e) room old new text P sound none some = absurd (let h : true ≡ false = sound in cc)
 
 pub invariant_of-self : goal.invariant_of-self
-invariant_of-self g c = (sym (ap held_bytes c.empty.ensures ∙ none_held-bytes (map (λ v. v.items) (slice_set c.self.inside.files.items c.args.file c.write-done.new.bytes))), omega arith)
+invariant_of-self g c = (
+  sym (ap held_bytes c.empty.ensures
+      ∙ none_held-bytes (map (λ v. v.items) (slice_set c.self.inside.files.items c.args.file c.write-done.new.bytes))),
+  omega arith,
+)
 
 pub returns-then-is_err-clause-err : goal.returns-then-is_err-clause-err
 returns-then-is_err-clause-err g c =
-    on_err c.write-done.result _ (c.empty.ensures ∙ none_held-same (map (λ v. v.items) (slice_set c.self.inside.files.items c.args.file c.write-done.new.bytes)) c.args.self.now (length-map _ _ ∙ length-set c.self.inside.files.items c.args.file c.write-done.new.bytes ∙ sym (length-map _ _) ∙ ap length c.self.view_is))
+    on_err c.write-done.result _ (c.empty.ensures
+    ∙ none_held-same (map (λ v. v.items) (slice_set c.self.inside.files.items c.args.file c.write-done.new.bytes)) c.args.self.now (length-map _ _
+    ∙ length-set c.self.inside.files.items c.args.file c.write-done.new.bytes ∙ sym (length-map _ _) ∙ ap length c.self.view_is))
 
 pub invariant_of-self-2 : goal.invariant_of-self-2
 invariant_of-self-2 g c =
@@ -67,5 +75,6 @@ returns-clause-back g c = some_then c.write-done.result _ _ c.write-done.ensures
       omega (arith, room, over),
       h.1,
       pushed (λ v. v.items) c.self.inside.files.items c.args.file c.index_mut-bytes.result.now c.write-done.new.bytes
-          [] c.args.self.now c.self.view_is c.requires c.index_mut-bytes.ensures.value (h.2 ∙ sym (append-nil _)) ∙ with_none c.args.self.now c.args.file c.requires,
+          [] c.args.self.now c.self.view_is c.requires c.index_mut-bytes.ensures.value (h.2 ∙ sym (append-nil _))
+          ∙ with_none c.args.self.now c.args.file c.requires,
     ))

@@ -16,7 +16,8 @@ returns-clause-whole g c =
     let own = (c.in_ok-node.ensures).room in
     let node = c.in_ok-node.node in
     record {
-      held = grown_held c.args.self.now c.requires node c.add.new.self added fresh own c.push.new.store c.push.ensures.store c.push.new.self c.push.ensures.first
+      held = grown_held c.args.self.now c.requires node c.add.new.self added fresh own c.push.new.store c.push.ensures.store c.push.new.self
+          c.push.ensures.first
           c.push.ensures.count;
       counted = grown_counted c.args.self.now c.requires node c.add.new.self added fresh own c.push.new.store c.push.ensures.store;
       by_due = rw c.make_room.ensures.items (grown_by_due c.args.self.now c.requires node c.add.new.self added fresh own c.push.new.store c.push.ensures.store);
@@ -31,7 +32,8 @@ returns-clause-whole g c =
         c.args.self.now.ticks.ok.0,
       );
       finger = grown_finger c.args.self.now c.requires node c.add.new.self added fresh own c.push.new.store c.push.ensures.store;
-      recent = rw c.make_room-2.ensures.items (grown_recent c.args.self.now c.requires node c.add.new.self added fresh own c.push.new.store c.push.ensures.store);
+      recent = rw c.make_room-2.ensures.items
+          (grown_recent c.args.self.now c.requires node c.add.new.self added fresh own c.push.new.store c.push.ensures.store);
       recent_room = omega (arith, c.push.ensures.count, c.in_ok-make_room-2.ensures.room, c.make_room-2.ensures.len, c.len-2.ensures);
       latest = grown_latest c.args.self.now c.requires node c.add.new.self added fresh own c.push.new.store c.push.ensures.store;
     }

@@ -6,7 +6,8 @@ use Rattle.mn_flight_pool.proofs.store.Store.add.Goals as goal
 pub returns-clause-ok : goal.returns-clause-ok
 returns-clause-ok g c = (
   roomy_node c.nowhere.result c.nowhere-2.result None,
-  added_now c.self.inside.firsts c.self.inside.channel.items c.self.inside.due.items c.self.inside.items.items c.args.self.now c.self.view_is c.self.invariant.0 c.self.invariant.1 c.push_reserved.new.self.items c.push_reserved-2.new.self.items c.push.new.self.items
+  added_now c.self.inside.firsts c.self.inside.channel.items c.self.inside.due.items c.self.inside.items.items c.args.self.now c.self.view_is c.self.invariant.0
+      c.self.invariant.1 c.push_reserved.new.self.items c.push_reserved-2.new.self.items c.push.new.self.items
       c.nowhere.result c.nowhere-2.result None
       (c.push_reserved.ensures.items ∙ ap (λ l. l ++ c.nowhere.result ∷ []) c.reserve.ensures.items)
       (c.push_reserved-2.ensures.items ∙ ap (λ l. l ++ c.nowhere-2.result ∷ []) c.reserve-2.ensures.items)
@@ -21,7 +22,8 @@ returns-clause-fresh g c = past_last c.args.self.now c.in_ok-place.place.index c
 pub returns-clause-room : goal.returns-clause-room
 returns-clause-room g c =
     room_last c.args.self.now _ c.in_ok-place.place.index (roomy_node c.nowhere.result c.nowhere-2.result None) refl
-    (added_now c.self.inside.firsts c.self.inside.channel.items c.self.inside.due.items c.self.inside.items.items c.args.self.now c.self.view_is c.self.invariant.0 c.self.invariant.1 c.push_reserved.new.self.items c.push_reserved-2.new.self.items c.push.new.self.items
+    (added_now c.self.inside.firsts c.self.inside.channel.items c.self.inside.due.items c.self.inside.items.items c.args.self.now c.self.view_is
+    c.self.invariant.0 c.self.invariant.1 c.push_reserved.new.self.items c.push_reserved-2.new.self.items c.push.new.self.items
     c.nowhere.result c.nowhere-2.result None
     (c.push_reserved.ensures.items ∙ ap (λ l. l ++ c.nowhere.result ∷ []) c.reserve.ensures.items)
     (c.push_reserved-2.ensures.items ∙ ap (λ l. l ++ c.nowhere-2.result ∷ []) c.reserve-2.ensures.items)

@@ -15,7 +15,8 @@ pub index-requires : goal.index-requires
 index-requires g c =
     omega (
       arith,
-      within_now c.self.inside.firsts c.self.inside.channel.items c.self.inside.due.items c.self.inside.items.items c.args.self.now c.self.view_is c.args.at.index c.requires,
+      within_now c.self.inside.firsts c.self.inside.channel.items c.self.inside.due.items c.self.inside.items.items c.args.self.now c.self.view_is
+          c.args.at.index c.requires,
       c.self.invariant.0,
       c.self.invariant.1,
       c.self.inside.items.ok.0,
@@ -25,10 +26,12 @@ index-requires g c =
 pub returns : goal.returns
 returns g c =
     c.as_ref.ensures.value
-    ∙ item_read c.self.inside.firsts c.self.inside.channel.items c.self.inside.due.items c.self.inside.items.items c.args.self.now c.self.view_is c.self.invariant.0 c.self.invariant.1 c.args.at.index c.in_ok-place.place c.index.result.now
+    ∙ item_read c.self.inside.firsts c.self.inside.channel.items c.self.inside.due.items c.self.inside.items.items c.args.self.now c.self.view_is
+    c.self.invariant.0 c.self.invariant.1 c.args.at.index c.in_ok-place.place c.index.result.now
     (omega (arith, c.in_ok-place.ensures)) (omega (
       arith,
-      within_now c.self.inside.firsts c.self.inside.channel.items c.self.inside.due.items c.self.inside.items.items c.args.self.now c.self.view_is c.args.at.index c.requires,
+      within_now c.self.inside.firsts c.self.inside.channel.items c.self.inside.due.items c.self.inside.items.items c.args.self.now c.self.view_is
+          c.args.at.index c.requires,
       c.self.invariant.0,
       c.self.invariant.1,
       c.in_ok-place.ensures,

@@ -5,28 +5,40 @@ use Rattle.mn_flight_pool.proofs.Nodes.{within_now, roomy_now, channel_prev, due
 use Rattle.mn_flight_pool.proofs.store.Store.prev.Goals as goal
 
 pub index-requires : goal.index-requires
-index-requires g c = omega (arith, within_now c.self.inside.firsts c.self.inside.channel.items c.self.inside.due.items c.self.inside.items.items c.args.self.now c.self.view_is c.args.at.index (subst (λ (p : Pair). CanStand p c.args.self.now c.args.at.index) c.in-Channel.is c.requires), c.self.inside.channel.ok.0)
+index-requires g c = omega (
+  arith,
+  within_now c.self.inside.firsts c.self.inside.channel.items c.self.inside.due.items c.self.inside.items.items c.args.self.now
+      c.self.view_is c.args.at.index (subst (λ (p : Pair). CanStand p c.args.self.now c.args.at.index) c.in-Channel.is c.requires),
+  c.self.inside.channel.ok.0,
+)
 
 pub returns-in-Channel : goal.returns-in-Channel
 returns-in-Channel g c =
-    channel_prev c.self.inside.firsts c.self.inside.channel.items c.self.inside.due.items c.self.inside.items.items c.args.self.now c.self.view_is c.args.at.index c.index.result.now
-    (value_read c.args.at.index c.index.result.now c.self.inside.channel.items (within_now c.self.inside.firsts c.self.inside.channel.items c.self.inside.due.items c.self.inside.items.items c.args.self.now c.self.view_is c.args.at.index (subst (λ (p : Pair). CanStand p c.args.self.now c.args.at.index) c.in-Channel.is c.requires)) c.index.ensures)
+    channel_prev c.self.inside.firsts c.self.inside.channel.items c.self.inside.due.items c.self.inside.items.items c.args.self.now c.self.view_is
+    c.args.at.index c.index.result.now
+    (value_read c.args.at.index c.index.result.now c.self.inside.channel.items
+    (within_now c.self.inside.firsts c.self.inside.channel.items c.self.inside.due.items c.self.inside.items.items c.args.self.now c.self.view_is
+    c.args.at.index (subst (λ (p : Pair). CanStand p c.args.self.now c.args.at.index) c.in-Channel.is c.requires)) c.index.ensures)
     ∙ ap (λ (p : Pair). prev_of p c.args.self.now c.args.at.index) (sym c.in-Channel.is)
 
 pub overflow_sub-place : goal.overflow_sub-place
 overflow_sub-place g c =
-    let r = roomy_now c.self.inside.firsts c.self.inside.channel.items c.self.inside.due.items c.self.inside.items.items c.args.self.now c.self.view_is c.args.at.index (subst (λ (p : Pair). CanStand p c.args.self.now c.args.at.index) c.in-Due.is c.requires) in omega (arith, r.0)
+    let r = roomy_now c.self.inside.firsts c.self.inside.channel.items c.self.inside.due.items c.self.inside.items.items c.args.self.now c.self.view_is
+    c.args.at.index (subst (λ (p : Pair). CanStand p c.args.self.now c.args.at.index) c.in-Due.is c.requires) in omega (arith, r.0)
 
 pub index-requires-in-Due : goal.index-requires-in-Due
 index-requires-in-Due g c =
-    let r = roomy_now c.self.inside.firsts c.self.inside.channel.items c.self.inside.due.items c.self.inside.items.items c.args.self.now c.self.view_is c.args.at.index (subst (λ (p : Pair). CanStand p c.args.self.now c.args.at.index) c.in-Due.is c.requires) in
+    let r = roomy_now c.self.inside.firsts c.self.inside.channel.items c.self.inside.due.items c.self.inside.items.items c.args.self.now c.self.view_is
+    c.args.at.index (subst (λ (p : Pair). CanStand p c.args.self.now c.args.at.index) c.in-Due.is c.requires) in
     omega (arith, r.0, r.1, c.self.invariant.1, c.self.inside.due.ok.0)
 
 pub returns-in-Due : goal.returns-in-Due
 returns-in-Due g c =
     let can = (subst (λ (p : Pair). CanStand p c.args.self.now c.args.at.index) c.in-Due.is c.requires) in
-    let r = roomy_now c.self.inside.firsts c.self.inside.channel.items c.self.inside.due.items c.self.inside.items.items c.args.self.now c.self.view_is c.args.at.index can in
+    let r = roomy_now c.self.inside.firsts c.self.inside.channel.items c.self.inside.due.items c.self.inside.items.items c.args.self.now c.self.view_is
+    c.args.at.index can in
     let k = c.args.at.index - c.self.inside.firsts in
-    due_prev c.self.inside.firsts c.self.inside.channel.items c.self.inside.due.items c.self.inside.items.items c.args.self.now c.self.view_is c.args.at.index k c.index-in-Due.result.now can (omega (arith, r.0))
+    due_prev c.self.inside.firsts c.self.inside.channel.items c.self.inside.due.items c.self.inside.items.items c.args.self.now c.self.view_is c.args.at.index k
+    c.index-in-Due.result.now can (omega (arith, r.0))
     (value_read k c.index-in-Due.result.now c.self.inside.due.items (omega (arith, r.0, r.1, c.self.invariant.1)) c.index-in-Due.ensures)
     ∙ ap (λ (p : Pair). prev_of p c.args.self.now c.args.at.index) (sym c.in-Due.is)

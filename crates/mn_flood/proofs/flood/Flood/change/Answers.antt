@@ -10,5 +10,6 @@ invariant_of-self-2 c works =
     let within : c.args.link.0 < length before.wiring.ends = search rules in
     let world : c.change.new.self.world ≡ changed before.wiring before.world c.args.link.0 c.args.up = search rules in
     let made : c.change.new.self.made ≤ before.made + 2560 = search rules in
-    sound_changed before.wiring before.world c.self.inside.done before.made c.laws.ensures.wired (c.self.invariant c.if-self.false) few c.args.link.0 within c.args.up
+    sound_changed before.wiring before.world c.self.inside.done before.made c.laws.ensures.wired (c.self.invariant c.if-self.false) few c.args.link.0 within
+    c.args.up
     c.change.new.self.wiring c.change.new.self.world c.change.new.self.made c.change.ensures.wiring world made

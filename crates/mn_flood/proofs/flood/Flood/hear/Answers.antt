@@ -13,7 +13,12 @@ invariant_of-self c works =
     let before = c.self.inside.world in
     let none : first_on c.args.link.0 c.args.dir before.world.flying ≡ None = sym c.take.ensures.value ∙ c.in_default.is in
     let same : c.take.new.self ≡ before =
-    c.take.ensures.left ∙ ap (λ f. record { wiring = before.wiring; world = record { up = before.world.up; kept = before.world.kept; flying = f }; made = before.made })
+    c.take.ensures.left ∙ ap (λ f. record {
+      wiring = before.wiring;
+      world = record { up = before.world.up; kept = before.world.kept; flying = f };
+      made =
+          before.made;
+    })
     (none_taken c.args.link.0 c.args.dir before.world.flying none) in
     subst (λ (w : WorldNow). IsSound w.wiring w.world c.self.inside.done w.made) (sym same) (c.self.invariant works)
 
@@ -22,7 +27,12 @@ returns-in_default-clause-unchanged c refused =
     let before = c.self.inside.world in
     let none : first_on c.args.link.0 c.args.dir before.world.flying ≡ None = sym c.take.ensures.value ∙ c.in_default.is in
     let same : c.take.new.self ≡ before =
-    c.take.ensures.left ∙ ap (λ f. record { wiring = before.wiring; world = record { up = before.world.up; kept = before.world.kept; flying = f }; made = before.made })
+    c.take.ensures.left ∙ ap (λ f. record {
+      wiring = before.wiring;
+      world = record { up = before.world.up; kept = before.world.kept; flying = f };
+      made =
+          before.made;
+    })
     (none_taken c.args.link.0 c.args.dir before.world.flying none) in
     let shown : record { wiring = c.take.new.self.wiring; world = c.take.new.self.world; done = c.self.inside.done; failed = c.self.inside.failed }
     ≡ record { wiring = before.wiring; world = before.world; done = c.self.inside.done; failed = c.self.inside.failed } =
@@ -43,15 +53,24 @@ invariant_of-self-2 c works =
     let few : c.self.inside.done ≤ 4000000 = search rules in
     let within : c.args.link.0 < length before.wiring.ends = search rules in
     let wiring : c.take_in.new.self.wiring ≡ before.wiring = c.take_in.ensures.wiring ∙ ap (λ (w : WorldNow). w.wiring) c.take.ensures.left in
-    let took : c.take_in.new.self.world ≡ taken_in c.take.new.self.wiring c.take.new.self.world c.args.link.0 (receiver c.take.new.self.wiring c.args.link.0 c.args.dir) c.into_advert.result = search rules in
-    let from : taken_in c.take.new.self.wiring c.take.new.self.world c.args.link.0 (receiver c.take.new.self.wiring c.args.link.0 c.args.dir) c.into_advert.result
-    ≡ taken_in before.wiring (record { up = before.world.up; kept = before.world.kept; flying = without_first c.args.link.0 c.args.dir before.world.flying }) c.args.link.0
+    let took : c.take_in.new.self.world ≡ taken_in c.take.new.self.wiring c.take.new.self.world c.args.link.0
+    (receiver c.take.new.self.wiring c.args.link.0 c.args.dir) c.into_advert.result = search rules in
+    let from : taken_in c.take.new.self.wiring c.take.new.self.world c.args.link.0 (receiver c.take.new.self.wiring c.args.link.0 c.args.dir)
+    c.into_advert.result
+    ≡ taken_in before.wiring (record { up = before.world.up; kept = before.world.kept; flying = without_first c.args.link.0 c.args.dir before.world.flying })
+    c.args.link.0
     (receiver before.wiring c.args.link.0 c.args.dir) c.in-Some.sent.advert =
     ap (λ (w : WorldNow). taken_in w.wiring w.world c.args.link.0 (receiver w.wiring c.args.link.0 c.args.dir) c.into_advert.result) c.take.ensures.left
-    ∙ ap (taken_in before.wiring (record { up = before.world.up; kept = before.world.kept; flying = without_first c.args.link.0 c.args.dir before.world.flying }) c.args.link.0
+    ∙ ap (taken_in before.wiring (record {
+      up = before.world.up;
+      kept = before.world.kept;
+      flying =
+          without_first c.args.link.0 c.args.dir before.world.flying;
+    }) c.args.link.0
     (receiver before.wiring c.args.link.0 c.args.dir)) c.into_advert.ensures in
     let made : c.take_in.new.self.made ≤ c.take.new.self.made + 1024 = search rules in
     let most : c.take_in.new.self.made ≤ before.made + 1024 = omega (arith, made, ap (λ (w : WorldNow). w.made) c.take.ensures.left) in
-    sound_heard before.wiring before.world c.self.inside.done before.made c.laws.ensures.wired (c.self.invariant c.if-self.false) few c.args.link.0 within c.args.dir c.in-Some.sent
+    sound_heard before.wiring before.world c.self.inside.done before.made c.laws.ensures.wired (c.self.invariant c.if-self.false) few c.args.link.0 within
+    c.args.dir c.in-Some.sent
     c.take_in.new.self.wiring c.take_in.new.self.world c.take_in.new.self.made first wiring
     (took ∙ from ∙ heard_is before.wiring before.world c.args.link.0 c.args.dir c.in-Some.sent first) most

@@ -15,7 +15,8 @@ invariant_of-self c =
     let all = c.take.ensures.channels ∙ c.self.invariant.0 in (
       all,
       sending_less c.self.inside.links c.self.inside.made c.take.new.self.channels c.take.new.self.items all c.take.ensures.flight
-          (subst (AllByRecursion (IsInPlace c.self.inside.made)) (sym c.take.ensures.items) (all_without c.self.inside.made c.self.inside.flight.items c.take.result c.self.invariant.1.each)),
+          (subst (AllByRecursion (IsInPlace c.self.inside.made)) (sym c.take.ensures.items)
+          (all_without c.self.inside.made c.self.inside.flight.items c.take.result c.self.invariant.1.each)),
     )
 
 pub returns-clause-value : goal.returns-clause-value

@@ -17,5 +17,6 @@ invariant_of-result c =
 pub returns : goal.returns
 returns c =
     let down : c.in_ok-up.up.items ≡ replicate (length c.in_ok-links.links.ends) false = search rules in
-    started _ c.in_ok-links.links c.in_ok-up.up.items c.in_ok-kept.kept.items c.nodes.result c.in_ok-queue.queue c.in_ok-links.ensures down c.nodes.ensures c.in_ok-kept.ensures
+    started _ c.in_ok-links.links c.in_ok-up.up.items c.in_ok-kept.kept.items c.nodes.result c.in_ok-queue.queue c.in_ok-links.ensures down c.nodes.ensures
+    c.in_ok-kept.ensures
     (ap (λ (q : Queued). q.sents) c.in_ok-queue.ensures) (ap (λ (q : Queued). q.made) c.in_ok-queue.ensures)

@@ -8,7 +8,14 @@ use Rattle.mn_join.proofs.pair.Pair.arrive.Goals as goal
 
 pub returns-in-Ok-clause-arrives : goal.returns-in-Ok-clause-arrives
 returns-in-Ok-clause-arrives c = λ pairing both stands.
-    let old : PairNow = record { first = c.self.inside.first; second = c.self.inside.second; travels = c.self.inside.travels.items; exits = c.self.inside.exits.items; stopped = c.self.inside.stopped } in
+    let old : PairNow = record {
+      first = c.self.inside.first;
+      second = c.self.inside.second;
+      travels = c.self.inside.travels.items;
+      exits =
+          c.self.inside.exits.items;
+      stopped = c.self.inside.stopped;
+    } in
     let mid = c.match-which.self-inside in
     let new : PairNow = record { first = mid.first; second = mid.second; travels = mid.travels.items; exits = mid.exits.items; stopped = mid.stopped } in
     let stand : PairStands pairing old both = subst (λ p. PairStands pairing p both) (sym c.self.view_is) stands in
@@ -27,7 +34,14 @@ returns-in-Ok-clause-arrives c = λ pairing both stands.
 
 pub returns-in-Err-clause-arrives : goal.returns-in-Err-clause-arrives
 returns-in-Err-clause-arrives c = λ pairing both stands.
-    let old : PairNow = record { first = c.self.inside.first; second = c.self.inside.second; travels = c.self.inside.travels.items; exits = c.self.inside.exits.items; stopped = c.self.inside.stopped } in
+    let old : PairNow = record {
+      first = c.self.inside.first;
+      second = c.self.inside.second;
+      travels = c.self.inside.travels.items;
+      exits =
+          c.self.inside.exits.items;
+      stopped = c.self.inside.stopped;
+    } in
     let mid = c.match-which.self-inside in
     let new : PairNow = record { first = mid.first; second = mid.second; travels = mid.travels.items; exits = mid.exits.items; stopped = Some c.in-Err.bad } in
     let stand : PairStands pairing old both = subst (λ p. PairStands pairing p both) (sym c.self.view_is) stands in

@@ -43,7 +43,8 @@ returns-in_err-hand_on-clause-takes c = λ pairing both stands.
     let mid = c.arrive.new.self in
     let h = l.invariant.comes pairing both stands in
     let came : c.in_ok-arrive.field-0 ≡ true = c.if-not-branch.false in
-    let arrives = subst (λ b. ArrivesIn pairing c.args.which c.args.arrivals h.later mid (Ok b)) came (c.in_ok-arrive.ensures.arrives pairing h.later h.stands) in
+    let arrives = subst (λ b. ArrivesIn pairing c.args.which c.args.arrivals h.later mid (Ok b)) came
+    (c.in_ok-arrive.ensures.arrives pairing h.later h.stands) in
     let handed = err_from_is_err_and c.from_residual-in_err-hand_on.result c.from_residual-in_err-hand_on.ensures.1 in
     rw (handed.1, handed.2)
     (stops_wrong pairing c.args.which c.args.arrivals both c.args.most l._turn l.self mid c.hand_on.new.self c.args.self.now h c.loop-turn-test.true

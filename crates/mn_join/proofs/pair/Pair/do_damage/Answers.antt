@@ -21,6 +21,7 @@ returns-in-Err-clause-course c = λ pairing both stands.
     let done = with_damage both which c.args.damage in
     let why = damage_refusal (network pairing which) (side both which).past.entries (side both which).inputs c.args.damage c.args.packet.now in
     rw c.ended_by.ensures
-    (tried_not pairing which both done why c.damage.new.self c.in-Err.why (c.in-Err.ensures.tries pairing both stands) (c.damage.ensures.exits ∙ c.requires.fresh)
+    (tried_not pairing which both done why c.damage.new.self c.in-Err.why (c.in-Err.ensures.tries pairing both stands) (c.damage.ensures.exits
+    ∙ c.requires.fresh)
     (has_begun pairing c.args.self.now c.damage.new.self both (tried pairing which both done why).both stands c.in-Err.ensures.left
     (damaged_before pairing which both c.args.damage why)))

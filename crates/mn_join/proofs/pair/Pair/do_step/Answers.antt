@@ -55,7 +55,8 @@ returns-in-Err-clause-course c = λ pairing both stands.
           let done = sent both which s n bytes in
           let why = refusal_on pairing both which (Inject s n) bytes in
           let is = sym w.done-is ∙ c.in-Err.is in
-          let still : StoodStill old mid = subst (StoodStill old) (sym w.self-is) (subst (λ r. OnErr r (StoodStill old w.send-done.new.self)) is w.send-done.ensures.left) in
+          let still : StoodStill old mid =
+          subst (StoodStill old) (sym w.self-is) (subst (λ r. OnErr r (StoodStill old w.send-done.new.self)) is w.send-done.ensures.left) in
           subst (λ x. Plays pairing (stepped pairing which both x bytes) mid (ended_by c.in-Err.why)) (sym w.in-Inject.is)
           (tried_not pairing which both done why mid c.in-Err.why
           (subst (λ p. Tries pairing both done why p (Err c.in-Err.why)) (sym w.self-is)
@@ -66,7 +67,8 @@ returns-in-Err-clause-course c = λ pairing both stands.
           let done = with_plain_step both which c.args.step in
           let why = refusal_on pairing both which c.args.step [] in
           let is = sym w.done-is ∙ c.in-Err.is in
-          let still : StoodStill old mid = subst (StoodStill old) (sym w.self-is) (subst (λ r. OnErr r (StoodStill old w.step-done.new.self)) is w.step-done.ensures.left) in
+          let still : StoodStill old mid =
+          subst (StoodStill old) (sym w.self-is) (subst (λ r. OnErr r (StoodStill old w.step-done.new.self)) is w.step-done.ensures.left) in
           let plain : injects c.args.step ≡ false = not_inject c.args.step (λ s n e. w.in_default.not-Inject s n e) in
           let course = stepped_plainly pairing which both c.args.step bytes plain in
           subst (λ (x : PairCourse). Plays pairing x mid (ended_by c.in-Err.why)) (sym course)

@@ -26,7 +26,8 @@ returns-in-Drain-clause-course c = λ pairing both stands.
 
 pub returns-in-Flush-clause-course : goal.returns-in-Flush-clause-course
 returns-in-Flush-clause-course c = λ pairing both stands.
-    subst (λ x. Plays pairing (played pairing c.args.which both x c.args.packet.now) c.deliver-in-Flush.new.self c.as_played-in-Flush.result) (sym c.in-Flush.is)
+    subst (λ x. Plays pairing (played pairing c.args.which both x c.args.packet.now) c.deliver-in-Flush.new.self c.as_played-in-Flush.result)
+    (sym c.in-Flush.is)
     (rw c.as_played-in-Flush.ensures
     (takes_plays pairing _ c.args.self.now c.deliver-in-Flush.new.self c.deliver-in-Flush.result c.requires.fresh
     (subst (λ n. Takes pairing (deliver pairing c.args.which AllFrames n both) c.args.self.now c.deliver-in-Flush.new.self c.deliver-in-Flush.result)

@@ -14,8 +14,22 @@ returns-in-Ok-clause-course c = λ goes pairing both stands.
 pub returns-in-Err-clause-course : goal.returns-in-Err-clause-course
 returns-in-Err-clause-course c = λ goes pairing both stands.
     let after = c.self-2.inside in
-    let old : PairNow = record { first = after.first; second = after.second; travels = after.travels.items; exits = after.exits.items; stopped = after.stopped } in
-    let new : PairNow = record { first = after.first; second = after.second; travels = after.travels.items; exits = after.exits.items; stopped = Some c.in-Err.bad } in
+    let old : PairNow = record {
+      first = after.first;
+      second = after.second;
+      travels = after.travels.items;
+      exits = after.exits.items;
+      stopped =
+          after.stopped;
+    } in
+    let new : PairNow = record {
+      first = after.first;
+      second = after.second;
+      travels = after.travels.items;
+      exits = after.exits.items;
+      stopped =
+          Some c.in-Err.bad;
+    } in
     let course = played pairing c.args.which both c.args.command.now c.args.packet.now in
     same_plays pairing course old new c.in-Err.bad refl refl refl refl
     (subst (λ p. Plays pairing course p (Err c.in-Err.bad)) (sym c.self-2.view_is)

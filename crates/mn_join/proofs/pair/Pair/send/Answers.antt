@@ -11,26 +11,59 @@ use Rattle.mn_join.proofs.pair.Pair.send.Goals as goal
 
 pub returns-in_err-packet-in-First-clause-goes : goal.returns-in_err-packet-in-First-clause-goes
 returns-in_err-packet-in-First-clause-goes c =
-    let new : PairNow = record { first = c.enter.new.self; second = c.self.inside.second; travels = c.reserve.new.self.items; exits = c.self.inside.exits.items; stopped = c.self.inside.stopped } in
+    let new : PairNow = record {
+      first = c.enter.new.self;
+      second = c.self.inside.second;
+      travels = c.reserve.new.self.items;
+      exits =
+          c.self.inside.exits.items;
+      stopped = c.self.inside.stopped;
+    } in
     subst (λ p. PairGoesOn p new) c.self.view_is (record { first = c.enter.ensures.goes; second = still_on c.self.inside.second })
 
 pub returns-in_err-packet-in-Second-clause-goes : goal.returns-in_err-packet-in-Second-clause-goes
 returns-in_err-packet-in-Second-clause-goes c =
-    let new : PairNow = record { first = c.self.inside.first; second = c.enter-in-Second.new.self; travels = c.reserve.new.self.items; exits = c.self.inside.exits.items; stopped = c.self.inside.stopped } in
+    let new : PairNow = record {
+      first = c.self.inside.first;
+      second = c.enter-in-Second.new.self;
+      travels = c.reserve.new.self.items;
+      exits =
+          c.self.inside.exits.items;
+      stopped = c.self.inside.stopped;
+    } in
     subst (λ p. PairGoesOn p new) c.self.view_is (record { second = c.enter-in-Second.ensures.goes; first = still_on c.self.inside.first })
 
 pub returns-clause-tries : goal.returns-clause-tries
 returns-clause-tries c = λ pairing both stands.
-    let old : PairNow = record { first = c.self.inside.first; second = c.self.inside.second; travels = c.self.inside.travels.items; exits = c.self.inside.exits.items; stopped = c.self.inside.stopped } in
+    let old : PairNow = record {
+      first = c.self.inside.first;
+      second = c.self.inside.second;
+      travels = c.self.inside.travels.items;
+      exits =
+          c.self.inside.exits.items;
+      stopped = c.self.inside.stopped;
+    } in
     let mid = c.match-which.self-inside in
-    let new : PairNow = record { first = mid.first; second = mid.second; travels = c.push_reserved-2.new.self.items; exits = mid.exits.items; stopped = mid.stopped } in
+    let new : PairNow = record {
+      first = mid.first;
+      second = mid.second;
+      travels = c.push_reserved-2.new.self.items;
+      exits = mid.exits.items;
+      stopped =
+          mid.stopped;
+    } in
     let stand : PairStands pairing old both = subst (λ p. PairStands pairing p both) (sym c.self.view_is) stands in
     let owner : c.len-owner.result ≡ length both.travels = omega (arith, c.len-owner.ensures, ap length stand.travels, c.self.inside.travels.ok.0) in
     let legs : c.push_reserved.new.self.items ≡ record { which = c.args.which; packet = c.match-which.packet } ∷ [] =
     c.push_reserved.ensures.items ∙ ap (λ ls. ls ++ record { which = c.args.which; packet = c.match-which.packet } ∷ []) c.in-Ok.ensures.items in
     elim c.match-which.branch [
       | in-First+in_ok-packet-in-First w ↦
-          let travels : new.travels ≡ old.travels ++ record { number = c.args.number; legs = record { which = First; packet = c.match-which.packet } ∷ []; refused = None } ∷ [] =
+          let travels : new.travels ≡ old.travels ++ record {
+            number = c.args.number;
+            legs =
+                record { which = First; packet = c.match-which.packet } ∷ [];
+            refused = None;
+          } ∷ [] =
           c.push_reserved-2.ensures.items
           ∙ ap (λ ts. ts ++ record { number = c.args.number; legs = c.push_reserved.new.self.items; refused = None } ∷ [])
           (ap (λ p. p.travels.items) w.self-inside-is ∙ c.reserve.ensures.items)
@@ -43,7 +76,12 @@ returns-clause-tries c = λ pairing both stands.
           (w.in_ok-packet-in-First.was ∙ ap Ok (sym w.packet-is)) (w.enter.ensures.enters pairing First both.first (stand.sides First))) owner new
           (ap (λ p. p.first) w.self-inside-is) (ap (λ p. p.second) w.self-inside-is) travels)
       | in-Second+in_ok-packet-in-Second w ↦
-          let travels : new.travels ≡ old.travels ++ record { number = c.args.number; legs = record { which = Second; packet = c.match-which.packet } ∷ []; refused = None } ∷ [] =
+          let travels : new.travels ≡ old.travels ++ record {
+            number = c.args.number;
+            legs =
+                record { which = Second; packet = c.match-which.packet } ∷ [];
+            refused = None;
+          } ∷ [] =
           c.push_reserved-2.ensures.items
           ∙ ap (λ ts. ts ++ record { number = c.args.number; legs = c.push_reserved.new.self.items; refused = None } ∷ [])
           (ap (λ p. p.travels.items) w.self-inside-is ∙ c.reserve.ensures.items)

@@ -11,7 +11,8 @@ returns-clause-damages c = λ pairing which side h.
     let new : SideNow = record { net = c.damage.new.self; partners = c.self.inside.partners.items; owners = c.self.inside.owners.items } in
     let stand : IsSide pairing which old side = subst (λ s. IsSide pairing which s side) (sym c.self.view_is) h in
     rw c.stepped_by.ensures
-    (damages_by pairing which old side stand c.damage.result new c.args.damage c.args.packet.now (c.damage.ensures.answer side.inputs stand.stands) c.damage.ensures.longer c.damage.ensures.stands
+    (damages_by pairing which old side stand c.damage.result new c.args.damage c.args.packet.now (c.damage.ensures.answer side.inputs stand.stands)
+    c.damage.ensures.longer c.damage.ensures.stands
     (leaves _ _ _ c.damage.ensures.left c.damage.ensures.for_good) refl refl)
 
 pub returns-clause-goes : goal.returns-clause-goes
@@ -38,5 +39,6 @@ returns-clause-left c =
 
 pub returns-clause-paced : goal.returns-clause-paced
 returns-clause-paced c = λ paced.
-    paced_on c.damage.result c.self.inside.net c.damage.new.self (damage_on c.damage.result c.self.inside.net c.damage.new.self c.args.damage c.damage.ensures.longer)
+    paced_on c.damage.result c.self.inside.net c.damage.new.self
+    (damage_on c.damage.result c.self.inside.net c.damage.new.self c.args.damage c.damage.ensures.longer)
     (leaves _ _ _ c.damage.ensures.left c.damage.ensures.for_good) (subst (λ (s : SideNow). IsPacedFromStart s.net) (sym c.self.view_is) paced)

@@ -12,7 +12,8 @@ returns-clause-steps c = λ pairing which side h.
     let new : SideNow = record { net = c.step.new.self; partners = c.self.inside.partners.items; owners = c.self.inside.owners.items } in
     let stand : IsSide pairing which old side = subst (λ s. IsSide pairing which s side) (sym c.self.view_is) h in
     rw c.stepped_by.ensures
-    (steps_by pairing which old side stand c.step.result new c.args.step c.requires.plain (c.step.ensures.answer side.inputs stand.stands) c.step.ensures.longer c.step.ensures.stands
+    (steps_by pairing which old side stand c.step.result new c.args.step c.requires.plain (c.step.ensures.answer side.inputs stand.stands) c.step.ensures.longer
+    c.step.ensures.stands
     (leaves _ _ _ c.step.ensures.left c.step.ensures.for_good) refl refl)
 
 pub returns-clause-goes : goal.returns-clause-goes
@@ -20,7 +21,8 @@ returns-clause-goes c =
     let old : SideNow = record { net = c.self.inside.net; partners = c.self.inside.partners.items; owners = c.self.inside.owners.items } in
     let new : SideNow = record { net = c.step.new.self; partners = c.self.inside.partners.items; owners = c.self.inside.owners.items } in
     subst (λ s. GoesOn s new) c.self.view_is
-    (goes_on c.step.result old new (step_on c.step.result old.net new.net c.args.step (subst (λ (s : SideNow). fits s.net.topology c.args.step ≡ true) (sym c.self.view_is) c.requires.fits) c.step.ensures.longer)
+    (goes_on c.step.result old new (step_on c.step.result old.net new.net c.args.step
+    (subst (λ (s : SideNow). fits s.net.topology c.args.step ≡ true) (sym c.self.view_is) c.requires.fits) c.step.ensures.longer)
     (leaves _ _ _ c.step.ensures.left c.step.ensures.for_good) refl)
 
 pub returns-clause-undone : goal.returns-clause-undone
@@ -39,5 +41,6 @@ returns-clause-left c =
 
 pub returns-clause-paced : goal.returns-clause-paced
 returns-clause-paced c = λ paced.
-    paced_on c.step.result c.self.inside.net c.step.new.self (step_on c.step.result c.self.inside.net c.step.new.self c.args.step (subst (λ (s : SideNow). fits s.net.topology c.args.step ≡ true) (sym c.self.view_is) c.requires.fits) c.step.ensures.longer)
+    paced_on c.step.result c.self.inside.net c.step.new.self (step_on c.step.result c.self.inside.net c.step.new.self c.args.step
+    (subst (λ (s : SideNow). fits s.net.topology c.args.step ≡ true) (sym c.self.view_is) c.requires.fits) c.step.ensures.longer)
     (leaves _ _ _ c.step.ensures.left c.step.ensures.for_good) (subst (λ (s : SideNow). IsPacedFromStart s.net) (sym c.self.view_is) paced)

@@ -54,5 +54,6 @@ returns-in_err-append-clause-writes g c =
     (λ m is lacks. lacks (begun-there names m (g.S.Shelf.files c.begin_all.new.shelf)
     (subst (λ n. Stands n [] m (g.S.Shelf.files c.begin_all.new.shelf)) (ap texts c.deref.ensures.value ∙ ap (λ (f : FileNow). f.names) c.file.view_is)
     (c.in_ok-begin_all.ensures.begun m is))))
-    (subst (λ n. CountedUnless {T = Unit {0}} lacking n (g.S.Shelf.write_faults c.append.new.shelf) (Err c.in_err-append.field-0.0)) c.in_ok-begin_all.ensures.writes
+    (subst (λ n. CountedUnless {T = Unit {0}} lacking n (g.S.Shelf.write_faults c.append.new.shelf) (Err c.in_err-append.field-0.0))
+    c.in_ok-begin_all.ensures.writes
     c.in_err-append.ensures.writes))

@@ -14,5 +14,6 @@ invariant_of-self c =
       kept = simp (c.push_reserved.ensures.items, c.push_reserved-2.ensures.items)
           (attach_keeps_at c.self.inside.given.items c.self.inside.fecs.items c.self.inside.meanings.items c.self.inside.reusable.items c.self.inside.me.0
           c.self.invariant.kept few c.args.site c.args.attachment c.len.result n);
-      passed = simp c.push_reserved-2.ensures.items (passed_attached c.self.inside.meanings.items c.self.inside.reusable.items c.self.inside.passed _ c.self.invariant.passed);
+      passed = simp c.push_reserved-2.ensures.items
+          (passed_attached c.self.inside.meanings.items c.self.inside.reusable.items c.self.inside.passed _ c.self.invariant.passed);
     }

@@ -23,6 +23,7 @@ returns-else-label-lt-FIRST-clause-meaning c =
 pub returns-else-label-lt-FIRST-clause-means : goal.returns-else-label-lt-FIRST-clause-means
 returns-else-label-lt-FIRST-clause-means c = λ thing.
     let noted = rw c.deref.ensures.value at c.meaning_at.ensures in
-    subst (λ (t : LabelTable). (c.meaning_at.result ≡ Some thing → Means t.labels c.args.label thing) × (Means t.labels c.args.label thing → c.meaning_at.result ≡ Some thing))
+    subst (λ (t : LabelTable). (c.meaning_at.result ≡ Some thing → Means t.labels c.args.label thing) × (Means t.labels c.args.label thing →
+    c.meaning_at.result ≡ Some thing))
     c.self.view_is
     (noted_means _ _ _ _ _ c.self.invariant.kept c.args.label c.if-label-lt-FIRST.false c.meaning_at.result noted thing)

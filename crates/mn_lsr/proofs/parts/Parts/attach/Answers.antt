@@ -37,6 +37,7 @@ returns-clause-stands c =
     attached_then p st site label number c.attach.new.self c.set_site.new.self _ c.in-Some.ensures.label.0 labels_is
     (c.attach.ensures.me ∙ c.reserve.ensures.me) c.given-given.ensures.told c.in-Some.ensures.fresh
     c.in-Ok-set_site.ensures.set c.in-Ok-set_site.ensures.others
-    (counted_once_more site label number c.from.result c.in-Ok.count p.labels.labels.given c.attach.new.self.labels.given c.attached_so_far.new.attached.items p.attached.items
+    (counted_once_more site label number c.from.result c.in-Ok.count p.labels.labels.given c.attach.new.self.labels.given c.attached_so_far.new.attached.items
+    p.attached.items
     given_is c.from.ensures c.in-Ok.ensures.count c.in-Ok.ensures.same
     c.in-Ok.ensures.there st.attached)

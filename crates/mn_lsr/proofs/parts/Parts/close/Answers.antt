@@ -17,7 +17,8 @@ use Rattle.mn_lsr.proofs.parts.Parts.close.Goals.{In_ok-tell}
 
 pub tell-requires-clause-numbers : goal.tell-requires-clause-numbers
 tell-requires-clause-numbers c =
-    set-fits c.args.self.now.sessions.items c.set_session.new.self.sessions.items c.args.link.0 (length c.new-out.result.items) None c.in_ok-set_session.ensures.set
+    set-fits c.args.self.now.sessions.items c.set_session.new.self.sessions.items c.args.link.0
+    (length c.new-out.result.items) None c.in_ok-set_session.ensures.set
     (omega arith) (by-ends c.args.self.now (length c.new-out.result.items) c.requires.numbers)
 
 pub tell-requires-clause-follow : goal.tell-requires-clause-follow

@@ -70,7 +70,8 @@ pub apply-requires-clause-few : goal.apply-requires-clause-few
 apply-requires-clause-few c =
     let n : ℕ = length c.args.out.now.items in
     let small : n < 2 ^ 63 = search rules in
-    let told = tells-few c.args.self.now.lib.bindings c.args.events.now (omega (arith, c.requires.follow.lib_nodes, c.requires.follow.few)) c.requires.follow.short in
+    let told = tells-few c.args.self.now.lib.bindings c.args.events.now (omega (arith, c.requires.follow.lib_nodes, c.requires.follow.few))
+    c.requires.follow.short in
     (2 ^ 62 + n, c.requires.owed, omega (arith, small, told))
 
 pub offer-requires : goal.offer-requires
@@ -82,7 +83,8 @@ offer-requires c = record {
 pub use_new_ways-requires-clause-all : goal.use_new_ways-requires-clause-all
 use_new_ways-requires-clause-all c =
     c.nodes-nodes.ensures.value ∙ c.requires.follow.view_nodes
-    ∙ sym (ap (λ (k : Known). nodes k.bindings) c.in_ok-changed.ensures.after ∙ nodes-after_events c.args.self.now.lib.bindings c.args.events.now ∙ c.requires.follow.lib_nodes)
+    ∙ sym (ap (λ (k : Known). nodes k.bindings) c.in_ok-changed.ensures.after ∙ nodes-after_events c.args.self.now.lib.bindings c.args.events.now
+    ∙ c.requires.follow.lib_nodes)
 
 pub use_new_ways-requires-clause-there : goal.use_new_ways-requires-clause-there
 use_new_ways-requires-clause-there c =
@@ -96,7 +98,8 @@ offered_is c = record {
   free_are = all_numbered c.args.self.now c.args.tick;
   newly_are = c.in_ok-changed.ensures.begun;
   offered_is =
-      shown c.args.self.now c.args.events.now c.args.tick c.nodes-nodes.result c.offer.new.self.labels c.in_ok-free.free.items c.in_ok-changed.changed.begun.items
+      shown c.args.self.now c.args.events.now c.args.tick c.nodes-nodes.result c.offer.new.self.labels c.in_ok-free.free.items
+      c.in_ok-changed.changed.begun.items
       (c.nodes-nodes.ensures.value ∙ c.requires.follow.view_nodes) c.in_ok-free.ensures c.in_ok-changed.ensures.begun
       (renamed c.args.self.now c.offer.new.self.labels c.deref.result.now c.deref-2.result.now c.in_ok-changed.changed.begun.items c.in_ok-free.free.items
       c.in_ok-offer.ensures.after c.deref.ensures.value c.deref-2.ensures.value);
@@ -106,8 +109,10 @@ offered_is c = record {
 
 pub say_all-requires-clause-may : goal.say_all-requires-clause-may
 say_all-requires-clause-may c =
-    subst (MayTell (length c.deref-3.result.now) c.args.self.now.me.0 c.offer.new.self.labels c.args.withdrawn) (sym (c.deref-5.ensures.value ∙ c.in_ok-changed.ensures.tells))
-    (subst (λ (xs : List ℕ). MayTell (length xs) c.args.self.now.me.0 c.offer.new.self.labels c.args.withdrawn (tells c.args.self.now.lib.bindings c.args.events.now))
+    subst (MayTell (length c.deref-3.result.now) c.args.self.now.me.0 c.offer.new.self.labels c.args.withdrawn) (sym (c.deref-5.ensures.value
+    ∙ c.in_ok-changed.ensures.tells))
+    (subst (λ (xs : List ℕ). MayTell (length xs) c.args.self.now.me.0 c.offer.new.self.labels c.args.withdrawn
+    (tells c.args.self.now.lib.bindings c.args.events.now))
     (sym c.deref-3.ensures.value)
     (may_tell c.args.self.now c.args.withdrawn c.args.events.now c.requires.follow c.args.tick c.offer.new.self
     (offered_is (goal.at.say_all-requires-clause-may c).After-given-given)))
@@ -127,7 +132,8 @@ returns c =
     let bindings = ap (λ (k : Known). k.bindings) c.in_ok-changed.ensures.after in
     both_ok c.use_new_ways.result _ _
     (HasTold p q c.args.withdrawn c.args.tick es (map pdu_of c.args.out.now.items) (map pdu_of c.say_all.new.out.items))
-    (λ (table : (label : ℕ) → IsUseOf (usable (after_events p.lib.bindings es)) (meaning_of q.labels.labels label) (use_of q.lfib label)) (sites : SitesStay p q). record {
+    (λ (table : (label : ℕ) → IsUseOf (usable (after_events p.lib.bindings es)) (meaning_of q.labels.labels label) (use_of q.lfib label))
+    (sites : SitesStay p q). record {
       said = search rules;
       counted = search rules;
       known = c.in_ok-changed.ensures.after;
@@ -138,8 +144,10 @@ returns c =
       others = refl;
     })
     (both_ok c.use_new_ways.result _ _ _
-    (table_is p c.args.withdrawn es c.requires.follow c.args.tick c.offer.new.self newly c.nodes-nodes.result many c.apply.new.self.bindings bindings c.use_new_ways.new.lfib)
+    (table_is p c.args.withdrawn es c.requires.follow c.args.tick c.offer.new.self newly c.nodes-nodes.result many c.apply.new.self.bindings bindings
+    c.use_new_ways.new.lfib)
     c.use_new_ways.ensures.ways c.use_new_ways.ensures.others)
     (both_ok c.use_new_ways.result _ _ _
-    (sites_are p c.args.withdrawn es c.requires.follow c.args.tick c.offer.new.self newly c.nodes-nodes.result many c.apply.new.self.bindings bindings c.use_new_ways.new.lfib)
+    (sites_are p c.args.withdrawn es c.requires.follow c.args.tick c.offer.new.self newly c.nodes-nodes.result many c.apply.new.self.bindings bindings
+    c.use_new_ways.new.lfib)
     c.use_new_ways.ensures.ways c.use_new_ways.ensures.others)

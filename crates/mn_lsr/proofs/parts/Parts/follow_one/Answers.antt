@@ -22,7 +22,8 @@ returns-then-is_aside c =
     let p = c.args.self.now in
     record {
       said =
-          sym (ap (λ (ts : List Tell). map pdu_of c.args.out.now.items ++ pdus_by (wiring_in p) p.me.0 (own_labels p.me.0 p.labels.labels) c.args.withdrawn p.sessions.items
+          sym (ap (λ (ts : List Tell). map pdu_of c.args.out.now.items ++ pdus_by (wiring_in p) p.me.0 (own_labels p.me.0 p.labels.labels) c.args.withdrawn
+          p.sessions.items
           (flat_map (said_by_tell (wiring_in p) p.me.0) ts)) c.hear_aside.ensures.tells
           ∙ append-nil (map pdu_of c.args.out.now.items));
       counted =

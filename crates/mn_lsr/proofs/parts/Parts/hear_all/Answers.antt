@@ -29,7 +29,8 @@ loop-message-preserved c =
     (after_message (wiring_in p) c.args.tick l (kept_of q) (message_in (wiring_in p) (slice_index_or ms i d).body)).said =
     c.in_ok-hear.ensures.said
     ∙ ap (λ (w : Wiring). map pdu_of c.loop-message.out.items ++ (after_message w c.args.tick l (kept_of q) (message_in w d.body)).said) wiring
-    ∙ ap (λ (m : LdpMessage). map pdu_of c.loop-message.out.items ++ (after_message (wiring_in p) c.args.tick l (kept_of q) (message_in (wiring_in p) m.body)).said) item
+    ∙ ap (λ (m : LdpMessage). map pdu_of c.loop-message.out.items
+    ++ (after_message (wiring_in p) c.args.tick l (kept_of q) (message_in (wiring_in p) m.body)).said) item
     in
     record {
       stands = c.in_ok-hear.ensures.stands;

@@ -53,21 +53,23 @@ returns-clause-numbers c =
     (flat_map (said_by_tell (wiring_in r) r.me.0) (tells r.lib.bindings (option_to_list c.event_of-event.result))) c.reply.new.out.items
     c.tell.new.out.items c.in_ok-tell.ensures.counted c.in_ok-tell.ensures.said (reply_fits at.In_ok-reply (set_fits at.In_ok-set_session))
 
--- the end hears the message
+-- the end receives the message
 abbrev event : In_ok-set_session → Event
 event c = Hears c.args.link.0 (meaning c.args.heard.0) c.args.heard.1
 
 happens : (c : In_ok-set_session) →
     Happens c.args.self.now (event c) c.args.self.now.view.counts (option_to_list c.event_of-event.result) c.set_session.new.self.sessions.items c.args.link.0
     (replied c.in-Ok.reply)
-    × ((labels : Labels) → MayTell (length c.args.self.now.loopbacks.items) c.args.self.now.me.0 labels c.args.heard.1 (releases (option_to_list c.event_of-event.result)))
+    × ((labels : Labels) → MayTell (length c.args.self.now.loopbacks.items) c.args.self.now.me.0 labels c.args.heard.1
+    (releases (option_to_list c.event_of-event.result)))
 happens c =
     let p = c.args.self.now in
     let l = c.args.link.0 in
     let m = meaning c.args.heard.0 in
     let label = c.args.heard.1 in
     let body = c.args.message.now.body in
-    hearing-as p c.requires.stands l c.requires.there c.in-Some.was (sym c.session.ensures ∙ c.in-Some.is) body m label c.in-Ok.reply c.hear.new.self c.far.result
+    hearing-as p c.requires.stands l c.requires.there c.in-Some.was (sym c.session.ensures
+    ∙ c.in-Some.is) body m label c.in-Ok.reply c.hear.new.self c.far.result
     (option_to_list c.event_of-event.result) c.set_session.new.self.sessions.items
     (meant-is (wiring_in p) body m label c.requires.lawful c.requires.meant) c.in-Ok.ensures.table c.in-Ok.ensures.ends c.far.ensures
     (c.event_of-event.ensures ∙ ap (λ b. heard_by c.far.result b m label) c.begins.ensures) c.in_ok-set_session.ensures.set
@@ -102,7 +104,8 @@ tell-requires-clause-follow c =
     let at = goal.at.tell-requires-clause-follow c in
     let r = said at.In_ok-reply in
     let h = happens at.In_ok-set_session in
-    may-follow-then c.args.self.now c.requires.stands (event at.In_ok-set_session) (option_to_list c.event_of-event.result) c.set_session.new.self.sessions.items c.args.link.0
+    may-follow-then c.args.self.now c.requires.stands (event at.In_ok-set_session) (option_to_list c.event_of-event.result)
+    c.set_session.new.self.sessions.items c.args.link.0
     c.in-Ok.reply h.0 c.reply.new.self c.reply.new.self.sessions c.args.heard.1 r.parts r.ends_are h.1
 
 pub returns-clause-stands : goal.returns-clause-stands
@@ -123,7 +126,8 @@ returns-clause-said c =
     let e = event at.In_ok-set_session in
     let done_is = done at.In_ok-set_session _ _ (said at.In_ok-reply) _ _ (told at.In_ok-tell) in
     done_is.said
-    ∙ ap (λ (labels : Labels). map pdu_of c.args.out.now.items ++ pdus w (own_labels c.args.self.now.me.0 labels) c.args.heard.1 (changed w node e) (said_as w node e))
+    ∙ ap (λ (labels : Labels). map pdu_of c.args.out.now.items ++ pdus w (own_labels c.args.self.now.me.0 labels) c.args.heard.1 (changed w node e)
+    (said_as w node e))
     (ap (λ (k : Kept). k.labels) done_is.kept)
 
 pub returns-clause-machine : goal.returns-clause-machine
@@ -149,6 +153,7 @@ tell-requires-clause-owed c =
     subst (λ (x : Parts). AreFew (2 ^ 62 + n) x.lib.resting) (sym c.in_ok-reply.ensures.others)
     (subst (λ (x : Parts). AreFew (2 ^ 62 + n) x.lib.resting) (sym c.set_session.ensures.others)
     (few-still p (length c.args.out.now.items) n
-    (said-more (wiring_in q) q.me.0 (own_labels q.me.0 q.labels.labels) 0 q.sessions.items (said_on c.args.link.0 q.me.0 (replied c.in-Ok.reply)) c.args.out.now.items
+    (said-more (wiring_in q) q.me.0 (own_labels q.me.0 q.labels.labels) 0 q.sessions.items (said_on c.args.link.0 q.me.0 (replied c.in-Ok.reply))
+    c.args.out.now.items
     c.reply.new.out.items c.in_ok-reply.ensures.said)
     (few-owed p c.requires.stands (length c.args.out.now.items) c.requires.numbers)))

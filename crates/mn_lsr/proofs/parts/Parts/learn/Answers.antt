@@ -45,24 +45,28 @@ follow-requires-clause-numbers c = by-ends c.args.self.now (length c.new-out.res
 events : (c : After-deref) →
     c.deref.result.now ≡ hop_events c.args.self.now.me.0 c.args.self.now.lib.bindings.hops c.tree-tree.result.now (length c.args.self.now.loopbacks.items)
 events c =
-    events-of c.args.self.now c.requires.stands c.args.link.0 c.learn.new.self c.tree-tree.result.now c.nodes-nodes.result c.in-Ok-new_hops.events.items c.deref.result.now
+    events-of c.args.self.now c.requires.stands c.args.link.0 c.learn.new.self c.tree-tree.result.now c.nodes-nodes.result c.in-Ok-new_hops.events.items
+    c.deref.result.now
     c.in-Ok.ensures.learned c.nodes-nodes.ensures.value c.in-Ok-new_hops.ensures c.deref.ensures.value
 
 happens : (c : After-deref) →
-    Happens c.args.self.now (Learns c.args.link.0) (after_learn c.args.self.now.view c.args.link.0).counts c.deref.result.now c.args.self.now.sessions.items 0 []
+    Happens c.args.self.now (Learns c.args.link.0) (after_learn c.args.self.now.view c.args.link.0).counts c.deref.result.now c.args.self.now.sessions.items 0
+    []
 happens c =
     let p = c.args.self.now in
     let st = c.requires.stands in
     let l = c.args.link.0 in
     let tree_is =
     tree-then p st l c.requires.there c.learn.new.self c.in-Ok.ensures.learned c.up-up.result c.up-up.ensures c.turn_telling.new.self
-    c.turn_telling.ensures.of c.in-Ok-turn_telling.ensures.turned c.in-Ok-turn_telling.ensures.ok.1 c.tree-tree.result.now c.tree-tree.ensures.value c.tree-tree.ensures.least in
+    c.turn_telling.ensures.of c.in-Ok-turn_telling.ensures.turned c.in-Ok-turn_telling.ensures.ok.1 c.tree-tree.result.now c.tree-tree.ensures.value
+    c.tree-tree.ensures.least in
     subst (λ (es : List LibEvent). Happens p (Learns l) (after_learn p.view l).counts es p.sessions.items 0 []) (sym (events c))
     (learning p st l c.tree-tree.result.now tree_is)
 
 -- the node once they are followed
 done : (c : In-Ok-follow) →
-    Happens c.args.self.now (Learns c.args.link.0) (after_learn c.args.self.now.view c.args.link.0).counts c.deref.result.now c.args.self.now.sessions.items 0 []
+    Happens c.args.self.now (Learns c.args.link.0) (after_learn c.args.self.now.view c.args.link.0).counts c.deref.result.now c.args.self.now.sessions.items 0
+    []
     → Stands c.follow.new.self
     × (kept_of c.follow.new.self ≡ kept_then (wiring_in c.args.self.now) c.args.tick (kept_of c.args.self.now) (Learns c.args.link.0))
 done c happens =
@@ -77,16 +81,20 @@ done c happens =
     (flat_map (said_by_tell (record { loopbacks = p.loopbacks.items; ends = p.view.ends }) p.me.0) (tells p.lib.bindings c.deref.result.now)) =
     c.in-Ok-follow.ensures.counted
     ∙ ap (λ (v : Learned). ends_after p.sessions.items
-    (flat_map (said_by_tell (record { loopbacks = p.loopbacks.items; ends = v.ends }) p.me.0) (tells p.lib.bindings c.deref.result.now))) c.in-Ok.ensures.learned
+    (flat_map (said_by_tell (record { loopbacks = p.loopbacks.items; ends = v.ends }) p.me.0) (tells p.lib.bindings c.deref.result.now)))
+    c.in-Ok.ensures.learned
     in
-    let is : IsThen p st (Learns l) (after_learn p.view l).counts c.deref.result.now p.sessions.items 0 [] happens c.args.tick c.learn.new.self q.sessions q.lib q.labels =
+    let is : IsThen p st (Learns l) (after_learn p.view l).counts c.deref.result.now p.sessions.items 0 [] happens c.args.tick c.learn.new.self q.sessions q.lib
+    q.labels =
     record { view_is = c.in-Ok.ensures.learned; known_is = c.in-Ok-follow.ensures.known; ends_are = counted; labels_are = c.in-Ok-follow.ensures.labels } in (
       subst Stands (sym c.in-Ok-follow.ensures.others)
-          (stands-then p st (Learns l) (after_learn p.view l).counts c.deref.result.now p.sessions.items 0 [] happens c.args.tick c.learn.new.self c.turn_telling.new.self
+          (stands-then p st (Learns l) (after_learn p.view l).counts c.deref.result.now p.sessions.items 0 [] happens c.args.tick c.learn.new.self
+          c.turn_telling.new.self
           q.sessions q.lib q.labels q.lfib is (length-set p.view.counts l (slice_index p.view.counts l + 1)) mended_is c.in-Ok-follow.ensures.have
           c.in-Ok-follow.ensures.table),
       ap kept_of c.in-Ok-follow.ensures.others
-          ∙ kept-of p st (Learns l) (after_learn p.view l).counts c.deref.result.now p.sessions.items 0 [] happens c.args.tick c.learn.new.self c.turn_telling.new.self q.sessions
+          ∙ kept-of p st (Learns l) (after_learn p.view l).counts c.deref.result.now p.sessions.items 0 [] happens c.args.tick c.learn.new.self
+          c.turn_telling.new.self q.sessions
           q.lib q.labels q.lfib is,
     )
 
@@ -96,7 +104,8 @@ follow-requires-clause-follow c =
     let p = c.args.self.now in
     let st = c.requires.stands in
     let l = c.args.link.0 in
-    may-follow p st (Learns l) (after_learn p.view l).counts c.deref.result.now p.sessions.items 0 [] (happens at.After-deref) c.learn.new.self c.turn_telling.new.self
+    may-follow p st (Learns l) (after_learn p.view l).counts c.deref.result.now p.sessions.items 0 [] (happens at.After-deref) c.learn.new.self
+    c.turn_telling.new.self
     p.sessions 0 c.in-Ok.ensures.learned (sym (length-machines p.sessions.items) ∙ st.ends.one_each)
     (releases-of p c.tree-tree.result.now 0 c.deref.result.now (events at.After-deref))
 
@@ -136,5 +145,7 @@ returns-clause-said c =
     (flat_map (said_by_tell (record { loopbacks = p.loopbacks.items; ends = c.learn.new.self.ends }) p.me.0) (tells p.lib.bindings c.deref.result.now)))
     c.new-out.ensures.items
     ∙ ap (λ (v : Learned). pdus_by (record { loopbacks = p.loopbacks.items; ends = v.ends }) p.me.0 own 0 p.sessions.items
-    (flat_map (said_by_tell (record { loopbacks = p.loopbacks.items; ends = v.ends }) p.me.0) (tells p.lib.bindings c.deref.result.now))) c.in-Ok.ensures.learned
-    ∙ said-then p st (Learns l) (after_learn p.view l).counts c.deref.result.now p.sessions.items 0 [] (happens (goal.at.returns-clause-said c).After-deref) own 0
+    (flat_map (said_by_tell (record { loopbacks = p.loopbacks.items; ends = v.ends }) p.me.0) (tells p.lib.bindings c.deref.result.now)))
+    c.in-Ok.ensures.learned
+    ∙ said-then p st (Learns l) (after_learn p.view l).counts c.deref.result.now p.sessions.items 0 [] (happens (goal.at.returns-clause-said c).After-deref) own
+    0

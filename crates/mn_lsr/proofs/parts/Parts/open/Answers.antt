@@ -17,7 +17,7 @@ reply-requires-clause-numbers c =
     (Some (record { session = c.open-session.result; said = 0 })) c.in_ok-set_session.ensures.set (omega arith)
     (by-ends c.args.self.now (length c.new-out.result.items) c.requires.numbers)
 
--- the node once it has said what a session that begins says
+-- the node once it has sent what a session that begins says
 done : (c : In_ok-reply) (tick : ℕ) →
     IsAfter c.args.self.now c.reply.new.self 0 tick (Opens c.args.link.0) (map pdu_of c.new-out.result.items) (map pdu_of c.reply.new.out.items)
 done c tick =

@@ -24,21 +24,26 @@ returns-in-None c =
     let p = c.args.self.now in
     record {
       said =
-          sym (ap (λ (e : Option LibEvent). map pdu_of c.args.out.now.items ++ pdus_by (wiring_in p) p.me.0 (own_labels p.me.0 p.labels.labels) c.args.withdrawn p.sessions.items
+          sym (ap (λ (e : Option LibEvent). map pdu_of c.args.out.now.items ++ pdus_by (wiring_in p) p.me.0 (own_labels p.me.0 p.labels.labels) c.args.withdrawn
+          p.sessions.items
           (flat_map (said_by_tell (wiring_in p) p.me.0) (tells p.lib.bindings (option_to_list e)))) c.in-None.is
-          ∙ ap (λ (ts : List Tell). map pdu_of c.args.out.now.items ++ pdus_by (wiring_in p) p.me.0 (own_labels p.me.0 p.labels.labels) c.args.withdrawn p.sessions.items
+          ∙ ap (λ (ts : List Tell). map pdu_of c.args.out.now.items ++ pdus_by (wiring_in p) p.me.0 (own_labels p.me.0 p.labels.labels) c.args.withdrawn
+          p.sessions.items
           (flat_map (said_by_tell (wiring_in p) p.me.0) ts)) (no_tells p.lib.bindings)
           ∙ append-nil (map pdu_of c.args.out.now.items));
       counted =
-          sym (ap (λ (e : Option LibEvent). ends_after p.sessions.items (flat_map (said_by_tell (wiring_in p) p.me.0) (tells p.lib.bindings (option_to_list e)))) c.in-None.is
+          sym (ap (λ (e : Option LibEvent). ends_after p.sessions.items
+          (flat_map (said_by_tell (wiring_in p) p.me.0) (tells p.lib.bindings (option_to_list e)))) c.in-None.is
           ∙ ap (λ (ts : List Tell). ends_after p.sessions.items (flat_map (said_by_tell (wiring_in p) p.me.0) ts)) (no_tells p.lib.bindings));
       known =
           known_none p.lib c.args.tick ∙ sym (ap (λ (e : Option LibEvent). known_after p.lib (option_to_list e) c.args.tick) c.in-None.is);
       labels =
-          sym (ap (λ (e : Option LibEvent). offered (is_free p.lib c.args.tick) p.labels.labels (begun p.lib.bindings (after_events p.lib.bindings (option_to_list e)))) c.in-None.is
+          sym (ap (λ (e : Option LibEvent). offered (is_free p.lib c.args.tick) p.labels.labels
+          (begun p.lib.bindings (after_events p.lib.bindings (option_to_list e)))) c.in-None.is
           ∙ ap (offered (is_free p.lib c.args.tick) p.labels.labels) (none_begun p.lib.bindings));
       have =
-          subst (λ (e : Option LibEvent). HaveLabels p.me.0 (length p.loopbacks.items) (after_events p.lib.bindings (option_to_list e)) p.labels) (sym c.in-None.is)
+          subst (λ (e : Option LibEvent). HaveLabels p.me.0 (length p.loopbacks.items) (after_events p.lib.bindings (option_to_list e)) p.labels)
+          (sym c.in-None.is)
           c.requires.follow.labels;
       table =
           subst (λ (e : Option LibEvent). (label : ℕ) → IsUseOf (usable (after_events p.lib.bindings (option_to_list e))) (meaning_of p.labels.labels label)

@@ -9,7 +9,8 @@ use Rattle.mn_mail.proofs.Letters.{first_on, some_first}
 use Rattle.mn_mail.proofs.mail.Mail.has.Goals as goal
 
 -- whether the channel holds an item says whether such a letter flies
-there : (n made m from to k : ℕ) (items : List (Item Letter)) {first : Option (Item Letter)} → first ≡ slice_get (on_channel k items) 0 → k ≡ channel m from to →
+there : (n made m from to k : ℕ) (items : List (Item Letter)) {first : Option (Item Letter)} → first ≡ slice_get (on_channel k items) 0 →
+    k ≡ channel m from to →
     m ≡ n → to < m → AllByRecursion (IsInPlace n made) items → is_some first ≡ is_some (first_from_to from to (letters_of items))
 there n made m from to k items e on same below each =
     ap is_some (first_on items n m from to k e on same) ∙ some_first n made from to items (subst (λ x. to < x) same below) each

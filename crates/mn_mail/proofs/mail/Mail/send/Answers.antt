@@ -8,7 +8,8 @@ pub invariant_of-self : goal.invariant_of-self
 invariant_of-self c =
     let nodes : c.args.self.now.nodes ≡ c.self.inside.nodes = ap (λ (m : Mail). m.nodes) (sym c.self.view_is) in
     let on : c.channel-channel.result ≡ channel c.self.inside.nodes c.args.letter.from c.args.letter.to =
-    c.channel-channel.ensures ∙ ap (λ n. channel n c.letter.inside.from.0 c.letter.inside.to.0) nodes ∙ ap (λ (l : Letter). channel c.self.inside.nodes l.from l.to) c.letter.view_is in
+    c.channel-channel.ensures ∙ ap (λ n. channel n c.letter.inside.from.0 c.letter.inside.to.0) nodes
+    ∙ ap (λ (l : Letter). channel c.self.inside.nodes l.from l.to) c.letter.view_is in
     let more : IsMail c.self.inside.nodes (c.self.inside.sent + 1) c.push.new.self.channels c.push.new.self.items =
     mail_more c.self.inside.nodes c.self.inside.sent c.self.inside.flight.channels c.push.new.self.channels c.channel-channel.result
     c.self.inside.flight.items c.push.new.self.items c.args.letter

@@ -23,7 +23,8 @@ returns-in_err-refusal-clause-answer c = λ ps h.
     let last = rest_last now.topology now.journal ps c.args.damage c.args.packet.now (c.has_no_message.ensures.one c.if-has_no_message.false ps h)
     (sym c.in-Ok.ensures ∙ c.if-reads.false) in
     let why = ap (λ s. refusal now.topology now.journal ps s []) (sym c.ending-step.ensures) ∙ c.in_err-refusal.ensures.exact ps h in
-    rw (handed.1, handed.2) (refused_so Done (damage_refusal now.topology now.journal ps c.args.damage c.args.packet.now) c.in_err-refusal.field-0.0 (last ∙ why))
+    rw (handed.1, handed.2) (refused_so Done (damage_refusal now.topology now.journal ps c.args.damage c.args.packet.now) c.in_err-refusal.field-0.0 (last
+    ∙ why))
 
 pub perform-requires : goal.perform-requires
 perform-requires c =

@@ -100,11 +100,13 @@ pub invariant_of-self-2 : goal.invariant_of-self-2
 invariant_of-self-2 c = λ works.
     let may = net_may _ _ (step.Inject c.args.site c.args.number) c.args.packet.now c.self.view_is c.requires.may in
     (as_it_is _ _ (step.Inject c.args.site c.args.number) c.args.packet.now c.reserve_entry.new.journal.items c.push_reserved.new.self.items _
-    (goes_on (goal.at.invariant_of-self-2 c).After-from-made (λ i. (c.type_inv.packet i).fits)) may.works c.reserve_entry.ensures.items c.push_reserved.ensures.items).is
+    (goes_on (goal.at.invariant_of-self-2 c).After-from-made (λ i. (c.type_inv.packet i).fits)) may.works c.reserve_entry.ensures.items
+    c.push_reserved.ensures.items).is
 
 pub returns-clause-done : goal.returns-clause-done
 returns-clause-done c =
     let may = net_may _ _ (step.Inject c.args.site c.args.number) c.args.packet.now c.self.view_is c.requires.may in
     net_done _ _ _ (step.Inject c.args.site c.args.number) c.args.packet.now c.self.view_is
     (as_it_is _ _ (step.Inject c.args.site c.args.number) c.args.packet.now c.reserve_entry.new.journal.items c.push_reserved.new.self.items _
-    (goes_on (goal.at.returns-clause-done c).After-from-made (λ i. (c.type_inv.packet i).fits)) may.works c.reserve_entry.ensures.items c.push_reserved.ensures.items)
+    (goes_on (goal.at.returns-clause-done c).After-from-made (λ i. (c.type_inv.packet i).fits)) may.works c.reserve_entry.ensures.items
+    c.push_reserved.ensures.items)

@@ -25,4 +25,5 @@ returns-clause-forward c = λ inputs stands.
     let is = net_is _ _ c.self.view_is c.self.invariant stands.works in
     let now = subst (λ (n : NetNow). StandsFor n inputs) (sym c.self.view_is) stands in
     subst (λ (n : NetNow). GoesForward n.topology (tick_from 0 n.journal) (packets_of n.topology n.journal inputs) n.tick) c.self.view_is
-    (goes_forward c.self.inside.topology c.self.inside.journal.items inputs _ c.self.inside.tick c.laws.ensures now.stands.lawful now.stands.frames is.late is.due)
+    (goes_forward c.self.inside.topology c.self.inside.journal.items inputs _ c.self.inside.tick c.laws.ensures now.stands.lawful now.stands.frames is.late
+    is.due)

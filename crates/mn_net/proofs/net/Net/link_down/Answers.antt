@@ -22,7 +22,8 @@ pub overflow_add-self : goal.overflow_add-self
 overflow_add-self c =
     let may = net_may _ _ (step.LinkDown c.args.link) [] c.self.view_is c.requires.may in
     let few = later_fits _ _ (step.LinkDown c.args.link) [] c.laws.ensures
-    (down_done _ c.args.link c.link_down.new.self c.link_down-2.new.self c.in_ok-more.more (c.self.inside.made + c.in_ok-more.more) c.routes_stay_as_they_were.ensures
+    (down_done _ c.args.link c.link_down.new.self c.link_down-2.new.self c.in_ok-more.more (c.self.inside.made + c.in_ok-more.more)
+    c.routes_stay_as_they_were.ensures
     c.laws.ensures
     (c.self.invariant may.works) may c.in_ok-more.ensures.did c.link_down-2.ensures.moved c.link_down-2.ensures.left c.link_down-2.ensures.counts
     refl) in
@@ -32,7 +33,8 @@ pub invariant_of-self-2 : goal.invariant_of-self-2
 invariant_of-self-2 c = λ works.
     let may = net_may _ _ (step.LinkDown c.args.link) [] c.self.view_is c.requires.may in
     (as_it_is _ _ (step.LinkDown c.args.link) [] c.reserve_entry.new.journal.items c.push_reserved.new.self.items _
-    (down_done _ c.args.link c.link_down.new.self c.link_down-2.new.self c.in_ok-more.more (c.self.inside.made + c.in_ok-more.more) c.routes_stay_as_they_were.ensures
+    (down_done _ c.args.link c.link_down.new.self c.link_down-2.new.self c.in_ok-more.more (c.self.inside.made + c.in_ok-more.more)
+    c.routes_stay_as_they_were.ensures
     c.laws.ensures
     (c.self.invariant may.works) may c.in_ok-more.ensures.did c.link_down-2.ensures.moved c.link_down-2.ensures.left c.link_down-2.ensures.counts
     refl) may.works c.reserve_entry.ensures.items c.push_reserved.ensures.items).is
@@ -42,7 +44,8 @@ returns-clause-done c =
     let may = net_may _ _ (step.LinkDown c.args.link) [] c.self.view_is c.requires.may in
     net_done _ _ _ (step.LinkDown c.args.link) [] c.self.view_is
     (as_it_is _ _ (step.LinkDown c.args.link) [] c.reserve_entry.new.journal.items c.push_reserved.new.self.items _
-    (down_done _ c.args.link c.link_down.new.self c.link_down-2.new.self c.in_ok-more.more (c.self.inside.made + c.in_ok-more.more) c.routes_stay_as_they_were.ensures
+    (down_done _ c.args.link c.link_down.new.self c.link_down-2.new.self c.in_ok-more.more (c.self.inside.made + c.in_ok-more.more)
+    c.routes_stay_as_they_were.ensures
     c.laws.ensures
     (c.self.invariant may.works) may c.in_ok-more.ensures.did c.link_down-2.ensures.moved c.link_down-2.ensures.left c.link_down-2.ensures.counts
     refl) may.works c.reserve_entry.ensures.items c.push_reserved.ensures.items)

@@ -20,17 +20,20 @@ pub invariant_of-result : goal.invariant_of-result
 invariant_of-result c = λ works.
     (starts_with c.new-5.result.items c.args.topology c.in_ok-transport.transport c.in_ok-routes.routes c.in_ok-transit.transit c.in_ok-tally.tally _
     c.new-5.ensures.items c.in_ok-transport.ensures.stands c.in_ok-routes.ensures.stands c.in_ok-transport.ensures.notices
-    c.in_ok-transport.ensures.messages c.in_ok-routes.ensures.messages (is_start _ _ c.in_ok-transit.ensures.new) c.in_ok-transit.ensures.stands c.in_ok-tally.ensures).0
+    c.in_ok-transport.ensures.messages c.in_ok-routes.ensures.messages (is_start _ _ c.in_ok-transit.ensures.new) c.in_ok-transit.ensures.stands
+    c.in_ok-tally.ensures).0
 
 pub returns-clause-stands : goal.returns-clause-stands
 returns-clause-stands c =
     (starts_with c.new-5.result.items c.args.topology c.in_ok-transport.transport c.in_ok-routes.routes c.in_ok-transit.transit c.in_ok-tally.tally _
     c.new-5.ensures.items c.in_ok-transport.ensures.stands c.in_ok-routes.ensures.stands c.in_ok-transport.ensures.notices
-    c.in_ok-transport.ensures.messages c.in_ok-routes.ensures.messages (is_start _ _ c.in_ok-transit.ensures.new) c.in_ok-transit.ensures.stands c.in_ok-tally.ensures).1
+    c.in_ok-transport.ensures.messages c.in_ok-routes.ensures.messages (is_start _ _ c.in_ok-transit.ensures.new) c.in_ok-transit.ensures.stands
+    c.in_ok-tally.ensures).1
 
 pub returns-clause-labels : goal.returns-clause-labels
 returns-clause-labels c =
     labels_mean _ [] (
     (starts_with c.new-5.result.items c.args.topology c.in_ok-transport.transport c.in_ok-routes.routes c.in_ok-transit.transit c.in_ok-tally.tally _
     c.new-5.ensures.items c.in_ok-transport.ensures.stands c.in_ok-routes.ensures.stands c.in_ok-transport.ensures.notices
-    c.in_ok-transport.ensures.messages c.in_ok-routes.ensures.messages (is_start _ _ c.in_ok-transit.ensures.new) c.in_ok-transit.ensures.stands c.in_ok-tally.ensures).1)
+    c.in_ok-transport.ensures.messages c.in_ok-routes.ensures.messages (is_start _ _ c.in_ok-transit.ensures.new) c.in_ok-transit.ensures.stands
+    c.in_ok-tally.ensures).1)

@@ -32,4 +32,5 @@ returns-in-Some c =
 
 pub returns-in-None : goal.returns-in-None
 returns-in-None c =
-    absurd (no_edge _ _ c.self.view_is c.self.invariant c.requires.works c.laws.ensures c.args.vrf.0 c.requires.vrf _ c.edge_of-node.ensures.edge c.in-None.ensures)
+    absurd (no_edge _ _ c.self.view_is c.self.invariant c.requires.works c.laws.ensures c.args.vrf.0 c.requires.vrf _ c.edge_of-node.ensures.edge
+    c.in-None.ensures)

@@ -31,4 +31,5 @@ returns-clause-labels c = λ ps h. labels_mean _ ps h
 pub returns-in_err-refusal-clause-refused : goal.returns-in_err-refusal-clause-refused
 returns-in_err-refusal-clause-refused c = λ works ps h.
     let handed = err_from_is_err_and c.from_residual.result c.from_residual.ensures.1 in
-    subst (λ (cause : Option Refused). IfSome cause (λ why. c.from_residual.result ≡ Err why)) (sym (c.in_err-refusal.ensures.exact ps h)) (rw (handed.1, handed.2) refl)
+    subst (λ (cause : Option Refused). IfSome cause (λ why. c.from_residual.result ≡ Err why)) (sym (c.in_err-refusal.ensures.exact ps h))
+    (rw (handed.1, handed.2) refl)

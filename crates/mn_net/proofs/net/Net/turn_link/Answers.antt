@@ -23,7 +23,8 @@ pub overflow_add-self : goal.overflow_add-self
 overflow_add-self c =
     let may = net_may _ _ (link_step c.args.turn) [] c.self.view_is c.requires.may in
     let few = later_fits _ _ (link_step c.args.turn) [] c.laws.ensures
-    (link_done _ (link_step c.args.turn) c.act.new.transport c.begin.new.self c.in_ok-more.more (c.self.inside.made + c.in_ok-more.more) c.routes_stay_as_they_were.ensures
+    (link_done _ (link_step c.args.turn) c.act.new.transport c.begin.new.self c.in_ok-more.more (c.self.inside.made + c.in_ok-more.more)
+    c.routes_stay_as_they_were.ensures
     c.laws.ensures
     (c.self.invariant may.works) may (of_links c.args.turn).0 (of_links c.args.turn).1 c.in_ok-more.ensures.did c.begin.ensures.begun refl) in
     omega (arith, few)
@@ -32,7 +33,8 @@ pub invariant_of-self-2 : goal.invariant_of-self-2
 invariant_of-self-2 c = λ works.
     let may = net_may _ _ (link_step c.args.turn) [] c.self.view_is c.requires.may in
     (as_it_is _ _ (link_step c.args.turn) [] c.reserve_entry.new.journal.items c.push_reserved.new.self.items _
-    (link_done _ (link_step c.args.turn) c.act.new.transport c.begin.new.self c.in_ok-more.more (c.self.inside.made + c.in_ok-more.more) c.routes_stay_as_they_were.ensures
+    (link_done _ (link_step c.args.turn) c.act.new.transport c.begin.new.self c.in_ok-more.more (c.self.inside.made + c.in_ok-more.more)
+    c.routes_stay_as_they_were.ensures
     c.laws.ensures
     (c.self.invariant may.works) may (of_links c.args.turn).0 (of_links c.args.turn).1 c.in_ok-more.ensures.did c.begin.ensures.begun refl) may.works
     c.reserve_entry.ensures.items (c.push_reserved.ensures.items ∙ as_said _ _ _ c.step.ensures)).is
@@ -42,7 +44,8 @@ returns-clause-done c =
     let may = net_may _ _ (link_step c.args.turn) [] c.self.view_is c.requires.may in
     net_done _ _ _ (link_step c.args.turn) [] c.self.view_is
     (as_it_is _ _ (link_step c.args.turn) [] c.reserve_entry.new.journal.items c.push_reserved.new.self.items _
-    (link_done _ (link_step c.args.turn) c.act.new.transport c.begin.new.self c.in_ok-more.more (c.self.inside.made + c.in_ok-more.more) c.routes_stay_as_they_were.ensures
+    (link_done _ (link_step c.args.turn) c.act.new.transport c.begin.new.self c.in_ok-more.more (c.self.inside.made + c.in_ok-more.more)
+    c.routes_stay_as_they_were.ensures
     c.laws.ensures
     (c.self.invariant may.works) may (of_links c.args.turn).0 (of_links c.args.turn).1 c.in_ok-more.ensures.did c.begin.ensures.begun refl) may.works
     c.reserve_entry.ensures.items (c.push_reserved.ensures.items ∙ as_said _ _ _ c.step.ensures))

@@ -34,7 +34,8 @@ invariant_of-self-2 c = λ works.
     (told_done _ (route_step c.args.turn) c.act.new.routes c.begin.new.self c.count_static.new.tally c.in_ok-more.more (c.self.inside.made + c.in_ok-more.more)
     c.a_transport_goes_on_as_it_was.ensures c.laws.ensures
     (c.self.invariant may.works) may (of_routes c.args.turn).0 (of_routes c.args.turn).1 c.in_ok-more.ensures.did c.begin.ensures.begun refl
-    (c.count_static.ensures ∙ counts_as _ c.step-step.ensures)) may.works c.reserve_entry.ensures.items (c.push_reserved.ensures.items ∙ as_said _ _ _ c.step-step.ensures)).is
+    (c.count_static.ensures ∙ counts_as _ c.step-step.ensures)) may.works c.reserve_entry.ensures.items (c.push_reserved.ensures.items
+    ∙ as_said _ _ _ c.step-step.ensures)).is
 
 pub returns-clause-done : goal.returns-clause-done
 returns-clause-done c =
@@ -44,4 +45,5 @@ returns-clause-done c =
     (told_done _ (route_step c.args.turn) c.act.new.routes c.begin.new.self c.count_static.new.tally c.in_ok-more.more (c.self.inside.made + c.in_ok-more.more)
     c.a_transport_goes_on_as_it_was.ensures c.laws.ensures
     (c.self.invariant may.works) may (of_routes c.args.turn).0 (of_routes c.args.turn).1 c.in_ok-more.ensures.did c.begin.ensures.begun refl
-    (c.count_static.ensures ∙ counts_as _ c.step-step.ensures)) may.works c.reserve_entry.ensures.items (c.push_reserved.ensures.items ∙ as_said _ _ _ c.step-step.ensures))
+    (c.count_static.ensures ∙ counts_as _ c.step-step.ensures)) may.works c.reserve_entry.ensures.items (c.push_reserved.ensures.items
+    ∙ as_said _ _ _ c.step-step.ensures))

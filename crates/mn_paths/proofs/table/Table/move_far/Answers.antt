@@ -22,8 +22,10 @@ returns c =
     let far_len : vec_len c.args.self.now.far ≡ length far = omega (arith, c.args.self.now.far.ok.0) in
     let start_is : c.len-start.result ≡ length far = omega (arith, c.len-start.ensures, far_len) in
     let most_is : c.from-most.result ≡ p.most = c.from-most.ensures in
-    let much = owed_much paths far (far ++ (p.near ++ replicate (p.most - 6) c.args.node)) n p c.args.node low read each apart full more refl c.args.self.now.owed c.requires.whole.owed in
-    let ok : is_ok c.extend_from_slice.result ≡ true = c.extend_from_slice.ensures.succeeds (omega (arith, c.requires.whole.room, much, mine.near, more, full)) in
+    let much = owed_much paths far (far ++ (p.near ++ replicate (p.most - 6) c.args.node)) n p c.args.node low read each apart full more refl
+    c.args.self.now.owed c.requires.whole.owed in
+    let ok : is_ok c.extend_from_slice.result ≡ true =
+    c.extend_from_slice.ensures.succeeds (omega (arith, c.requires.whole.room, much, mine.near, more, full)) in
     let one : c.extend_from_slice.new.self.items ≡ far ++ p.near =
     c.extend_from_slice.ensures.items ∙ ap (λ b. cond b (far ++ p.near) far) ok in
     let one_len : vec_len c.extend_from_slice.new.self ≡ length far + 6 =
@@ -52,5 +54,6 @@ returns c =
       visits =
           rw start_is
           (visited paths far c.resize.new.self.items n p _ c.args.node low read
-          (λ k d below ne. others paths far c.resize.new.self.items n p c.args.node low read each apart full more is (get_or paths k d) (each k d below)) (moved paths far c.resize.new.self.items n p c.args.node low read each apart full more is));
+          (λ k d below ne. others paths far c.resize.new.self.items n p c.args.node low read each apart full more is (get_or paths k d) (each k d below))
+          (moved paths far c.resize.new.self.items n p c.args.node low read each apart full more is));
     }

@@ -28,5 +28,6 @@ returns-clause-visits c =
       | inl before ↦ inl (omega (arith, before, at, more))
       | inr after ↦ inr (omega (arith, after, at, kept.len))
     ]))
-    (subst (λ i. visits_of (set far i c.args.node) (record { near = p.near; start = p.start; len = p.len + 1; most = p.most }) ≡ further (visits_of far p) c.args.node)
+    (subst (λ i. visits_of (set far i c.args.node) (record { near = p.near; start = p.start; len = p.len + 1; most = p.most })
+    ≡ further (visits_of far p) c.args.node)
     (sym at) (noted_far far p c.args.node many (omega (arith, mine.there is_far, more))))

@@ -10,7 +10,7 @@ use Rattle.mn_pe.proofs.Sound.{heard_then}
 use Rattle.mn_pe.proofs.pe.Pe.hear.Goals as goal
 use Rattle.mn_pe.proofs.pe.Pe.hear.Goals.{In-Ok}
 
--- the VRFs and what was heard are the edge's
+-- the VRFs and what was received are the edge's
 pub hear_withdrawn-requires : goal.hear_withdrawn-requires
 hear_withdrawn-requires c =
     let address : c.args.loopback ≡ slice_index_or c.self.inside.loopbacks.items c.args.peer.0 0 = c.requires.address
@@ -36,7 +36,7 @@ hear_reached-requires-clause-edge c =
 pub hear_reached-requires-clause-labels : goal.hear_reached-requires-clause-labels
 hear_reached-requires-clause-labels c = subst AreLabelled (sym c.reached.ensures) c.requires.labels
 
--- the edge has heard the UPDATE
+-- the edge has received the UPDATE
 heard : (c : In-Ok) → Becomes c.hear_reached.new.vrfs.items c.self.inside.sites.items c.self.inside.labels.items c.self.inside.loopbacks.items
     (slice_set (slice_set c.self.inside.heard.items c.args.peer.0 c.hear_withdrawn.new.heard) c.args.peer.0 c.hear_reached.new.heard)
     (after_update c.args.self.now.edge c.args.peer.0 c.args.update.now)

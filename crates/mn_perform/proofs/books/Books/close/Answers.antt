@@ -33,4 +33,5 @@ returns-clause-framed g c =
 pub returns-clause-writes : goal.returns-clause-writes
 returns-clause-writes g c =
     end_writes c.self.inside.output c.args.self.now c.put_labels.new.output (g.S.Shelf.files c.args.shelf.now) (g.S.Shelf.files c.put_labels.new.shelf) _ _ _
-    c.end.result c.self.view_is c.in_ok-put_labels.ensures.stays.names c.in_ok-put_labels.ensures.stays.framed c.in_ok-put_labels.ensures.stays.writes c.end.ensures.writes
+    c.end.result c.self.view_is c.in_ok-put_labels.ensures.stays.names c.in_ok-put_labels.ensures.stays.framed c.in_ok-put_labels.ensures.stays.writes
+    c.end.ensures.writes

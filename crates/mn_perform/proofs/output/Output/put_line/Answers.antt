@@ -15,7 +15,8 @@ returns-then-file-len-clause-puts g c =
 pub returns-clause-puts : goal.returns-clause-puts
 returns-clause-puts g c =
     let same : texts c.deref.result.now ≡ c.args.self.now.names = ap texts c.deref.ensures.value ∙ ap (λ b. b.names) c.self.view_is in
-    puts_seen (only_in c.args.file (g.L.Line.text c.args.line.now)) (texts c.deref.result.now) c.self.inside.gather c.put_line.new.self c.args.self.now _ _ _ c.put_line.result
+    puts_seen (only_in c.args.file (g.L.Line.text c.args.line.now)) (texts c.deref.result.now) c.self.inside.gather c.put_line.new.self c.args.self.now _ _ _
+    c.put_line.result
     same (ap (λ b. b.held) c.self.view_is) (ap (λ b. b.names) c.self.view_is) refl c.put_line.ensures.grown c.put_line.ensures.part
 
 pub returns-clause-stays : goal.returns-clause-stays

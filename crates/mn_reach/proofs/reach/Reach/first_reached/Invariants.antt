@@ -12,7 +12,9 @@ use Rattle.mn_reach.proofs.reach.Reach.first_reached.Given as goal
 abbrev pub invariant-loop-candidate : goal.invariant-loop-candidate
 invariant-loop-candidate l =
     (topology : Network) → IsOf topology l.self.plan →
-    first_passing (λ route. is_told (config_under topology (failure_of l.self)) l.home.0 route && is_reached topology (config_under topology (failure_of l.self)) l.home.0 route)
+    first_passing (λ route. is_told (config_under topology (failure_of l.self)) l.home.0 route && is_reached topology
+    (config_under topology (failure_of l.self)) l.home.0 route)
     (drop l.candidate-index l.candidates)
-    ≡ first_passing (λ route. is_told (config_under topology (failure_of l.self)) l.home.0 route && is_reached topology (config_under topology (failure_of l.self)) l.home.0 route)
+    ≡ first_passing (λ route. is_told (config_under topology (failure_of l.self)) l.home.0 route && is_reached topology
+    (config_under topology (failure_of l.self)) l.home.0 route)
     l.candidates

@@ -9,5 +9,6 @@ use Rattle.mn_reach.proofs.reach.Reach.first_told.Given as goal
 
 abbrev pub invariant-loop-candidate : goal.invariant-loop-candidate
 invariant-loop-candidate l =
-    (topology : Network) → IsOf topology l.self.plan → first_passing (is_told (config_under topology (failure_of l.self)) l.home.0) (drop l.candidate-index l.candidates)
+    (topology : Network) → IsOf topology l.self.plan →
+    first_passing (is_told (config_under topology (failure_of l.self)) l.home.0) (drop l.candidate-index l.candidates)
     ≡ first_passing (is_told (config_under topology (failure_of l.self)) l.home.0) l.candidates

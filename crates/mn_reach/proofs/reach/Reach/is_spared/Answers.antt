@@ -10,7 +10,8 @@ pub returns-then-are_whole-clause-exact : goal.returns-then-are_whole-clause-exa
 returns-then-are_whole-clause-exact c =
     spared_by c.args.topology.now c.args.self.now c.requires.of c.args.pair c.requires.pair c.index-prospect.result.now
     (c.index-prospect.ensures ∙ ap (λ (r : Reaching). get_or r.plan.prospects c.args.pair c.index-prospect.result.now) c.self.view_is) c.index.result.now
-    (c.index.ensures ∙ ap (λ (r : Reaching). get_or r.plan.pairs c.args.pair c.index.result.now) c.self.view_is) (home_of c.args.topology.now c.index.result.now.site.0) refl
+    (c.index.ensures ∙ ap (λ (r : Reaching). get_or r.plan.pairs c.args.pair c.index.result.now) c.self.view_is)
+    (home_of c.args.topology.now c.index.result.now.site.0) refl
     c.as_slice-then-are_whole.result.now c.as_slice-then-are_whole.ensures c.are_whole.result c.keeps_sessions.result c.as_slice.result.now c.are_whole.ensures
     c.as_slice.ensures c.if-are_whole.true c.keeps_sessions.ensures
 
@@ -19,7 +20,8 @@ returns-then-are_whole-clause-stays c = λ h ttl.
     let exact : c.keeps_sessions.result ≡ is_spared c.args.topology.now c.args.self.now c.args.pair =
     spared_by c.args.topology.now c.args.self.now c.requires.of c.args.pair c.requires.pair c.index-prospect.result.now
     (c.index-prospect.ensures ∙ ap (λ (r : Reaching). get_or r.plan.prospects c.args.pair c.index-prospect.result.now) c.self.view_is) c.index.result.now
-    (c.index.ensures ∙ ap (λ (r : Reaching). get_or r.plan.pairs c.args.pair c.index.result.now) c.self.view_is) (home_of c.args.topology.now c.index.result.now.site.0) refl
+    (c.index.ensures ∙ ap (λ (r : Reaching). get_or r.plan.pairs c.args.pair c.index.result.now) c.self.view_is)
+    (home_of c.args.topology.now c.index.result.now.site.0) refl
     c.as_slice-then-are_whole.result.now c.as_slice-then-are_whole.ensures c.are_whole.result c.keeps_sessions.result c.as_slice.result.now c.are_whole.ensures
     c.as_slice.ensures c.if-are_whole.true c.keeps_sessions.ensures in
     spared_stays c.args.topology.now c.args.self.now c.requires.of c.a_path_that_is_spared_stays.ensures c.args.pair c.requires.pair (sym exact ∙ h) ttl

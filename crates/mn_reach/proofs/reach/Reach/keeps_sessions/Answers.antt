@@ -9,4 +9,5 @@ pub returns-then-is_empty : goal.returns-then-is_empty
 returns-then-is_empty c =
     let none : vec_len c.self.inside.ended ≡ 0 = eqb-true (vec_len c.self.inside.ended) 0 (sym c.is_empty.ensures ∙ c.if-is_empty.true) in
     let empty : c.self.inside.ended.items ≡ [] = nil_from_length c.self.inside.ended.items (omega (arith, c.self.inside.ended.ok.0, none)) in
-    c.if-is_empty.true ∙ sym (none_ended c.args.self.now (home_of c.args.topology.now c.args.site.0) c.args.candidates.now (sym (ap (λ (r : Reaching). r.ended) c.self.view_is) ∙ empty))
+    c.if-is_empty.true ∙ sym (none_ended c.args.self.now (home_of c.args.topology.now c.args.site.0) c.args.candidates.now
+    (sym (ap (λ (r : Reaching). r.ended) c.self.view_is) ∙ empty))

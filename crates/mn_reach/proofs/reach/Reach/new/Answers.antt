@@ -27,4 +27,5 @@ returns-clause-of c =
       edges = ap (λ (w : Switched). w.edges) is ∙ ap numbers_of c.as_slice.ensures.value ∙ c.in_ok-edges.ensures;
       up = ap (λ (w : Switched). w.up) is ∙ ap (λ ls. replicate (length ls) true) c.links-links.ensures;
       sound = ap (λ (w : Switched). w.failed) is;
-    }) c.requires (subst (λ ps. AreFound c.args.topology.now ps (length ps) c.in_ok-prospects.prospects.items) c.as_slice-3.ensures.value c.in_ok-prospects.ensures)
+    }) c.requires (subst (λ ps. AreFound c.args.topology.now ps (length ps) c.in_ok-prospects.prospects.items) c.as_slice-3.ensures.value
+    c.in_ok-prospects.ensures)

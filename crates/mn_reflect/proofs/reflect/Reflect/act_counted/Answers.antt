@@ -12,5 +12,6 @@ next_count-self-inside-requires c =
 pub returns-in-Ok-clause-done : goal.returns-in-Ok-clause-done
 returns-in-Ok-clause-done c = λ labels word heard.
     ap (λ (y : ReflectNow). let x : ReflectNow = record y { done = c.next_count-self-inside.result } in x) c.self.view_is
-    ∙ ap (λ n. let x : ReflectNow = record c.act.new.self { done = n } in x) (c.next_count-self-inside.ensures ∙ ap (λ (x : ReflectNow). x.done + 1) c.self.view_is)
+    ∙ ap (λ n. let x : ReflectNow = record c.act.new.self { done = n } in x) (c.next_count-self-inside.ensures
+    ∙ ap (λ (x : ReflectNow). x.done + 1) c.self.view_is)
     ∙ finishes labels word c.args.step.now c.args.self.now c.act.new.self c.requires.works (c.in-Ok.ensures labels word heard)

@@ -17,16 +17,27 @@ pub add_on_edge-requires-clause-there : goal.add_on_edge-requires-clause-there
 add_on_edge-requires-clause-there c = subst (IsEdgeAt c.args.self.now) (sym (home_so c.self.view_is c.args.site.0 c.home_of-edge.ensures.home)) c.requires.there
 
 pub add_on_edge-requires-clause-free : goal.add_on_edge-requires-clause-free
-add_on_edge-requires-clause-free c = subst (λ k. found_in (vrf_of_site (edge_of_node c.args.self.now.edges k) c.args.site.0) (λ (state : VrfState). add_refused c.args.prefix state) (edge_of_node c.args.self.now.edges k).vrfs ≡ None) (sym (home_so c.self.view_is c.args.site.0 c.home_of-edge.ensures.home)) c.requires.free
+add_on_edge-requires-clause-free c =
+    subst (λ k. found_in (vrf_of_site (edge_of_node c.args.self.now.edges k) c.args.site.0) (λ (state : VrfState). add_refused c.args.prefix state)
+    (edge_of_node c.args.self.now.edges k).vrfs ≡ None) (sym (home_so c.self.view_is c.args.site.0 c.home_of-edge.ensures.home)) c.requires.free
 
 pub tell_peers-requires-clause-exports : goal.tell_peers-requires-clause-exports
 tell_peers-requires-clause-exports c =
     let at = home_so c.self.view_is c.args.site.0 c.home_of-edge.ensures.home in
-    subst AreSayable (sym (c.deref.ensures.value ∙ c.in_ok-come.ensures.come ∙ ap (λ k. those_of (export_of (with_route c.args.site c.args.prefix (edge_of_node c.args.self.now.edges k)) c.args.site.0 c.args.prefix)) at)) c.requires.came
+    subst AreSayable (sym (c.deref.ensures.value ∙ c.in_ok-come.ensures.come
+    ∙ ap (λ k. those_of (export_of (with_route c.args.site c.args.prefix (edge_of_node c.args.self.now.edges k)) c.args.site.0 c.args.prefix)) at))
+    c.requires.came
 
 pub returns : goal.returns
 returns c =
     let at = home_so c.self.view_is c.args.site.0 c.home_of-edge.ensures.home in
     on_ok c.tell_peers.result
-    (λ told. told_so _ _ _ _ at _ true told (λ k. let x : ReflectNow = record (changed_edge k (with_route c.args.site c.args.prefix) c.args.self.now) { statics = c.args.self.now.statics + 1 } in x) (λ k. those_of (export_of (with_route c.args.site c.args.prefix (edge_of_node c.args.self.now.edges k)) c.args.site.0 c.args.prefix)) (ap (λ (y : ReflectNow). let x : ReflectNow = record y { statics = y.statics + 1 } in x) (c.self-2.view_is ∙ c.in_ok-come.ensures.now)) (c.deref.ensures.value ∙ c.in_ok-come.ensures.come))
+    (λ told. told_so _ _ _ _ at _ true told
+    (λ k. let x : ReflectNow = record (changed_edge k (with_route c.args.site c.args.prefix) c.args.self.now) {
+      statics =
+          c.args.self.now.statics + 1;
+    } in x)
+    (λ k. those_of (export_of (with_route c.args.site c.args.prefix (edge_of_node c.args.self.now.edges k)) c.args.site.0 c.args.prefix))
+    (ap (λ (y : ReflectNow). let x : ReflectNow = record y { statics = y.statics + 1 } in x) (c.self-2.view_is
+    ∙ c.in_ok-come.ensures.now)) (c.deref.ensures.value ∙ c.in_ok-come.ensures.come))
     c.tell_peers.ensures

@@ -9,7 +9,8 @@ use Rattle.mn_reflect.proofs.reflect.Reflect.decide_gone.Given as goal
 -- what is decided on the routes to come ends it
 abbrev pub invariant-loop-offered : goal.invariant-loop-offered
 invariant-loop-offered l = record {
-  decided : changed_edge l.edge.0 (decide_all l.fn.self.topology l.fn.self.reflectors (row_at l.fn.self.heard l.edge.0) l.edge.0 (names_in l.offered-iterator)) l.self
+  decided : changed_edge l.edge.0 (decide_all l.fn.self.topology l.fn.self.reflectors (row_at l.fn.self.heard l.edge.0) l.edge.0 (names_in l.offered-iterator))
+      l.self
       ≡ changed_edge l.edge.0 (decide_all l.fn.self.topology l.fn.self.reflectors (row_at l.fn.self.heard l.edge.0) l.edge.0 (names_in l.gone)) l.fn.self;
   same : l.self ≡ record l.fn.self { edges = l.self.edges };
   may : MayTurn l.self l.edge.0;

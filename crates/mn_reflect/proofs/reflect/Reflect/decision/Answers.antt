@@ -9,6 +9,7 @@ decision-requires-clause-reflectors c =
 
 pub decision-requires-clause-heard : goal.decision-requires-clause-heard
 decision-requires-clause-heard c =
-    kept_there c.self.view_is c.self.invariant.shape c.args.edge.0 c.requires.edge c.requires.may c.teller-teller.result.topology.now c.teller-teller.ensures.topology
+    kept_there c.self.view_is c.self.invariant.shape c.args.edge.0 c.requires.edge c.requires.may c.teller-teller.result.topology.now
+    c.teller-teller.ensures.topology
     c.deref.result.now
     (c.deref.ensures.value ∙ heard_row c.self.view_is c.self.invariant.shape c.self.inside.heard.items refl c.from.ensures c.requires.edge c.index.ensures)

@@ -17,16 +17,25 @@ pub del_on_edge-requires-clause-there : goal.del_on_edge-requires-clause-there
 del_on_edge-requires-clause-there c = subst (IsEdgeAt c.args.self.now) (sym (home_so c.self.view_is c.args.site.0 c.home_of-edge.ensures.home)) c.requires.there
 
 pub del_on_edge-requires-clause-free : goal.del_on_edge-requires-clause-free
-del_on_edge-requires-clause-free c = subst (λ k. found_in (vrf_of_site (edge_of_node c.args.self.now.edges k) c.args.site.0) (λ (state : VrfState). del_refused c.args.prefix c.args.site.0 state) (edge_of_node c.args.self.now.edges k).vrfs ≡ None) (sym (home_so c.self.view_is c.args.site.0 c.home_of-edge.ensures.home)) c.requires.free
+del_on_edge-requires-clause-free c =
+    subst (λ k. found_in (vrf_of_site (edge_of_node c.args.self.now.edges k) c.args.site.0) (λ (state : VrfState). del_refused c.args.prefix c.args.site.0
+    state) (edge_of_node c.args.self.now.edges k).vrfs ≡ None) (sym (home_so c.self.view_is c.args.site.0 c.home_of-edge.ensures.home)) c.requires.free
 
 pub tell_peers-requires-clause-exports : goal.tell_peers-requires-clause-exports
 tell_peers-requires-clause-exports c =
     let at = home_so c.self.view_is c.args.site.0 c.home_of-edge.ensures.home in
-    subst AreSayable (sym (c.deref.ensures.value ∙ c.in_ok-gone.ensures.gone ∙ ap (λ k. those_of (export_of (edge_of_node c.args.self.now.edges k) c.args.site.0 c.args.prefix)) at)) c.requires.went
+    subst AreSayable (sym (c.deref.ensures.value ∙ c.in_ok-gone.ensures.gone
+    ∙ ap (λ k. those_of (export_of (edge_of_node c.args.self.now.edges k) c.args.site.0 c.args.prefix)) at)) c.requires.went
 
 pub returns : goal.returns
 returns c =
     let at = home_so c.self.view_is c.args.site.0 c.home_of-edge.ensures.home in
     on_ok c.tell_peers.result
-    (λ told. told_so _ _ _ _ at _ false told (λ k. let x : ReflectNow = record (changed_edge k (without_route c.args.site c.args.prefix) c.args.self.now) { statics = c.args.self.now.statics - 1 } in x) (λ k. those_of (export_of (edge_of_node c.args.self.now.edges k) c.args.site.0 c.args.prefix)) (ap (λ (y : ReflectNow). let x : ReflectNow = record y { statics = y.statics - 1 } in x) (c.self-2.view_is ∙ c.in_ok-gone.ensures.now)) (c.deref.ensures.value ∙ c.in_ok-gone.ensures.gone))
+    (λ told. told_so _ _ _ _ at _ false told
+    (λ k. let x : ReflectNow = record (changed_edge k (without_route c.args.site c.args.prefix) c.args.self.now) {
+      statics =
+          c.args.self.now.statics - 1;
+    } in x) (λ k. those_of (export_of (edge_of_node c.args.self.now.edges k) c.args.site.0 c.args.prefix))
+    (ap (λ (y : ReflectNow). let x : ReflectNow = record y { statics = y.statics - 1 } in x) (c.self-2.view_is
+    ∙ c.in_ok-gone.ensures.now)) (c.deref.ensures.value ∙ c.in_ok-gone.ensures.gone))
     c.tell_peers.ensures

@@ -7,7 +7,8 @@ use Rattle.mn_reflect.proofs.reflect.Reflect.end.Goals as goal
 pub forget-requires-clause-may : goal.forget-requires-clause-may
 forget-requires-clause-may c =
     subst (λ x. MayTurn x c.args.a.0)
-    (sym (cut_so c.args.a.0 c.args.b.0 c.args.self.now c.set_end.new.self c.set_end-2.new.self c.cut.new.self c.set_end.ensures c.set_end-2.ensures c.cut.ensures))
+    (sym (cut_so c.args.a.0 c.args.b.0 c.args.self.now c.set_end.new.self c.set_end-2.new.self c.cut.new.self c.set_end.ensures c.set_end-2.ensures
+    c.cut.ensures))
     (still_turns c.args.self.now c.args.a.0 c.args.b.0 c.args.a.0 c.requires.first)
 
 pub forget-requires-2-clause-may : goal.forget-requires-2-clause-may
@@ -15,7 +16,8 @@ forget-requires-2-clause-may c =
     subst (λ x. MayTurn x c.args.b.0) (sym c.in_ok-forget.ensures)
     (other_turns c.cut.new.self c.args.a.0 c.args.b.0 c.requires.apart
     (subst (λ x. MayTurn x c.args.b.0)
-    (sym (cut_so c.args.a.0 c.args.b.0 c.args.self.now c.set_end.new.self c.set_end-2.new.self c.cut.new.self c.set_end.ensures c.set_end-2.ensures c.cut.ensures))
+    (sym (cut_so c.args.a.0 c.args.b.0 c.args.self.now c.set_end.new.self c.set_end-2.new.self c.cut.new.self c.set_end.ensures c.set_end-2.ensures
+    c.cut.ensures))
     (still_turns c.args.self.now c.args.a.0 c.args.b.0 c.args.b.0 c.requires.second)))
 
 pub returns : goal.returns

@@ -51,4 +51,5 @@ pub returns : goal.returns
 returns c = on_ok c.decide_gone.result (λ decided.
     gone_and_decided c.args.self.now c.shape.ensures c.args.node.0 c.args.peer.0 c.requires.node c.requires.peer
     (ap (λ (r : ReflectNow). is_reflector r.reflectors c.args.node.0) (sym c.take_row-gone.ensures.left) ∙ sym c.is_reflector.ensures ∙ c.if-is_reflector.false)
-    c.take_row-gone.result c.take_row-gone.new.self c.decide_gone.new.self c.take_row-gone.ensures.row c.take_row-gone.ensures.left decided) c.decide_gone.ensures
+    c.take_row-gone.result c.take_row-gone.new.self c.decide_gone.new.self c.take_row-gone.ensures.row c.take_row-gone.ensures.left decided)
+    c.decide_gone.ensures

@@ -16,7 +16,8 @@ pub read-requires : goal.read-requires
 read-requires c =
     let may = c.requires.may in
     let lawful = subst (λ (x : ReflectNow). IsLawful x.topology) c.self.view_is c.laws.ensures in
-    reads c.args.self.now lawful c.args.peer.0 c.args.node.0 c.take_next-letter.result c.bytes.result.now c.take_next-letter.ensures.letter c.bytes.ensures may.labels may.word may.next
+    reads c.args.self.now lawful c.args.peer.0 c.args.node.0 c.take_next-letter.result c.bytes.result.now c.take_next-letter.ensures.letter c.bytes.ensures
+    may.labels may.word may.next
 
 pub hear_update-requires-clause-may : goal.hear_update-requires-clause-may
 hear_update-requires-clause-may c =
@@ -27,24 +28,30 @@ pub hear_update-requires-clause-says : goal.hear_update-requires-clause-says
 hear_update-requires-clause-says c =
     let may = c.requires.may in
     let lawful = subst (λ (x : ReflectNow). IsLawful x.topology) c.self.view_is c.laws.ensures in
-    saying_then may.labels c.args.peer.0 c.args.node.0 c.args.self.now c.take_next-letter.new.self c.in-Routes.reflected may.word c.take_next-letter.ensures.taken
-    (routes_are c.args.self.now lawful c.args.peer.0 c.args.node.0 c.take_next-letter.result c.bytes.result.now c.take_next-letter.ensures.letter c.bytes.ensures may.labels may.word may.next c.in-Routes.reflected (subst (IsHeard c.bytes.result.now) c.in-Routes.is c.in_ok-reflected.ensures))
+    saying_then may.labels c.args.peer.0 c.args.node.0 c.args.self.now c.take_next-letter.new.self c.in-Routes.reflected may.word
+    c.take_next-letter.ensures.taken
+    (routes_are c.args.self.now lawful c.args.peer.0 c.args.node.0 c.take_next-letter.result c.bytes.result.now c.take_next-letter.ensures.letter
+    c.bytes.ensures may.labels may.word may.next c.in-Routes.reflected (subst (IsHeard c.bytes.result.now) c.in-Routes.is c.in_ok-reflected.ensures))
 
 pub hear_session-reply-requires-clause-takes : goal.hear_session-reply-requires-clause-takes
 hear_session-reply-requires-clause-takes c =
     let may = c.requires.may in
     let lawful = subst (λ (x : ReflectNow). IsLawful x.topology) c.self.view_is c.laws.ensures in
     let spelled = subst (IsHeard c.bytes.result.now) c.in-Other.is c.in_ok-reflected.ensures in
-    answers_then may.labels c.args.peer.0 c.args.node.0 c.args.self.now c.take_next-letter.new.self c.in-Other.message may.word c.take_next-letter.ensures.taken may.next
-    (other_is c.args.self.now lawful c.args.peer.0 c.args.node.0 c.take_next-letter.result c.bytes.result.now c.take_next-letter.ensures.letter c.bytes.ensures may.labels may.word may.next c.in-Other.message spelled.0 spelled.1)
+    answers_then may.labels c.args.peer.0 c.args.node.0 c.args.self.now c.take_next-letter.new.self c.in-Other.message may.word c.take_next-letter.ensures.taken
+    may.next
+    (other_is c.args.self.now lawful c.args.peer.0 c.args.node.0 c.take_next-letter.result c.bytes.result.now c.take_next-letter.ensures.letter c.bytes.ensures
+    may.labels may.word may.next c.in-Other.message spelled.0 spelled.1)
 
 pub answer-requires : goal.answer-requires
 answer-requires c =
     let may = c.requires.may in
     let lawful = subst (λ (x : ReflectNow). IsLawful x.topology) c.self.view_is c.laws.ensures in
     let spelled = subst (IsHeard c.bytes.result.now) c.in-Other.is c.in_ok-reflected.ensures in
-    let its = other_is c.args.self.now lawful c.args.peer.0 c.args.node.0 c.take_next-letter.result c.bytes.result.now c.take_next-letter.ensures.letter c.bytes.ensures may.labels may.word may.next c.in-Other.message spelled.0 spelled.1 in
-    let stays = sym (stays_there c.args.peer.0 c.args.node.0 c.args.self.now c.take_next-letter.new.self c.hear_session-reply.new.self c.in-Other.message may.word
+    let its = other_is c.args.self.now lawful c.args.peer.0 c.args.node.0 c.take_next-letter.result c.bytes.result.now c.take_next-letter.ensures.letter
+    c.bytes.ensures may.labels may.word may.next c.in-Other.message spelled.0 spelled.1 in
+    let stays = sym (stays_there c.args.peer.0 c.args.node.0 c.args.self.now c.take_next-letter.new.self c.hear_session-reply.new.self c.in-Other.message
+    may.word
     c.take_next-letter.ensures.taken its c.hear_session-reply.ensures.heard) in
     record {
       peer = subst (λ (t : Network). c.args.peer.0 < length t.loopbacks) stays c.requires.peer;
@@ -56,18 +63,23 @@ answer-requires c =
 pub returns-in-Routes : goal.returns-in-Routes
 returns-in-Routes c = λ labels word next.
     let lawful = subst (λ (x : ReflectNow). IsLawful x.topology) c.self.view_is c.laws.ensures in
-    hears_routes labels c.args.peer.0 c.args.node.0 c.args.self.now c.take_next-letter.new.self c.hear_update.new.self c.in-Routes.reflected word c.hear_update.result
+    hears_routes labels c.args.peer.0 c.args.node.0 c.args.self.now c.take_next-letter.new.self c.hear_update.new.self c.in-Routes.reflected word
+    c.hear_update.result
     c.take_next-letter.ensures.taken
-    (routes_are c.args.self.now lawful c.args.peer.0 c.args.node.0 c.take_next-letter.result c.bytes.result.now c.take_next-letter.ensures.letter c.bytes.ensures labels word next c.in-Routes.reflected (subst (IsHeard c.bytes.result.now) c.in-Routes.is c.in_ok-reflected.ensures))
+    (routes_are c.args.self.now lawful c.args.peer.0 c.args.node.0 c.take_next-letter.result c.bytes.result.now c.take_next-letter.ensures.letter
+    c.bytes.ensures labels word next c.in-Routes.reflected (subst (IsHeard c.bytes.result.now) c.in-Routes.is c.in_ok-reflected.ensures))
     c.hear_update.ensures
 
 pub returns : goal.returns
 returns c = λ labels word next.
     let lawful = subst (λ (x : ReflectNow). IsLawful x.topology) c.self.view_is c.laws.ensures in
     let spelled = subst (IsHeard c.bytes.result.now) c.in-Other.is c.in_ok-reflected.ensures in
-    let its = other_is c.args.self.now lawful c.args.peer.0 c.args.node.0 c.take_next-letter.result c.bytes.result.now c.take_next-letter.ensures.letter c.bytes.ensures labels word next c.in-Other.message spelled.0 spelled.1 in
+    let its = other_is c.args.self.now lawful c.args.peer.0 c.args.node.0 c.take_next-letter.result c.bytes.result.now c.take_next-letter.ensures.letter
+    c.bytes.ensures labels word next c.in-Other.message spelled.0 spelled.1 in
     let first = subst (λ (x : ReflectNow). IsFirst x.topology c.args.peer.0 c.in-Other.message word) (sym c.take_next-letter.ensures.taken) its in
     on_ok c.answer.result
-    (hears_first labels c.args.peer.0 c.args.node.0 c.args.self.now c.take_next-letter.new.self c.hear_session-reply.new.self c.answer.new.self c.hear_session-reply.result
-    c.in-Other.message word its c.take_next-letter.ensures.taken (c.hear_session-reply.ensures.heard word first) (c.hear_session-reply.ensures.reply word first))
+    (hears_first labels c.args.peer.0 c.args.node.0 c.args.self.now c.take_next-letter.new.self c.hear_session-reply.new.self c.answer.new.self
+    c.hear_session-reply.result
+    c.in-Other.message word its c.take_next-letter.ensures.taken (c.hear_session-reply.ensures.heard word first)
+    (c.hear_session-reply.ensures.reply word first))
     c.answer.ensures

@@ -13,7 +13,8 @@ tell_heard-requires-clause-mention c = subst (IfPassable c.args.self.now.topolog
 
 pub keep-requires : goal.keep-requires
 keep-requires c =
-    let told = as_told c.args.self.now c.shape.ensures c.args.node.0 c.args.peer.0 c.requires.node c.requires.peer (named c.args.vrf c.args.prefix) c.args.mention
+    let told = as_told c.args.self.now c.shape.ensures c.args.node.0 c.args.peer.0 c.requires.node c.requires.peer
+    (named c.args.vrf c.args.prefix) c.args.mention
     c.requires.name c.tell_heard.new.self (λ row shows. c.in_ok-tell_heard.ensures row (shows_of (sym c.as_ref.ensures.value) shows)) in
     record {
       node = subst (λ (r : ReflectNow). c.args.node.0 < length r.topology.loopbacks) (sym told) c.requires.node;

@@ -11,10 +11,13 @@ use Rattle.mn_reflect.proofs.Edging.{edge_so, told_either, either_sayable}
 use Rattle.mn_reflect.proofs.reflect.Reflect.set_export.Goals as goal
 
 pub export_on_edge-requires-clause-there : goal.export_on_edge-requires-clause-there
-export_on_edge-requires-clause-there c = subst (IsEdgeAt c.args.self.now) (sym (edge_so c.self.view_is c.args.vrf.0 c.edge_of-edge.ensures.edge)) c.requires.there
+export_on_edge-requires-clause-there c =
+    subst (IsEdgeAt c.args.self.now) (sym (edge_so c.self.view_is c.args.vrf.0 c.edge_of-edge.ensures.edge)) c.requires.there
 
 pub export_on_edge-requires-clause-free : goal.export_on_edge-requires-clause-free
-export_on_edge-requires-clause-free c = subst (λ k. found_in c.args.vrf.0 (λ (state : VrfState). set_refused c.args.target c.args.on state.exports) (edge_of_node c.args.self.now.edges k).vrfs ≡ None) (sym (edge_so c.self.view_is c.args.vrf.0 c.edge_of-edge.ensures.edge))
+export_on_edge-requires-clause-free c =
+    subst (λ k. found_in c.args.vrf.0 (λ (state : VrfState). set_refused c.args.target c.args.on state.exports) (edge_of_node c.args.self.now.edges k).vrfs
+    ≡ None) (sym (edge_so c.self.view_is c.args.vrf.0 c.edge_of-edge.ensures.edge))
     c.requires.free
 
 pub tell_peers-requires-clause-exports : goal.tell_peers-requires-clause-exports
@@ -22,7 +25,8 @@ tell_peers-requires-clause-exports c =
     let at = edge_so c.self.view_is c.args.vrf.0 c.edge_of-edge.ensures.edge in
     subst AreSayable (sym c.deref.ensures.value)
     (either_sayable _ _ _ _ c.in_ok-news.ensures.news
-    (subst (λ k. AreSayable (exports_at (exports_changed c.args.vrf c.args.target c.args.on (edge_of_node c.args.self.now.edges k)) c.args.vrf.0)) (sym at) c.requires.came)
+    (subst (λ k. AreSayable (exports_at (exports_changed c.args.vrf c.args.target c.args.on (edge_of_node c.args.self.now.edges k)) c.args.vrf.0))
+    (sym at) c.requires.came)
     (subst (λ k. AreSayable (exports_at (edge_of_node c.args.self.now.edges k) c.args.vrf.0)) (sym at) c.requires.went))
 
 pub returns : goal.returns

@@ -33,4 +33,5 @@ returns-clause-says c =
           (says_no_route t rs row node key (w.in-None.ensures.said row c.plain-mentions.ensures.row ∙ ap (reflected_to rs row node) same))
           w.in_ok-bytes-in-None.ensures.read_again)
     ] in
-    if_ok c.update_of.result (λ update is. is says (subst (λ bytes. IsBgp bytes (messages.Update says)) (sym c.deref.ensures.value) spelled)) c.update_of.ensures
+    if_ok c.update_of.result (λ update is. is says (subst (λ bytes. IsBgp bytes (messages.Update says)) (sym c.deref.ensures.value) spelled))
+    c.update_of.ensures

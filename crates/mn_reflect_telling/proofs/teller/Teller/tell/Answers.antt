@@ -8,7 +8,8 @@ pub loop-peer-preserved : goal.loop-peer-preserved
 loop-peer-preserved c =
     let at = c.loop-peer in
     record {
-      told = λ was row before after. told_at (news_to c.args.self.now was row (named c.args.after.now.vrf c.args.after.now.prefix)) c.args.peers.now at.peer-index
+      told = λ was row before after. told_at (news_to c.args.self.now was row (named c.args.after.now.vrf c.args.after.now.prefix)) c.args.peers.now
+          at.peer-index
           (record { 0 = 0 }) at.mail c.tell_peer.new.mail _ c.loop-peer-test.true (c.in_ok-tell_peer.ensures.told was row before after)
           (at.invariant.told was row before after);
       nodes = c.in_ok-tell_peer.ensures.nodes ∙ at.invariant.nodes;

@@ -8,7 +8,7 @@ use Rattle.mn_reflect_telling.specs.Names.{named}
 use Rattle.mn_reflect_telling.specs.Telling.{posted}
 use Rattle.mn_reflect_telling.proofs.teller.Teller.tell.Given as goal
 
--- what is said to the peers to come ends it
+-- what is sent to the peers to come ends it
 abbrev pub invariant-loop-peer : goal.invariant-loop-peer
 invariant-loop-peer l = record {
   told : (was row : Row) → ShowsIn l.before was → ShowsIn l.after row →

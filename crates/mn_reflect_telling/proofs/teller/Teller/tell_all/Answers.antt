@@ -29,9 +29,11 @@ loop-name-preserved c =
 pub returns-clause-told : goal.returns-clause-told
 returns-clause-told c =
     let end : c.loop-name.name-index ≡ length c.args.names.now = omega arith in
-    told_all (λ (name : Name). first_news_to c.args.self.now (row_in c.args.heard.now) c.args.peer.0 (key_in name)) c.args.names.now c.loop-name.name-index c.loop-name.mail _ end
+    told_all (λ (name : Name). first_news_to c.args.self.now (row_in c.args.heard.now) c.args.peer.0 (key_in name)) c.args.names.now c.loop-name.name-index
+    c.loop-name.mail _ end
     c.loop-name.invariant.told
-    ∙ sym (ap (λ letters. posted letters c.args.mail.now) (flat_of_map (first_news_to c.args.self.now (row_in c.args.heard.now) c.args.peer.0) key_in c.args.names.now))
+    ∙ sym (ap (λ letters. posted letters c.args.mail.now)
+    (flat_of_map (first_news_to c.args.self.now (row_in c.args.heard.now) c.args.peer.0) key_in c.args.names.now))
 
 pub returns-clause-nodes : goal.returns-clause-nodes
 returns-clause-nodes c = c.loop-name.invariant.nodes ∙ sym c.requires.nodes

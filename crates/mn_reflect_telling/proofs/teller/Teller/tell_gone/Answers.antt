@@ -31,7 +31,8 @@ loop-offered-preserved c =
     ap (λ v. let k : Key = record { vrf = v; prefix = c.prefix.result } in k) c.vrf.ensures
     ∙ ap (λ p. let k : Key = record { vrf = route.vrf; prefix = p } in k) c.prefix.ensures in
     record {
-      told = lost_next self.topology.now (numbers_of self.reflectors.now) self.node.0 c.args.peers.now (row_with heard peer gone) (row_in heard) at.offered-iterator c.next.new.self route key at.mail c.tell_lost.new.mail _
+      told = lost_next self.topology.now (numbers_of self.reflectors.now) self.node.0 c.args.peers.now (row_with heard peer gone)
+          (row_in heard) at.offered-iterator c.next.new.self route key at.mail c.tell_lost.new.mail _
           step same
           (c.in_ok-tell_lost.ensures.told (row_with heard peer gone) (row_in heard) (shown_before heard peer gone key)
           (shown_after heard peer gone c.requires.forgotten key))

@@ -7,7 +7,7 @@ use Rattle.mn_reflect_telling.specs.Passing.{IsPassable}
 use Rattle.mn_reflect_telling.specs.Telling.{posted}
 use Rattle.mn_reflect_telling.proofs.teller.Teller.tell_gone.Given as goal
 
--- what is said of the routes to come ends it
+-- what is sent of the routes to come ends it
 abbrev pub invariant-loop-offered : goal.invariant-loop-offered
 invariant-loop-offered l = record {
   told : posted (reflector_news l.self.topology.now (numbers_of l.self.reflectors.now) l.self.node.0 l.peers (row_with l.heard l.peer.0 l.gone) (row_in l.heard)

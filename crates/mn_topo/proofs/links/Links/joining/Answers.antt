@@ -8,7 +8,8 @@ returns-clause-value c =
 
 pub returns-clause-within : goal.returns-clause-within
 returns-clause-within c = within c.args.m c.args.n _ _
-    (c.copied.ensures ∙ c.get.ensures.value ∙ joining c.args.m c.args.n _ _ c.self.inside.pairs _ _ c.self.invariant.0 c.self.view_is c.min.ensures c.max.ensures)
+    (c.copied.ensures ∙ c.get.ensures.value
+    ∙ joining c.args.m c.args.n _ _ c.self.inside.pairs _ _ c.self.invariant.0 c.self.view_is c.min.ensures c.max.ensures)
 
 pub returns-clause-found : goal.returns-clause-found
 returns-clause-found c =

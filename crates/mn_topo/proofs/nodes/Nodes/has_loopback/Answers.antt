@@ -6,4 +6,5 @@ use Rattle.mn_topo.proofs.nodes.Nodes.has_loopback.Goals as goal
 
 pub returns : goal.returns
 returns c =
-    c.is_loopback_of.ensures ∙ ap (list_any (λ node. c.args.loopback == node.loopback)) c.deref.ensures.value ∙ has_mapped c.args.loopback _ ∙ ap (λ table. has_loopback table c.args.loopback) c.self.view_is
+    c.is_loopback_of.ensures ∙ ap (list_any (λ node. c.args.loopback == node.loopback)) c.deref.ensures.value ∙ has_mapped c.args.loopback _
+    ∙ ap (λ table. has_loopback table c.args.loopback) c.self.view_is

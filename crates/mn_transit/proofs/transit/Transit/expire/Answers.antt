@@ -24,7 +24,8 @@ directions-preserved c =
     record {
       topology = refl;
       ages = λ given packets stands due.
-          ages_next c.args.topology.now given c.args.clock c.directions.number c.directions.self c.expire_on.new.self c.expire_on-in-directions.new.self packets there
+          ages_next c.args.topology.now given c.args.clock c.directions.number c.directions.self c.expire_on.new.self c.expire_on-in-directions.new.self packets
+          there
           c.expire_on.ensures.moved c.expire_on-in-directions.ensures.moved (c.directions.invariant.ages given packets stands due);
       left = below_next c.args.topology.now c.args.clock c.directions.number c.args.self.now.flying c.directions.self.flying c.expire_on.new.self.flying
           c.expire_on-in-directions.new.self.flying c.directions.invariant.left c.expire_on.ensures.left c.expire_on-in-directions.ensures.left;
@@ -32,7 +33,8 @@ directions-preserved c =
       few = omega (arith, there);
       counts =
           counts_then c.args.self.now c.directions.self c.expire_on-in-directions.new.self 0 0 0 0 0 0 c.directions.invariant.counts
-          (counts_then c.directions.self c.expire_on.new.self c.expire_on-in-directions.new.self 0 0 0 0 0 0 c.expire_on.ensures.counts c.expire_on-in-directions.ensures.counts);
+          (counts_then c.directions.self c.expire_on.new.self c.expire_on-in-directions.new.self 0 0 0 0 0 0 c.expire_on.ensures.counts
+          c.expire_on-in-directions.ensures.counts);
     }
 
 pub returns-clause-moved : goal.returns-clause-moved
@@ -44,11 +46,13 @@ returns-clause-moved c = λ given packets stands due.
 pub returns-clause-stay : goal.returns-clause-stay
 returns-clause-stay c =
     below_all c.args.topology.now c.args.clock c.directions.number c.args.self.now.flying c.directions.self.flying
-    (omega (arith, c.directions-test.false, ap (λ (es : List LinkEnds). length es) c.links-number-end.ensures, c.directions.invariant.few)) c.directions.invariant.left
+    (omega (arith, c.directions-test.false, ap (λ (es : List LinkEnds). length es) c.links-number-end.ensures, c.directions.invariant.few))
+    c.directions.invariant.left
 
 pub returns-clause-left : goal.returns-clause-left
 returns-clause-left c =
     ap keys_in
     (below_all c.args.topology.now c.args.clock c.directions.number c.args.self.now.flying c.directions.self.flying
-    (omega (arith, c.directions-test.false, ap (λ (es : List LinkEnds). length es) c.links-number-end.ensures, c.directions.invariant.few)) c.directions.invariant.left)
+    (omega (arith, c.directions-test.false, ap (λ (es : List LinkEnds). length es) c.links-number-end.ensures, c.directions.invariant.few))
+    c.directions.invariant.left)
     ∙ keys_kept (λ (k : Key). not (is_past c.args.topology.now c.args.clock k)) c.args.self.now.flying

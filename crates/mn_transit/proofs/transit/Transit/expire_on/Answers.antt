@@ -6,14 +6,16 @@ use Rattle.mn_transit.proofs.transit.Transit.expire_on.Goals as goal
 
 pub frames-smaller : goal.frames-smaller
 frames-smaller c =
-    let old = old_taken c.args.topology.now c.args.clock c.args.link.0 c.channel_of-at.result c.limit_on-limit.result c.frames.self c.take_before.new.self c.in-Some.taken
+    let old = old_taken c.args.topology.now c.args.clock c.args.link.0 c.channel_of-at.result c.limit_on-limit.result c.frames.self c.take_before.new.self
+    c.in-Some.taken
     c.requires.link c.frames.invariant.limit c.in-Some.ensures.taken c.in-Some.ensures.left c.take_before.ensures.flight in
     rw (c.judge.ensures, c.in-Some.ensures.left)
     (fewer _ c.channel_of-at.result 0 c.frames.self.flying c.in-Some.taken c.take_before.ensures.flight old.takes.found)
 
 pub frames-preserved : goal.frames-preserved
 frames-preserved c =
-    let old = old_taken c.args.topology.now c.args.clock c.args.link.0 c.channel_of-at.result c.limit_on-limit.result c.frames.self c.take_before.new.self c.in-Some.taken
+    let old = old_taken c.args.topology.now c.args.clock c.args.link.0 c.channel_of-at.result c.limit_on-limit.result c.frames.self c.take_before.new.self
+    c.in-Some.taken
     c.requires.link c.frames.invariant.limit c.in-Some.ensures.taken c.in-Some.ensures.left c.take_before.ensures.flight in
     record {
       at = c.frames.invariant.at;
@@ -31,7 +33,8 @@ frames-preserved c =
       order = order_taken c.args.topology.now c.args.clock c.args.link.0 c.frames.self c.take_before.new.self c.judge.new.self c.channel_of-at.result
           c.in-Some.taken _ old c.judge.ensures c.frames.invariant.order;
       counts =
-          let taken = counts_taken c.frames.self c.take_before.new.self _ _ c.in-Some.taken c.take_before.ensures.flight old.takes.found c.in-Some.ensures.left in
+          let taken = counts_taken c.frames.self c.take_before.new.self _ _ c.in-Some.taken c.take_before.ensures.flight old.takes.found
+          c.in-Some.ensures.left in
           counts_then c.args.self.now c.frames.self c.judge.new.self 0 0 0 0 0 0 c.frames.invariant.counts
           (counts_then _ c.take_before.new.self _ 0 0 0 0 0 0 taken.0 (counts_judged _ _ _ 0 0 _ c.judge.ensures));
     }

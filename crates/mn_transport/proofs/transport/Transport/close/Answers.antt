@@ -18,7 +18,8 @@ send-requires-clause-links c =
     out-on-links c.args.topology.now old c.args.self.now c.self.view_is c.args.end.0
     (Closes c.args.link.0) c.requires.may c.from.result c.from.ensures c.index_mut-node.result.now c.index_mut-node.ensures.value
     c.args.clock.tick c.in_ok-out.out.items
-    (said_in c.args.clock.tick (Closes c.args.link.0) c.index_mut-node.result.now c.close.new.self c.in_ok-out.out.items c.in_ok-out.ensures.labels c.in_ok-out.ensures.said)
+    (said_in c.args.clock.tick (Closes c.args.link.0) c.index_mut-node.result.now c.close.new.self c.in_ok-out.out.items c.in_ok-out.ensures.labels
+    c.in_ok-out.ensures.said)
 
 pub send-requires-clause-numbers : goal.send-requires-clause-numbers
 send-requires-clause-numbers c =
@@ -26,8 +27,10 @@ send-requires-clause-numbers c =
     let few =
     few_out c.args.topology.now old c.args.self.now c.self.view_is c.args.end.0 (Closes c.args.link.0) c.requires.may c.from.result c.from.ensures
     c.index_mut-node.result.now c.index_mut-node.ensures.value c.args.clock.tick c.close.new.self c.in_ok-out.out.items c.laws.ensures
-    (becomes-by c.args.clock.tick (Closes c.args.link.0) c.index_mut-node.result.now c.close.new.self c.in_ok-out.ensures.after c.in_ok-out.ensures.labels c.in_ok-out.ensures.resting c.labels_fit.ensures c.in_ok-out.ensures.table c.in_ok-out.ensures.sites)
-    (said_in c.args.clock.tick (Closes c.args.link.0) c.index_mut-node.result.now c.close.new.self c.in_ok-out.out.items c.in_ok-out.ensures.labels c.in_ok-out.ensures.said) in
+    (becomes-by c.args.clock.tick (Closes c.args.link.0) c.index_mut-node.result.now c.close.new.self c.in_ok-out.ensures.after c.in_ok-out.ensures.labels
+    c.in_ok-out.ensures.resting c.labels_fit.ensures c.in_ok-out.ensures.table c.in_ok-out.ensures.sites)
+    (said_in c.args.clock.tick (Closes c.args.link.0) c.index_mut-node.result.now c.close.new.self c.in_ok-out.out.items c.in_ok-out.ensures.labels
+    c.in_ok-out.ensures.said) in
     omega (arith, few, c.requires.numbers)
 
 pub returns-clause-acts : goal.returns-clause-acts
@@ -36,5 +39,7 @@ returns-clause-acts c =
     acted c.args.topology.now old c.args.self.now c.self.view_is c.args.end.0
     (Closes c.args.link.0) c.requires.may c.from.result c.from.ensures c.index_mut-node.result.now c.index_mut-node.ensures.value
     c.args.clock.tick c.args.clock.number c.close.new.self c.in_ok-out.out.items c.send.new.messages.items c.send.result
-    (becomes-by c.args.clock.tick (Closes c.args.link.0) c.index_mut-node.result.now c.close.new.self c.in_ok-out.ensures.after c.in_ok-out.ensures.labels c.in_ok-out.ensures.resting c.labels_fit.ensures c.in_ok-out.ensures.table c.in_ok-out.ensures.sites)
-    (said_in c.args.clock.tick (Closes c.args.link.0) c.index_mut-node.result.now c.close.new.self c.in_ok-out.out.items c.in_ok-out.ensures.labels c.in_ok-out.ensures.said) c.send.ensures.sent c.send.ensures.next
+    (becomes-by c.args.clock.tick (Closes c.args.link.0) c.index_mut-node.result.now c.close.new.self c.in_ok-out.ensures.after c.in_ok-out.ensures.labels
+    c.in_ok-out.ensures.resting c.labels_fit.ensures c.in_ok-out.ensures.table c.in_ok-out.ensures.sites)
+    (said_in c.args.clock.tick (Closes c.args.link.0) c.index_mut-node.result.now c.close.new.self c.in_ok-out.out.items c.in_ok-out.ensures.labels
+    c.in_ok-out.ensures.said) c.send.ensures.sent c.send.ensures.next

@@ -10,7 +10,8 @@ switch-requires-clause-may c =
 
 pub returns-clause-did : goal.returns-clause-did
 returns-clause-did c =
-    did-switch c.args.topology.now c.laws.ensures c.args.clock.tick c.args.clock.number c.in_ok-next.next c.args.self.now c.switch.new.self c.args.link c.args.on
+    did-switch c.args.topology.now c.laws.ensures c.args.clock.tick c.args.clock.number c.in_ok-next.next c.args.self.now c.switch.new.self c.args.link
+    c.args.on
     c.in_ok-next.ensures.switches
 
 pub returns-clause-notices_below : goal.returns-clause-notices_below

@@ -30,7 +30,8 @@ send-requires-clause-links c =
     out-on-links c.args.topology.now taken (noticed c.args.topology.now c.args.node.0 c.args.link.0 c.args.self.now) is c.args.node.0 (Learns c.args.link.0)
     (may-noticed c.args.topology.now c.args.self.now c.args.node.0 c.args.link.0 c.args.link.0 c.requires.may) c.from.result c.from.ensures
     c.index_mut-learner.result.now c.index_mut-learner.ensures.value c.args.clock.tick c.in-Ok.out.items
-    (said_in c.args.clock.tick (Learns c.args.link.0) c.index_mut-learner.result.now c.learn.new.self c.in-Ok.out.items c.in-Ok.ensures.labels c.in-Ok.ensures.said)
+    (said_in c.args.clock.tick (Learns c.args.link.0) c.index_mut-learner.result.now c.learn.new.self c.in-Ok.out.items c.in-Ok.ensures.labels
+    c.in-Ok.ensures.said)
 
 pub send-requires-clause-numbers : goal.send-requires-clause-numbers
 send-requires-clause-numbers c =
@@ -43,8 +44,10 @@ send-requires-clause-numbers c =
     few_out c.args.topology.now taken (noticed c.args.topology.now c.args.node.0 c.args.link.0 c.args.self.now) is c.args.node.0 (Learns c.args.link.0)
     (may-noticed c.args.topology.now c.args.self.now c.args.node.0 c.args.link.0 c.args.link.0 c.requires.may) c.from.result c.from.ensures
     c.index_mut-learner.result.now c.index_mut-learner.ensures.value c.args.clock.tick c.learn.new.self c.in-Ok.out.items c.laws.ensures
-    (becomes-by c.args.clock.tick (Learns c.args.link.0) c.index_mut-learner.result.now c.learn.new.self c.in-Ok.ensures.after c.in-Ok.ensures.labels c.in-Ok.ensures.resting c.labels_fit.ensures c.in-Ok.ensures.table c.in-Ok.ensures.sites)
-    (said_in c.args.clock.tick (Learns c.args.link.0) c.index_mut-learner.result.now c.learn.new.self c.in-Ok.out.items c.in-Ok.ensures.labels c.in-Ok.ensures.said) in
+    (becomes-by c.args.clock.tick (Learns c.args.link.0) c.index_mut-learner.result.now c.learn.new.self c.in-Ok.ensures.after c.in-Ok.ensures.labels
+    c.in-Ok.ensures.resting c.labels_fit.ensures c.in-Ok.ensures.table c.in-Ok.ensures.sites)
+    (said_in c.args.clock.tick (Learns c.args.link.0) c.index_mut-learner.result.now c.learn.new.self c.in-Ok.out.items c.in-Ok.ensures.labels
+    c.in-Ok.ensures.said) in
     omega (arith, few, c.requires.numbers)
 
 pub returns-clause-learns : goal.returns-clause-learns
@@ -58,8 +61,10 @@ returns-clause-learns c =
     (may-noticed c.args.topology.now c.args.self.now c.args.node.0 c.args.link.0 c.args.link.0 c.requires.may) c.from.result c.from.ensures
     c.index_mut-learner.result.now c.index_mut-learner.ensures.value
     c.args.clock.tick c.args.clock.number c.learn.new.self c.in-Ok.out.items c.send.new.messages.items c.send.result
-    (becomes-by c.args.clock.tick (Learns c.args.link.0) c.index_mut-learner.result.now c.learn.new.self c.in-Ok.ensures.after c.in-Ok.ensures.labels c.in-Ok.ensures.resting c.labels_fit.ensures c.in-Ok.ensures.table c.in-Ok.ensures.sites)
-    (said_in c.args.clock.tick (Learns c.args.link.0) c.index_mut-learner.result.now c.learn.new.self c.in-Ok.out.items c.in-Ok.ensures.labels c.in-Ok.ensures.said) c.send.ensures.sent c.send.ensures.next
+    (becomes-by c.args.clock.tick (Learns c.args.link.0) c.index_mut-learner.result.now c.learn.new.self c.in-Ok.ensures.after c.in-Ok.ensures.labels
+    c.in-Ok.ensures.resting c.labels_fit.ensures c.in-Ok.ensures.table c.in-Ok.ensures.sites)
+    (said_in c.args.clock.tick (Learns c.args.link.0) c.index_mut-learner.result.now c.learn.new.self c.in-Ok.out.items c.in-Ok.ensures.labels
+    c.in-Ok.ensures.said) c.send.ensures.sent c.send.ensures.next
 
 pub returns-clause-flight : goal.returns-clause-flight
 returns-clause-flight c =

@@ -9,11 +9,13 @@ pub returns-in-Some : goal.returns-in-Some
 returns-in-Some c =
     c.first_open.ensures
     ∙ ap (λ o. first_of (filter (is_open c.args.ways.now) (unwrap_or o []))) c.in-Some.ensures.value
-    ∙ ap (λ ss. first_of (filter (is_open c.args.ways.now) ss)) (sym (sources_are c.self.inside.table c.self.inside.prefixes.keys c.args.prefix c.self.invariant))
+    ∙ ap (λ ss. first_of (filter (is_open c.args.ways.now) ss))
+    (sym (sources_are c.self.inside.table c.self.inside.prefixes.keys c.args.prefix c.self.invariant))
     ∙ ap (λ rs. first_of (filter (is_open c.args.ways.now) (sources_of c.args.prefix rs))) c.self.view_is
 
 pub returns-in-None : goal.returns-in-None
 returns-in-None c =
     ap (λ o. first_of (filter (is_open c.args.ways.now) (unwrap_or o []))) c.in-None.ensures.value
-    ∙ ap (λ ss. first_of (filter (is_open c.args.ways.now) ss)) (sym (sources_are c.self.inside.table c.self.inside.prefixes.keys c.args.prefix c.self.invariant))
+    ∙ ap (λ ss. first_of (filter (is_open c.args.ways.now) ss))
+    (sym (sources_are c.self.inside.table c.self.inside.prefixes.keys c.args.prefix c.self.invariant))
     ∙ ap (λ rs. first_of (filter (is_open c.args.ways.now) (sources_of c.args.prefix rs))) c.self.view_is

@@ -23,7 +23,8 @@ returns-in-None c = λ wiring over.
     let at = c.loop-passed.at.0 in
     let passed = c.loop-passed._passed in
     let more : ℕ = c.args.most - (passed + 1) in
-    sym (ap (counted s.ldp c.loop-passed.length) (at-end wiring s.up to at (suc more) (c.in-None.ensures.hop wiring over)) ∙ count-end s.ldp c.loop-passed.length)
+    sym (ap (counted s.ldp c.loop-passed.length) (at-end wiring s.up to at (suc more) (c.in-None.ensures.hop wiring over))
+    ∙ count-end s.ldp c.loop-passed.length)
     ∙ c.loop-passed.invariant.left (suc more) (left passed c.args.most c.loop-passed-test.true) wiring over
 
 pub loop-passed-preserved : goal.loop-passed-preserved
