@@ -20,7 +20,8 @@ use Rattle.mn_bgp_spelling_laws.specs.Spelling.{Labels}
 use Rattle.mn_vrf.specs.Vrf.{with_static}
 use Rattle.mn_pe.specs.Edge.{Edge, after_vrf, after_attach}
 use Rattle.mn_pe.specs.Exports.{exports_at, exports_over, export_of}
-use Rattle.mn_routing_laws.specs.Doing.{AreSayable, those_of}
+use Rattle.mn_edges.specs.Changes.{those_of, static_over}
+use Rattle.mn_edges.specs.Said.{AreSayable}
 use Rattle.mn_routing_laws.proofs.Home.{is_edge_of}
 use Rattle.mn_reflect_ledger_laws.specs.Words.{Offer, Word, Open, KeepAlive, Announce, Withdraw}
 use Rattle.mn_reflect_ledger_laws.specs.Picks.{ReflectWorld}
@@ -42,7 +43,7 @@ use Rattle.mn_reflect_world_laws.proofs.Unrefused.{import_free, export_free, add
 use Rattle.mn_reflect_world_laws.proofs.Onward.{goes_on}
 use Rattle.mn_reflect.specs.Course.{IsRun}
 use Rattle.mn_reflect.specs.Doing.{IsEdgeAt, IsNext}
-use Rattle.mn_reflect.specs.Changing.{MayImport, MayExport, MayAdd, MayDel, MayAttach, MayDetach, exports_changed, static_over, next_label}
+use Rattle.mn_reflect.specs.Changing.{MayImport, MayExport, MayAdd, MayDel, MayAttach, MayDetach, exports_changed, next_label}
 use Rattle.mn_reflect.specs.Acting.{AreTwo, MayHearNext, MayAct, IsHeardIn, acted}
 use Rattle.mn_reflect.proofs.Going.{finished, edge_becomes, begins, hears, ends, imports_go, exports_go, adds_go, dels_go, attaches_go, detaches_go}
 use Rattle.mn_reflect.proofs.Placed.{at_edge, edges_many}

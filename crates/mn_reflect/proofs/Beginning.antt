@@ -7,7 +7,7 @@ use Rattle.mn_base.proofs.Bools.{same_test}
 use Rattle.mn_base.specs.declared.numbers.NodeNo.{NodeNo}
 use Rattle.mn_topo.specs.Network.{Network}
 use Rattle.mn_ledger.specs.Places.{loopback, sites_at}
-use Rattle.mn_routing_laws.specs.Routed.{working}
+use Rattle.mn_edges.specs.Changes.{working}
 use Rattle.mn_routing_laws.proofs.Placed.{length_range}
 use Rattle.mn_reflect_ledger_laws.specs.Picks.{is_reflector, placed_by, by_address}
 use Rattle.mn_reflect_ledger_laws.specs.Quiet.{AreReflectors}

@@ -1,55 +1,28 @@
 -- One edge changes, and tells its peers.
-use Rattle.std.proofs.Common.{[], ℕ, ◌≡◌, ◌<◌, ◌+◌, Bool, true, false, List, ◌∷◌, length, sym, ap, ◌∙◌, subst, Option, Some, None}
+use Rattle.std.proofs.Common.{[], ℕ, ◌≡◌, ◌<◌, ◌+◌, Bool, true, false, List, ◌∷◌, length, sym, ap, ◌∙◌, subst}
 use Rattle.std.specs.Prelude.{slice_index_or, slice_set}
-use Rattle.std.proofs.lemmas.Option.{same_Some}
 use Rattle.mn_base.specs.declared.numbers.NodeNo.{NodeNo}
 use Rattle.mn_topo.specs.Network.{Network}
 use Rattle.mn_ledger.specs.Places.{edge_of, home_of}
 use Rattle.mn_pe.specs.Edge.{Edge}
 use Rattle.mn_pe.specs.Held.{Exported}
-use Rattle.mn_pe.specs.Pe.{PeNow}
-use Rattle.mn_routing_laws.specs.Routed.{working}
-use Rattle.mn_routing_laws.specs.Doing.{AreNews, AreSayable}
-use Rattle.mn_routing_laws.proofs.Placed.{index_of}
+use Rattle.mn_edges.specs.Changes.{AreNews}
+use Rattle.mn_edges.specs.Said.{AreSayable}
 use Rattle.mn_reflect_world_laws.specs.Now.{ReflectNow}
 use Rattle.mn_reflect_world_laws.specs.Letters.{edge_news}
-use Rattle.mn_reflect_world_laws.specs.Goes.{edge_of_node, steady_of, either_news}
+use Rattle.mn_reflect_world_laws.specs.Goes.{steady_of, either_news}
 use Rattle.mn_reflect.specs.Shape.{IsShaped}
-use Rattle.mn_reflect.specs.Doing.{IsEdgeAt, changed_edge, with_letters}
+use Rattle.mn_reflect.specs.Doing.{changed_edge, with_letters}
 use Rattle.mn_reflect.specs.Changing.{told_peers}
 use Rattle.mn_reflect_telling.proofs.Posting.{any_default}
 
--- 1. The edge of a node, as the code looks at it
-
--- the one of a site, and the one of a VRF
+-- 1. The edge of a site, and the one of a VRF
 
 pub home_so : {was now : ReflectNow} → was ≡ now → (site : ℕ) {k : ℕ} → k ≡ home_of was.topology site → k ≡ home_of now.topology site
 home_so same site at = at ∙ ap (λ (x : ReflectNow). home_of x.topology site) same
 
 pub edge_so : {was now : ReflectNow} → was ≡ now → (v : ℕ) {k : ℕ} → k ≡ edge_of was.topology v → k ≡ edge_of now.topology v
 edge_so same v at = at ∙ ap (λ (x : ReflectNow). edge_of x.topology v) same
-
-module _ (was now : ReflectNow) (same : was ≡ now) (k node : ℕ) (at : k ≡ node) (there : IsEdgeAt now node) (cell : Option PeNow)
-    (got : cell ≡ slice_index_or was.edges k cell) where
-  cell_is : cell ≡ Some (working (edge_of_node now.edges node))
-  cell_is =
-      got ∙ ap (λ (x : ReflectNow). slice_index_or x.edges k cell) same ∙ ap (λ n. slice_index_or now.edges n cell) at
-      ∙ index_of now.edges node (Some (working (edge_of_node now.edges node))) cell there
-
-  pub some_there : cell ≡ None → ⊥
-  some_there none = let clash : None ≡ Some (working (edge_of_node now.edges node)) = sym none ∙ cell_is in cc
-
-  module _ (old : PeNow) (some : cell ≡ Some old) where
-    pub old_is : old ≡ working (edge_of_node now.edges node)
-    old_is = same_Some old (working (edge_of_node now.edges node)) (sym some ∙ cell_is)
-
-    pub edge_set : (pe : PeNow) (change : Edge → Edge) → pe ≡ working (change old.edge) →
-        (let x : ReflectNow = record was { edges = slice_set was.edges k (Some pe) } in x) ≡ changed_edge node change now
-    edge_set pe change is =
-        ap (λ (y : ReflectNow). let x : ReflectNow = record y { edges = slice_set y.edges k (Some pe) } in x) same
-        ∙ ap (λ n. let x : ReflectNow = record now { edges = slice_set now.edges n (Some pe) } in x) at
-        ∙ ap (λ p. let x : ReflectNow = record now { edges = slice_set now.edges node (Some p) } in x)
-        (is ∙ ap (λ (p : PeNow). working (change p.edge)) old_is)
 
 -- how many attachments its sites have had
 pub count_is : (was now : ReflectNow) → was ≡ now → IsShaped was → (k node count : ℕ) → count ≡ slice_index_or was.attachments k count → k ≡ node →

@@ -20,8 +20,8 @@ use Rattle.mn_pe.specs.Pe.{PeNow}
 use Rattle.mn_mail.specs.Mail.{Letter, Mail}
 use Rattle.mn_mail.specs.Mail as mail
 use Rattle.mn_offers.specs.Heard.{Heard}
-use Rattle.mn_routing_laws.specs.Routed.{working}
-use Rattle.mn_routing_laws.specs.Doing.{edge_or_blank, those_of}
+use Rattle.mn_edges.specs.Changes.{working, those_of, static_over}
+use Rattle.mn_routing_laws.specs.Doing.{edge_or_blank}
 use Rattle.mn_routing_laws.proofs.Opening.{set_same}
 use Rattle.mn_routing_laws.proofs.Turning.{get_other}
 use Rattle.mn_reflect_ledger_laws.specs.Words.{Key, Offer, Word, Open, KeepAlive, Announce, Withdraw, key_of}
@@ -34,7 +34,7 @@ use Rattle.mn_reflect_world_laws.specs.Goes.{Goes, set_at, on_edge, edge_of_node
 use Rattle.mn_reflect_world_laws.specs.Goes.{sessions_after, heard_after, attachments_after, statics_after, edges_after, letters_after}
 use Rattle.mn_reflect_telling.specs.Telling.{posted}
 use Rattle.mn_reflect.specs.Doing.{IsEdgeAt, changed_edge, kept, forgotten, cut_between, with_end, taken, begun, ended, word_heard}
-use Rattle.mn_reflect.specs.Changing.{imports_changed, exports_changed, import_set, export_set, static_over, with_route, without_route, route_added}
+use Rattle.mn_reflect.specs.Changing.{imports_changed, exports_changed, import_set, export_set, with_route, without_route, route_added}
 use Rattle.mn_reflect.specs.Changing.{route_deleted, next_label, site_attached, site_detached}
 use Rattle.mn_reflect.proofs.Tables.{row_other, no_edge}
 

@@ -14,7 +14,7 @@ use Rattle.mn_vrf.specs.Vrf.{VrfState, IsHeldAt, heads}
 use Rattle.mn_vrf.specs.declared.source.Source.{Source}
 use Rattle.mn_pe.specs.Held.{held_by}
 use Rattle.mn_pe.specs.Pe.{PeNow, found_in}
-use Rattle.mn_routing_laws.specs.Routed.{working}
+use Rattle.mn_edges.specs.Changes.{working}
 use Rattle.mn_routing_laws.specs.Sources.{as_held}
 use Rattle.mn_routing_laws.proofs.Home.{is_edge_of}
 use Rattle.mn_routing_laws.proofs.Placed.{index_of}

@@ -5,7 +5,7 @@ use Rattle.mn_topo.specs.Network.{Network}
 use Rattle.mn_topo.specs.VrfTable.{is_edge}
 use Rattle.mn_bgp_spelling_laws.specs.Spelling.{Labels}
 use Rattle.mn_pe.specs.Edge.{Edge}
-use Rattle.mn_routing_laws.specs.Routed.{working}
+use Rattle.mn_edges.specs.Changes.{working}
 use Rattle.mn_routing_laws.specs.Standing.{edge_in}
 use Rattle.mn_routing_laws.specs.Doing.{edge_or_blank}
 use Rattle.mn_routing_laws.proofs.Placed.{get_range, index_of, length_range}

@@ -9,7 +9,7 @@ use Rattle.mn_bgp_spelling_laws.specs.Spelling.{Labels}
 use Rattle.mn_bgp_session.specs.declared.session.BgpSession.{BgpSession}
 use Rattle.mn_pe.specs.Edge.{Edge}
 use Rattle.mn_pe.specs.Pe.{PeNow}
-use Rattle.mn_routing_laws.specs.Routed.{working}
+use Rattle.mn_edges.specs.Changes.{working}
 use Rattle.mn_routing_laws.specs.Whole.{RoutesNow, routes_in, edge_or_none}
 use Rattle.mn_routing_laws.proofs.Tables.{map_numbers_at}
 use Rattle.mn_net_laws.specs.Refusal.{session_at}

@@ -9,7 +9,7 @@ use Rattle.mn_bgp_session.specs.declared.session.BgpSession.{BgpSession}
 use Rattle.mn_bgp_session.specs.declared.table.BgpReply.{BgpReply}
 use Rattle.mn_bgp_spelling_laws.specs.Spelling.{Labels}
 use Rattle.mn_pe.specs.Pe.{PeNow}
-use Rattle.mn_routing_laws.specs.Routed.{working}
+use Rattle.mn_edges.specs.Changes.{working}
 use Rattle.mn_routing_laws.specs.Doing.{edge_or_blank}
 use Rattle.mn_routing_laws.proofs.Turning.{get_other}
 use Rattle.mn_reflect_ledger_laws.specs.Words.{Word, Open, KeepAlive, Announce, Withdraw}

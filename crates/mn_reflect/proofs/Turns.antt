@@ -17,9 +17,9 @@ use Rattle.mn_bgp_wire.specs.Says.{Says}
 use Rattle.mn_pe.specs.Edge.{Edge, after_update}
 use Rattle.mn_mail.specs.Mail.{Letter, Mail}
 use Rattle.mn_offers.specs.Heard.{Heard, heard_before, place_of}
-use Rattle.mn_routing_laws.specs.Routed.{working}
+use Rattle.mn_edges.specs.Changes.{working}
 use Rattle.mn_routing_laws.specs.Doing.{edge_or_blank}
-use Rattle.mn_routing_laws.specs.Sending.{is_steady, peers_from}
+use Rattle.mn_edges.specs.Peers.{is_steady, peers_from}
 use Rattle.mn_routing_laws.proofs.Opening.{set_same}
 use Rattle.mn_reflect_ledger_laws.specs.Words.{Key}
 use Rattle.mn_reflect_ledger_laws.specs.Picks.{is_reflector}

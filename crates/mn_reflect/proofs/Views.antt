@@ -8,7 +8,7 @@ use Rattle.mn_base.specs.declared.numbers.VrfNo.{VrfNo}
 use Rattle.mn_topo.specs.Network.{Network}
 use Rattle.mn_bgp_session.specs.declared.session.BgpSession.{BgpSession}
 use Rattle.mn_offers.specs.Heard.{Heard}
-use Rattle.mn_routing_laws.specs.Sending.{peers_from}
+use Rattle.mn_edges.specs.Peers.{peers_from}
 use Rattle.mn_reflect_world_laws.specs.Now.{ReflectNow}
 use Rattle.mn_reflect_world_laws.specs.Goes.{set_at}
 use Rattle.mn_reflect_telling.specs.Mentions.{AreKept, AreNodes, numbers_of}

@@ -5,13 +5,14 @@ use Rattle.mn_base.specs.declared.numbers.VrfNo.{VrfNo}
 use Rattle.mn_base.specs.declared.numbers.SiteNo.{SiteNo}
 use Rattle.mn_prefix.specs.Prefix.{AddressBlock}
 use Rattle.mn_ledger.specs.Places.{edge_of, home_of}
-use Rattle.mn_targets.specs.Targets.{target_set}
-use Rattle.mn_vrf.specs.Vrf.{Static, VrfState, with_static, without_static, with_imports, with_exports, add_refused, del_refused, set_refused}
-use Rattle.mn_pe.specs.Edge.{Edge, vrf_of_site, after_vrf, after_attach, after_detach}
+use Rattle.mn_vrf.specs.Vrf.{VrfState, add_refused, del_refused, set_refused}
+use Rattle.mn_pe.specs.Edge.{Edge, vrf_of_site, after_attach, after_detach}
 use Rattle.mn_pe.specs.Held.{Exported}
 use Rattle.mn_pe.specs.Pe.{found_in}
 use Rattle.mn_pe.specs.Exports.{exports_at, exports_over, export_of}
-use Rattle.mn_routing_laws.specs.Doing.{AreSayable, those_of}
+use Rattle.mn_edges.specs.Changes.{those_of}
+use Rattle.mn_edges.specs.Changes as edges
+use Rattle.mn_edges.specs.Said.{AreSayable}
 use Rattle.mn_reflect_world_laws.specs.Now.{ReflectNow}
 use Rattle.mn_reflect_world_laws.specs.Letters.{edge_news}
 use Rattle.mn_reflect_world_laws.specs.Goes.{steady_of, edge_of_node, either_news}
@@ -24,10 +25,10 @@ told_peers node comes exports now = with_letters (edge_news now.topology node (s
 -- 1. Targets
 
 abbrev pub imports_changed : VrfNo → Rt → Bool → Edge → Edge
-imports_changed v target on edge = after_vrf edge v.0 (with_imports (target_set target on))
+imports_changed v target on edge = edges.import_set edge v target on
 
 abbrev pub exports_changed : VrfNo → Rt → Bool → Edge → Edge
-exports_changed v target on edge = after_vrf edge v.0 (with_exports (target_set target on))
+exports_changed v target on edge = edges.export_set edge v target on
 
 pub record MayImport (now : ReflectNow) (v : VrfNo) (target : Rt) (on : Bool) : Type 0 where
   pub vrf : v.0 < length now.topology.vrfs
@@ -53,14 +54,11 @@ export_set v target on now =
 
 -- 2. Statics
 
-abbrev pub static_over : SiteNo → AddressBlock → Static
-static_over site prefix = record { prefix = prefix; site = site.0 }
-
 abbrev pub with_route : SiteNo → AddressBlock → Edge → Edge
-with_route site prefix edge = after_vrf edge (vrf_of_site edge site.0) (with_static (static_over site prefix))
+with_route site prefix edge = edges.static_added edge site prefix
 
 abbrev pub without_route : SiteNo → AddressBlock → Edge → Edge
-without_route site prefix edge = after_vrf edge (vrf_of_site edge site.0) (without_static (static_over site prefix))
+without_route site prefix edge = edges.static_deleted edge site prefix
 
 pub record MayAdd (now : ReflectNow) (site : SiteNo) (prefix : AddressBlock) : Type 0 where
   pub within : site.0 < length now.topology.sites

@@ -19,8 +19,8 @@ use Rattle.mn_pe.specs.Held as held
 use Rattle.mn_offers.specs.Heard.{Heard, with_heard, without_heard}
 use Rattle.mn_mail.specs.Mail.{Letter}
 use Rattle.mn_mail.specs.Mail as mail
-use Rattle.mn_routing_laws.specs.Routed.{working}
-use Rattle.mn_routing_laws.specs.Doing.{AreSayable}
+use Rattle.mn_edges.specs.Changes.{working}
+use Rattle.mn_edges.specs.Said.{AreSayable}
 use Rattle.mn_reflect_ledger_laws.specs.Words.{Key, Word, Open, KeepAlive, Announce, Withdraw, key_of}
 use Rattle.mn_reflect_ledger_laws.specs.Picks.{is_reflector}
 use Rattle.mn_reflect_world_laws.specs.Kept.{route_in}

@@ -13,7 +13,8 @@ pub use Rattle.mn_reflect_ledger_laws.specs.Refusal.{refusal}
 pub use Rattle.mn_reflect_ledger_laws.specs.Words.{Key, Word}
 pub use Rattle.mn_reflect_ledger_laws.specs.World.{world_of}
 pub use Rattle.mn_bgp_spelling_laws.specs.Spelling.{Labels}
-pub use Rattle.mn_routing_laws.specs.Doing.{AreSayable, AreNews, those_of}
+pub use Rattle.mn_edges.specs.Changes.{AreNews, those_of}
+pub use Rattle.mn_edges.specs.Said.{AreSayable}
 pub use Rattle.mn_routing_laws.specs.Sources.{as_held}
 pub use Rattle.mn_reflect_world_laws.specs.Choice.{row_at, all_names, Row, reflected_to, names_in}
 pub use Rattle.mn_reflect_world_laws.specs.Goes.{edge_of_node, end_in, steady_of, decide_all, decision_says}

@@ -1,84 +1,19 @@
 //! The steps of one edge, which advertises its exports to its peers, or withdraws them.
-ghost use Rattle.std.specs.Prelude.{◌≡◌, ◌<◌, ◌↔◌, IsOk, None, Ok, true, length, slice_index_or, IfOk, OnOk};
-ghost use Rattle.mn_reflect.specs.Prelude.{edge_of, home_of, VrfState, add_refused, del_refused, set_refused, refusal_of, vrf_of_site, after_attach, after_detach, found_in, exports_at, exports_over, export_of, AreSayable, AreNews, those_of, edge_of_node};
+ghost use Rattle.std.specs.Prelude.{◌≡◌, ◌<◌, None, length, IfOk, OnOk};
+ghost use Rattle.mn_reflect.specs.Prelude.{edge_of, home_of, VrfState, add_refused, del_refused, set_refused, vrf_of_site, after_attach, after_detach, found_in, exports_at, exports_over, export_of, AreSayable, AreNews, those_of, edge_of_node};
 ghost use Rattle.mn_reflect.specs.Doing.{IsEdgeAt, changed_edge};
 ghost use Rattle.mn_reflect.specs.Changing.{told_peers, imports_changed, exports_changed, MayImport, MayExport, import_set, export_set, with_route, without_route, MayAdd, MayDel, route_added, route_deleted, next_label, MayAttach, MayDetach, site_attached, site_detached};
 
 use crate::reflect::Reflect;
 use mn_base::{NodeNo, Rt, SiteNo, VrfNo};
-use mn_pe::{Export, NoMemory};
+use mn_edges::News;
+use mn_pe::Export;
 use mn_prefix::Prefix;
 use mn_reflect_telling::tell_exports;
-use mn_vrf::VrfBad;
-use std::alloc::{AllocError, Global};
+use std::alloc::AllocError;
 
 /// The first label that may be given (RFC 3032, section 2.1).
 const FIRST_LABEL: u32 = 16;
-
-/// An answer of an edge that can only be out of memory.
-fn done(answer: Result<(), VrfBad>) -> Result<(), AllocError>
-    requires { refusal_of answer ≡ None }
-    ensures { IsOk result ↔ IsOk answer }
-{
-    match answer {
-        Ok(()) => Ok(()),
-        Err(VrfBad::NoMemory) => Err(AllocError),
-        Err(_) => unreachable!(),
-    }
-}
-
-/// What an edge advertises, or out of memory.
-fn told(answer: Result<Vec<Export>, NoMemory>) -> Result<Vec<Export>, AllocError>
-    ensures told { IfOk result (λ exports. answer ≡ Ok exports) }
-    ensures asked { IsOk answer → IsOk result }
-{
-    match answer {
-        Ok(exports) => Ok(exports),
-        Err(_) => Err(AllocError),
-    }
-}
-
-/// One export, if there is one, among others.
-fn told_of_one(
-    alloc: Global,
-    answer: Result<Option<Export>, NoMemory>,
-) -> Result<Vec<Export>, AllocError>
-    ensures told { IfOk result (λ exports. IfOk answer (λ export. exports.items ≡ those_of export)) }
-    ensures asked { IsOk result → IsOk answer }
-    ensures none { answer ≡ Ok None → IsOk result }
-{
-    let mut exports = Vec::new(alloc);
-    match answer {
-        Ok(None) => {}
-        Ok(Some(export)) => exports.push(export)?,
-        Err(_) => return Err(AllocError),
-    }
-    Ok(exports)
-}
-
-/// Exports of an edge that come, or that go.
-#[derive(Drop)]
-struct News {
-    exports: Vec<Export>,
-    comes: bool,
-}
-
-/// What comes, or where that is nothing what is gone.
-fn news_of(come: Vec<Export>, gone: Vec<Export>) -> News
-    ensures { AreNews result.comes result.exports.items come.items gone.items }
-{
-    if come.is_empty() {
-        News {
-            exports: gone,
-            comes: false,
-        }
-    } else {
-        News {
-            exports: come,
-            comes: true,
-        }
-    }
-}
 
 impl<'t> Reflect<'t> {
     /// An edge advertises exports that come and withdraws those that go.
@@ -110,10 +45,7 @@ impl<'t> Reflect<'t> {
         ensures { OnOk result (self.new ≡ import_set vrf target on self.old) }
     {
         let edge = self.topology.edge_of(vrf);
-        let Some(pe) = &mut self.edges[usize::from(edge.0)] else {
-            unreachable!()
-        };
-        done(pe.import(vrf, target, on))
+        mn_edges::import(&mut self.edges, edge, vrf, target, on)
     }
 
     /// A VRF exports routes with a target, or doesn't. It answers what the edge is to advertise then: what the VRF exports now, or
@@ -131,13 +63,7 @@ impl<'t> Reflect<'t> {
         ensures now { OnOk result (self.new ≡ changed_edge edge.0 (exports_changed vrf target on) self.old) }
         ensures news { IfOk result (λ news. AreNews news.comes news.exports.items (exports_at (exports_changed vrf target on (edge_of_node self.old.edges edge.0)) vrf.0) (exports_at (edge_of_node self.old.edges edge.0) vrf.0)) }
     {
-        let Some(pe) = &mut self.edges[usize::from(edge.0)] else {
-            unreachable!()
-        };
-        let gone = told(pe.exports_at(vrf))?;
-        done(pe.export(vrf, target, on))?;
-        let come = told(pe.exports_at(vrf))?;
-        Ok(news_of(come, gone))
+        mn_edges::export(&mut self.edges, edge, vrf, target, on)
     }
 
     /// A VRF exports routes with a target, or doesn't, and its edge advertises what changes.
@@ -163,11 +89,7 @@ impl<'t> Reflect<'t> {
         ensures now { OnOk result (self.new ≡ changed_edge edge.0 (with_route site prefix) self.old) }
         ensures come { IfOk result (λ come. come.items ≡ those_of (export_of (with_route site prefix (edge_of_node self.old.edges edge.0)) site.0 prefix)) }
     {
-        let Some(pe) = &mut self.edges[usize::from(edge.0)] else {
-            unreachable!()
-        };
-        done(pe.add_route(site, prefix))?;
-        told_of_one(self.alloc, pe.export_of(site, prefix))
+        mn_edges::add(self.alloc, &mut self.edges, edge, site, prefix)
     }
 
     /// A site's VRF has a prefix over the site, which its edge announces.
@@ -194,12 +116,7 @@ impl<'t> Reflect<'t> {
         ensures now { OnOk result (self.new ≡ changed_edge edge.0 (without_route site prefix) self.old) }
         ensures gone { IfOk result (λ gone. gone.items ≡ those_of (export_of (edge_of_node self.old.edges edge.0) site.0 prefix)) }
     {
-        let Some(pe) = &mut self.edges[usize::from(edge.0)] else {
-            unreachable!()
-        };
-        let gone = told_of_one(self.alloc, pe.export_of(site, prefix))?;
-        done(pe.del_route(site, prefix))?;
-        Ok(gone)
+        mn_edges::del(self.alloc, &mut self.edges, edge, site, prefix)
     }
 
     /// A site's VRF has a prefix over the site no longer, and its edge withdraws it.
@@ -225,13 +142,7 @@ impl<'t> Reflect<'t> {
         ensures now { OnOk result (self.new ≡ changed_edge edge.0 (λ was. after_attach was site.0 label) self.old) }
         ensures come { IfOk result (λ come. come.items ≡ exports_over (after_attach (edge_of_node self.old.edges edge.0) site.0 label) site.0) }
     {
-        let Some(pe) = &mut self.edges[usize::from(edge.0)] else {
-            unreachable!()
-        };
-        if pe.attach(site, label).is_err() {
-            return Err(AllocError);
-        }
-        told(pe.exports_over(site))
+        mn_edges::attach(&mut self.edges, edge, site, label)
     }
 
     /// A site is attached with the next label of its edge, which announces what its VRF exports over it.
@@ -253,14 +164,7 @@ impl<'t> Reflect<'t> {
         ensures now { OnOk result (self.new ≡ changed_edge edge.0 (λ was. after_detach was site.0) self.old) }
         ensures gone { IfOk result (λ gone. gone.items ≡ exports_over (edge_of_node self.old.edges edge.0) site.0) }
     {
-        let Some(pe) = &mut self.edges[usize::from(edge.0)] else {
-            unreachable!()
-        };
-        let gone = told(pe.exports_over(site))?;
-        if pe.detach(site).is_err() {
-            return Err(AllocError);
-        }
-        Ok(gone)
+        mn_edges::detach(&mut self.edges, edge, site)
     }
 
     /// A site is detached, and its edge withdraws what its VRF exported over it.

@@ -12,11 +12,10 @@ use mn_base::{NodeNo, VrfNo};
 use mn_bgp_reflected::Reflected;
 use mn_bgp_session::{BgpReply, BgpSession};
 use mn_bgp_wire::{BgpMessage, write_keep, write_open};
+use mn_edges::loopback_of;
 use mn_mail::Letter;
 use mn_offers::Offered;
-use mn_reflect_telling::{
-    Heard, Teller, loopback_of, names_of, read, send, tell_exports, vrf_with,
-};
+use mn_reflect_telling::{Heard, Teller, names_of, read, send, tell_exports, vrf_with};
 use mn_vpn_nlri::VpnRoute;
 use std::alloc::AllocError;
 

@@ -6,10 +6,10 @@ ghost use Rattle.mn_reflect.specs.Course.{IsRun};
 
 use crate::reflect::Reflect;
 use mn_base::NodeNo;
+use mn_edges::no_sessions;
 use mn_mail::Mail;
 use mn_reflect_telling::{
-    by_address, distinguishers, first_attachments, first_edges, no_sessions, nothing_heard,
-    statics_of,
+    by_address, distinguishers, first_attachments, first_edges, nothing_heard, statics_of,
 };
 use mn_topo::Topology;
 use std::alloc::{AllocError, Global};

@@ -7,9 +7,10 @@ ghost use Rattle.mn_reflect.specs.Doing.{with_row, with_letters, changed_edge, m
 use crate::reflect::Reflect;
 use mn_base::{NodeNo, VrfNo};
 use mn_bgp_wire::Update;
+use mn_edges::{loopback_of, steady_peers};
 use mn_offers::{Offered, Offers};
 use mn_prefix::Prefix;
-use mn_reflect_telling::{Teller, is_among, loopback_of, steady_peers};
+use mn_reflect_telling::{Teller, is_among};
 use std::alloc::AllocError;
 use std::mem::replace;
 

@@ -1,34 +1,39 @@
--- The start: edges as the topology says them, with labels for their sites below a number, and how many statics there are.
-use Rattle.std.proofs.Common.{ℕ, zero, suc, ◌≡◌, ◌≢◌, ◌+◌, ◌<◌, ◌≤◌, Bool, true, false, cond, List, [], ◌∷◌, map, drop, length, refl, arith, sym}
+-- The start: edges as the topology says them, with their first labels, and how many statics there are.
+use Rattle.std.proofs.Common.{ℕ, zero, suc, ◌≡◌, ◌+◌, ◌<◌, ◌≤◌, Bool, true, false, cond, List, [], ◌∷◌, map, drop, length, refl, arith, sym}
 use Rattle.std.proofs.Common.{◌∙◌, ap, subst, Option, None, Some, inl, inr}
 use Rattle.std.specs.Prelude.{◌==◌, ◌&&◌, nat_lt, filter, option_map, if◌then◌else◌, slice_index_or}
 use Rattle.std.specs.List.{range_with_len}
-use Rattle.std.proofs.lemmas.Bool.Decides.{eqb_tells, leb_tells}
+use Rattle.std.proofs.lemmas.Bool.Decides.{eqb_tells}
 use Rattle.std.proofs.lemmas.List.{length-map, length-append}
 use Rattle.std.proofs.Math.Seq.{drop-cons}
-use Rattle.mn_base.proofs.Bools.{same_test, other_test, less_is, not_less, and_false}
+use Rattle.mn_base.proofs.Bools.{less_is, not_less, and_false}
 use Rattle.mn_base.specs.Limits.{most_static_routes}
 use Rattle.mn_prefix.specs.Prefix.{AddressBlock}
-use Rattle.mn_topo.specs.Network.{Network}
+use Rattle.mn_topo.specs.Network.{Network, wiring_of}
 use Rattle.mn_topo.specs.Lawful.{IsLawful}
+use Rattle.mn_topo.specs.VrfTable.{is_edge}
 use Rattle.mn_topo.specs.SiteTable.{statics_of, in_vrf}
 use Rattle.mn_topo.specs.declared.sites.SiteDef.{SiteDef}
-use Rattle.mn_node.proofs.Lists.{map-put, map_below}
+use Rattle.mn_node.proofs.Lists.{map_below}
+use Rattle.mn_ledger.specs.Prelude.{nodes_of}
 use Rattle.mn_ledger.specs.Places.{home_of, vrfs_at}
 use Rattle.mn_ledger.specs.World.{SiteRoute}
 use Rattle.mn_ledger.specs.Ledger.{statics_from, first_config}
 use Rattle.mn_ledger.specs.Bgp.{peers_live}
 use Rattle.mn_rib_in.specs.Heard.{Heard}
 use Rattle.mn_vrf.specs.Vrf.{VrfState}
-use Rattle.mn_pe.specs.Edge.{Edge, after_attach}
+use Rattle.mn_pe.specs.Edge.{Edge}
 use Rattle.mn_pe.specs.Start.{edge_at_start}
+use Rattle.mn_edges.specs.Changes.{working}
+use Rattle.mn_edges.specs.Start.{sites_before, label_at_start}
+use Rattle.mn_edges.specs.Start as edges
+use Rattle.mn_edges.proofs.Starts.{same_all}
 use Rattle.mn_routing_laws.specs.Standing.{vrf_in, site_label_now, heard_in}
-use Rattle.mn_routing_laws.proofs.Starts.{same_all, given_below}
 use Rattle.mn_routing_laws.proofs.Starts as starts
 use Rattle.mn_reflect_world_laws.specs.Labels.{first_labels}
 use Rattle.mn_reflect_world_laws.specs.Edges.{all_live, as_peerings}
 use Rattle.mn_reflect_telling.proofs.Posting.{drop_all}
-use Rattle.mn_reflect_telling.specs.Starting.{nothing_decided, first_edge}
+use Rattle.mn_reflect_telling.specs.Starting.{nothing_decided, first_edge, first_edge_or_none}
 
 -- 1. How many sites of a node come before a site
 
@@ -58,13 +63,7 @@ module _ (p : ℕ → Bool) where
       and_true true = refl
       and_true false = refl
 
--- 2. An edge, with labels for its sites below a number
-
-abbrev pub label_below : Network → ℕ → ℕ → ℕ → Option ℕ
-label_below t node k s = if nat_lt s k then site_label_now t (first_labels t) (first_config t) node s else None
-
-abbrev pub edge_below : Network → ℕ → ℕ → Edge
-edge_below t node k = record (first_edge t node) { labels = map (label_below t node k) (range_with_len 0 (length t.sites)) }
+-- 2. An edge, with the first labels
 
 nothing : (a b : Bool) → (let hs : List Heard = if a then [] else (if b then [] else []) in hs) ≡ []
 nothing true b = refl
@@ -72,66 +71,38 @@ nothing false true = refl
 nothing false false = refl
 
 module _ (t : Network) (lawful : IsLawful t) (node : ℕ) where
-  pub edge_first : edge_at_start t node ≡ edge_below t node 0
-  edge_first =
-      ap (λ (vs : List VrfState). let e : Edge = record (edge_at_start t node) { vrfs = vs } in e)
-      (ap (λ (e : Edge). e.vrfs) (starts.edge_first t lawful node))
-      ∙ ap (λ (ls : List (Option ℕ)). let e : Edge =
-      record (edge_at_start t node) { vrfs = map (vrf_in t (first_config t)) (vrfs_at t node); labels = ls } in e)
-      (same_all t.sites (label_below t node 0) None 0
-      (λ s. ap (λ b. if b then site_label_now t (first_labels t) (first_config t) node s else None) (not_less s 0 (omega arith))))
-      ∙ ap (λ (hs : List (List Heard)). let e : Edge = record (edge_below t node 0) { heard = hs } in e)
-      (same_all t.loopbacks (heard_in t (first_labels t) (all_live t (first_config t)) (as_peerings nothing_decided) node) [] 0
-      (λ peer. nothing (peer == node) (peers_live (all_live t (first_config t)) node peer)))
-
-  pub edge_whole : edge_below t node (length t.sites) ≡ first_edge t node
-  edge_whole = ap (λ (ls : List (Option ℕ)). let e : Edge = record (first_edge t node) { labels = ls } in e)
-      (map_below (label_below t node (length t.sites)) (site_label_now t (first_labels t) (first_config t) node) (length t.sites) 0
-      (λ s low below. ap (λ b. if b then site_label_now t (first_labels t) (first_config t) node s else None)
-      (less_is s (length t.sites) (omega (arith, below)))))
-
-  -- what is below a number and what is below the next, but for that number itself
-  same_below : (k s : ℕ) → s ≢ k → nat_lt s (k + 1) ≡ nat_lt s k
-  same_below k s apart = elim (leb_tells k s) [
-    | inl p ↦ not_less s (k + 1) (let low = p.1 in omega (arith, low, apart)) ∙ sym (not_less s k p.1)
-    | inr p ↦ less_is s (k + 1) (let low = p.1 in omega (arith, low)) ∙ sym (less_is s k p.1)
-  ]
-
-  label_is : (k : ℕ) → k < length t.sites → home_of t k ≡ node → first_labels t k 1 ≡ 16 + given_below t node k
+  label_is : (k : ℕ) → k < length t.sites → home_of t k ≡ node → first_labels t k 1 ≡ 16 + sites_before t node k
   label_is k below home =
       ap (λ n. 16 + n)
       (ap (λ h. length (filter (λ s. (home_of t s == h) && nat_lt s k) (range_with_len 0 (length t.sites)))) home
       ∙ ap (λ c. length (filter (λ s. (home_of t s == node) && nat_lt s c) (range_with_len 0 (length t.sites)))) (let e : k ≡ 0 + k = omega arith in e)
       ∙ ap length (below_only (λ s. home_of t s == node) k 0 (length t.sites) (omega (arith, below))))
 
-  pub edge_attached : (k label : ℕ) → k < length t.sites → home_of t k ≡ node → label ≡ 16 + given_below t node k
-      → after_attach (edge_below t node k) k label ≡ edge_below t node (k + 1)
-  edge_attached k label below home is =
-      ap (λ (ls : List (Option ℕ)). let e : Edge = record (first_edge t node) { labels = ls } in e)
-      (map-put (label_below t node k) (label_below t node (k + 1)) (length t.sites) k (Some label) None
-      (ap (λ b. if b then site_label_now t (first_labels t) (first_config t) node k else None) (less_is k (k + 1) (omega arith))
-      ∙ ap (λ b. if b then option_map (first_labels t k) ((first_config t).attached k) else None) (ap (λ n. n == node) home ∙ same_test node)
-      ∙ ap (λ n. let o : Option ℕ = Some n in o) (label_is k below home ∙ sym is))
-      (λ s under apart. ap (λ b. if b then site_label_now t (first_labels t) (first_config t) node s else None) (same_below k s apart)))
+  label_so : (k : ℕ) → k < length t.sites → label_at_start t node k ≡ site_label_now t (first_labels t) (first_config t) node k
+  label_so k below = elim (eqb_tells (home_of t k) node) [
+    | inl p ↦ ap (λ b. if b then Some (16 + sites_before t node k) else None) p.0
+        ∙ ap (λ n. let o : Option ℕ = Some n in o) (sym (label_is k below p.1))
+        ∙ sym (ap (λ b. if b then option_map (first_labels t k) ((first_config t).attached k) else None) p.0)
+    | inr p ↦ ap (λ b. if b then Some (16 + sites_before t node k) else None) p.0
+        ∙ sym (ap (λ b. if b then option_map (first_labels t k) ((first_config t).attached k) else None) p.0)
+  ]
 
-  pub edge_passed : (k : ℕ) → home_of t k ≢ node → edge_below t node k ≡ edge_below t node (k + 1)
-  edge_passed k apart =
-      ap (λ (ls : List (Option ℕ)). let e : Edge = record (first_edge t node) { labels = ls } in e)
-      (map_below (label_below t node k) (label_below t node (k + 1)) (length t.sites) 0 (λ s low under. elim (eqb_tells s k) [
-        | inl p ↦ subst (λ n. label_below t node k n ≡ label_below t node (k + 1) n) (sym p.1) here
-        | inr p ↦ ap (λ b. if b then site_label_now t (first_labels t) (first_config t) node s else None) (sym (same_below k s p.1))
-      ]))
-    where
-      away : site_label_now t (first_labels t) (first_config t) node k ≡ None
-      away = ap (λ b. if b then option_map (first_labels t k) ((first_config t).attached k) else None) (other_test (home_of t k) node apart)
+  edge_is : edges.first_edge t node ≡ first_edge t node
+  edge_is =
+      ap (λ (vs : List VrfState). let e : Edge = record (edges.first_edge t node) { vrfs = vs } in e) (ap (λ (e : Edge). e.vrfs) (starts.edge_is t lawful node))
+      ∙ ap (λ (ls : List (Option ℕ)). let e : Edge =
+      record (edge_at_start t node) { vrfs = map (vrf_in t (first_config t)) (vrfs_at t node); labels = ls } in e)
+      (map_below (label_at_start t node) (site_label_now t (first_labels t) (first_config t) node) (length t.sites) 0
+      (λ s low below. label_so s (omega (arith, below))))
+      ∙ ap (λ (hs : List (List Heard)). let e : Edge = record (first_edge t node) { heard = hs } in e)
+      (same_all t.loopbacks (heard_in t (first_labels t) (all_live t (first_config t)) (as_peerings nothing_decided) node) [] 0
+      (λ peer. nothing (peer == node) (peers_live (all_live t (first_config t)) node peer)))
 
-      none_if : (b : Bool) (o : Option ℕ) → o ≡ None → (if b then o else None) ≡ None
-      none_if true o e = e
-      none_if false o e = refl
-
-      here : label_below t node k k ≡ label_below t node (k + 1) k
-      here = none_if (nat_lt k k) (site_label_now t (first_labels t) (first_config t) node k) away
-          ∙ sym (none_if (nat_lt k (k + 1)) (site_label_now t (first_labels t) (first_config t) node k) away)
+pub edges_are : (t : Network) → IsLawful t → map (λ node. option_map working (edges.first_edge_or_none t node)) (nodes_of (wiring_of t))
+    ≡ map (λ node. option_map working (first_edge_or_none t node)) (nodes_of (wiring_of t))
+edges_are t lawful =
+    map_below (λ node. option_map working (edges.first_edge_or_none t node)) (λ node. option_map working (first_edge_or_none t node)) (length t.loopbacks) 0
+    (λ node low below. ap (λ (e : Edge). option_map working (if is_edge t.vrfs node then Some e else None)) (edge_is t lawful node))
 
 -- 3. Statics
 

@@ -1,41 +1,17 @@
 //! What there is at the start, when no session lives and nothing was received.
-ghost use Rattle.std.specs.Prelude.{◌≡◌, ◌<◌, ◌≤◌, ◌++◌, ◌∷◌, [], None, length, map, take, drop, replicate, option_map, IfOk};
+ghost use Rattle.std.specs.Prelude.{◌≡◌, ◌<◌, ◌≤◌, ◌++◌, ◌∷◌, [], length, map, take, drop, replicate, option_map, IfOk};
 ghost use Rattle.mn_ledger.specs.Prelude.{nodes_of, wiring_of, sites_at, first_config};
-ghost use Rattle.mn_routing_laws.specs.Routed.{working};
+ghost use Rattle.mn_edges.specs.Changes.{working};
 ghost use Rattle.mn_reflect_ledger_laws.specs.Picks.{placed_by, by_address};
 ghost use Rattle.mn_reflect_telling.specs.Mentions.{AreNodes, numbers_of};
-ghost use Rattle.mn_reflect_telling.specs.Starting.{first_edge, first_edge_or_none};
+ghost use Rattle.mn_reflect_telling.specs.Starting.{first_edge_or_none};
 
-use crate::telling::loopback_of;
 use mn_base::{NodeNo, SiteNo};
-use mn_bgp_session::BgpSession;
+use mn_edges::loopback_of;
 use mn_offers::Offers;
 use mn_pe::Pe;
 use mn_topo::Topology;
 use std::alloc::{AllocError, Global};
-
-/// No session, for each of so many peers.
-fn no_row(alloc: Global, peers: usize) -> Result<Vec<Option<BgpSession>>, AllocError>
-    ensures { IfOk result (λ row. row.items ≡ replicate peers None) }
-{
-    let mut row = Vec::new(alloc);
-    for _peer in 0..peers {
-        row.push(None)?;
-    }
-    Ok(row)
-}
-
-/// No session, between any of so many nodes.
-pub fn no_sessions(alloc: Global, nodes: usize) -> Result<Vec<Vec<Option<BgpSession>>>, AllocError>
-    ensures { IfOk result (λ rows. map (λ row. row.items) rows.items ≡ replicate nodes (replicate nodes None)) }
-{
-    let mut rows = Vec::new(alloc);
-    for _node in 0..nodes {
-        let row = no_row(alloc, nodes)?;
-        rows.push(row)?;
-    }
-    Ok(rows)
-}
 
 /// Nothing received, from each of so many peers.
 fn no_offers(alloc: Global, peers: usize) -> Result<Vec<Offers>, AllocError>
@@ -86,52 +62,12 @@ pub fn first_attachments(alloc: Global, topology: &Topology) -> Result<Vec<u32>,
     Ok(counts)
 }
 
-/// An edge whose sites have the first labels, in site order.
-fn first_edge(alloc: Global, topology: &Topology, node: NodeNo) -> Result<Pe, AllocError>
-    requires { node.0 < length topology.now.loopbacks }
-    ensures { IfOk result (λ pe. pe ≡ working (first_edge topology.now node.0)) }
-{
-    topology.laws();
-    let Ok(mut pe) = Pe::new(alloc, topology, node) else {
-        return Err(AllocError);
-    };
-    let mut label = 16;
-    for number in 0..topology.sites().len() {
-        let site = SiteNo(number as u16);
-        if topology.home_of(site).0 == node.0 {
-            let Ok(()) = pe.attach(site, label) else {
-                return Err(AllocError);
-            };
-            label += 1;
-        }
-    }
-    Ok(pe)
-}
-
-/// The edge at a node, none where the node is no edge.
-fn edge_if_any(alloc: Global, topology: &Topology, node: NodeNo) -> Result<Option<Pe>, AllocError>
-    requires { node.0 < length topology.now.loopbacks }
-    ensures { IfOk result (λ edge. edge ≡ option_map working (first_edge_or_none topology.now node.0)) }
-{
-    if !topology.is_edge(node) {
-        return Ok(None);
-    }
-    match first_edge(alloc, topology, node) {
-        Ok(pe) => Ok(Some(pe)),
-        Err(_) => Err(AllocError),
-    }
-}
-
 /// The edges, by node.
 pub fn first_edges(alloc: Global, topology: &Topology) -> Result<Vec<Option<Pe>>, AllocError>
     ensures { IfOk result (λ edges. edges.items ≡ map (λ node. option_map working (first_edge_or_none topology.now node)) (nodes_of (wiring_of topology.now))) }
 {
     topology.laws();
-    let mut edges = Vec::new(alloc);
-    for number in 0..topology.nodes().len() {
-        edges.push(edge_if_any(alloc, topology, NodeNo(number as u16))?)?;
-    }
-    Ok(edges)
+    mn_edges::first_edges(alloc, topology)
 }
 
 /// How many routes there are over sites.

@@ -27,9 +27,10 @@ ghost use Rattle.mn_reflect_telling.specs.Telling.{posted, passed_bytes, withdra
 
 use crate::mentions::{Mentions, plain};
 use crate::name::Name;
-use crate::telling::{loopback_of, send};
+use crate::updates::send;
 use mn_bgp_reflected::write_reflected;
 use mn_bgp_wire::{BgpMessage, Update, read_bgp, write_reach, write_unreach};
+use mn_edges::loopback_of;
 use mn_mail::Mail;
 use mn_offers::{Offered, Offers};
 use mn_prefix::Prefix;

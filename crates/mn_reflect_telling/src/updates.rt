@@ -1,18 +1,17 @@
-//! Messages as they are read, and an edge's exports as they are advertised.
-ghost use Rattle.std.specs.Prelude.{◌≡◌, ◌<◌, map, length, IfOk, OnOk};
+//! Messages as they are read and sent, and an edge's exports as they are advertised.
+ghost use Rattle.std.specs.Prelude.{◌≡◌, ◌<◌, ◌∷◌, [], map, length, IfOk, OnOk};
 ghost use Rattle.mn_base.specs.declared.numbers.NodeNo.{NodeNo as NodeNumber};
-ghost use Rattle.mn_reflect_telling.specs.Prelude.{spelled_in, IsSayable, AreSayable, export_letter, edge_news};
+ghost use Rattle.mn_reflect_telling.specs.Prelude.{IsSayable, AreSayable, export_letter, edge_news};
 ghost use Rattle.mn_reflect_telling.specs.Mentions.{AreNodes};
-ghost use Rattle.mn_reflect_telling.specs.Telling.{posted};
+ghost use Rattle.mn_reflect_telling.specs.Telling.{posted, letter_of};
 
-use crate::telling::{loopback_of, send};
 use mn_base::NodeNo;
 use mn_bgp_reflected::{Reflected, ReflectedBad, read_reflected};
-use mn_bgp_wire::{BgpMessage, read_bgp, write_reach, write_unreach};
-use mn_mail::Mail;
+use mn_bgp_wire::{BgpMessage, read_bgp};
+use mn_edges::spell;
+use mn_mail::{Letter, Mail};
 use mn_pe::Export;
 use mn_topo::Topology;
-use mn_vpn_nlri::VpnRoute;
 use std::alloc::{AllocError, Global};
 
 /// The routes that a message brings, or what else it says.
@@ -40,27 +39,14 @@ pub fn read(alloc: Global, bytes: &[u8]) -> Result<Heard, AllocError>
     }
 }
 
-/// An export as it is announced, or as it is withdrawn.
-fn spell(
-    alloc: Global,
-    topology: &Topology,
-    edge: NodeNo,
-    export: &Export,
-    comes: bool,
-) -> Result<Vec<u8>, AllocError>
-    requires edge { edge.0 < length topology.now.loopbacks }
-    requires sayable { IsSayable export.now }
-    ensures { IfOk result (λ bytes. bytes.items ≡ spelled_in topology.now edge.0 comes export.now) }
+/// Sends a message.
+pub fn send(mail: &mut Mail, from: NodeNo, to: NodeNo, bytes: Vec<u8>) -> Result<(), AllocError>
+    requires from { from.0 < mail.old.nodes }
+    requires to { to.0 < mail.old.nodes }
+    ensures sent { OnOk result (mail.new ≡ posted (letter_of from.0 to.0 bytes.items ∷ []) mail.old) }
+    ensures nodes { mail.new.nodes ≡ mail.old.nodes }
 {
-    if !comes {
-        return write_unreach(alloc, export.rd(), export.prefix());
-    }
-    let route = VpnRoute {
-        rd: export.rd(),
-        prefix: export.prefix(),
-        label: export.label(),
-    };
-    write_reach(alloc, loopback_of(topology, edge), &route, export.targets())
+    mail.send(Letter::new(from, to, bytes))
 }
 
 /// Tells these peers of an export that comes or goes.

@@ -21,7 +21,8 @@ use Rattle.mn_pe.specs.Held as held
 use Rattle.mn_pe.specs.Exports.{exports_at, exports_over, export_of}
 use Rattle.mn_routing_laws.specs.Routed.{working}
 use Rattle.mn_routing_laws.specs.Sending.{peers_from}
-use Rattle.mn_routing_laws.specs.Doing.{edge_or_blank, those_of}
+use Rattle.mn_routing_laws.specs.Doing.{those_of}
+pub use Rattle.mn_routing_laws.specs.Doing.{edge_of_node}
 use Rattle.mn_offers.specs.Heard.{Heard}
 use Rattle.mn_mail.specs.Mail.{Letter}
 use Rattle.mn_mail.specs.Mail as mail
@@ -95,9 +96,6 @@ statics_after statics _ = statics
 
 abbrev pub on_edge : ℕ → (Edge → Edge) → List (Option PeNow) → List (Option PeNow)
 on_edge node change edges = slice_set edges node (option_map (λ (pe : PeNow). working (change pe.edge)) (slice_index_or edges node None))
-
-abbrev pub edge_of_node : List (Option PeNow) → ℕ → Edge
-edge_of_node edges node = edge_or_blank (slice_index_or edges node None)
 
 -- what is decided of a route, as its own edge would say it
 abbrev pub decision_says : Network → Key → Option Heard → Says

@@ -15,8 +15,10 @@ use Rattle.mn_ledger.specs.Places.{loopback}
 use Rattle.mn_pe.specs.Edge.{Edge, after_message}
 use Rattle.mn_pe.specs.Held.{exports_of}
 use Rattle.mn_routing_laws.specs.Whole.{update_of}
-use Rattle.mn_routing_laws.specs.Routed.{Routed, working}
-use Rattle.mn_routing_laws.specs.Doing.{HasEdge, AreSayable, AreLabelledIn, Puts, edge_at, edge_or_blank, with_edge, with_end, next_on, taken}
+use Rattle.mn_edges.specs.Changes.{working}
+use Rattle.mn_routing_laws.specs.Routed.{Routed}
+use Rattle.mn_edges.specs.Said.{AreSayable}
+use Rattle.mn_routing_laws.specs.Doing.{HasEdge, AreLabelledIn, Puts, edge_at, edge_or_blank, with_edge, with_end, next_on, taken}
 use Rattle.mn_routing_laws.specs.Doing.{channel_from, heard_in, answers_in, IsAnswered, MayHear, Hears}
 use Rattle.mn_routing_laws.proofs.Opening.{taken_below}
 

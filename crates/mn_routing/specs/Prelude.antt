@@ -3,8 +3,8 @@ pub use Rattle.mn_flight.specs.Flying.{IsFlight, off_channel}
 pub use Rattle.mn_flight.specs.declared.Item.{Item}
 pub use Rattle.mn_bgp_wire.specs.Grammar.{IsBgp}
 pub use Rattle.mn_bgp_wire.specs.declared.refusal.BgpWireBad.TheVariants.{NoMemory}
-pub use Rattle.mn_vrf.specs.Vrf.{VrfState, add_refused, del_refused, set_refused, refusal_of}
-pub use Rattle.mn_ledger.specs.Prelude.{Network, first_config, home_of, edge_of, loopback}
+pub use Rattle.mn_vrf.specs.Vrf.{VrfState, add_refused, del_refused, set_refused}
+pub use Rattle.mn_ledger.specs.Prelude.{Network, home_of, edge_of, loopback}
 pub use Rattle.mn_frame_laws.specs.Entries.{AreWays}
 pub use Rattle.mn_frame_laws.specs.Given.{Labelling, given}
 pub use Rattle.mn_frame_laws.specs.Numbers.{labels_of}
@@ -14,12 +14,13 @@ pub use Rattle.mn_pe.specs.Exports.{exports_at, exports_over, export_of}
 pub use Rattle.mn_pe.specs.Header.{destination_of}
 pub use Rattle.mn_pe.specs.Held.{exports_of}
 pub use Rattle.mn_pe.specs.Pe.{found_in}
-pub use Rattle.mn_routing_laws.specs.Doing.{HasEdge, AreSayable, Puts, AreNews, edge_at, with_edge, those_of, export_set, static_added, static_deleted}
+pub use Rattle.mn_edges.specs.Changes.{working, those_of, AreNews, export_set, static_added, static_deleted}
+pub use Rattle.mn_edges.specs.Said.{AreSayable}
+pub use Rattle.mn_routing_laws.specs.Doing.{HasEdge, Puts, edge_at, with_edge}
 pub use Rattle.mn_routing_laws.specs.Doing.{MaySetImport, SetsImport, MaySetExport, SetsExport, MayAdd, Adds, MayDel, Dels, MayAttach, Attaches, MayDetach}
-pub use Rattle.mn_routing_laws.specs.Doing.{Detaches, IsSayable, AreLabelledIn, with_end, open_to, forgotten, next_on, taken, channel_from, MayTurn, Opens}
+pub use Rattle.mn_routing_laws.specs.Doing.{Detaches, AreLabelledIn, with_end, open_to, forgotten, next_on, taken, channel_from, MayTurn, Opens}
 pub use Rattle.mn_routing_laws.specs.Doing.{Ends, IsAnswered, MayHear, CanHear, Hears, answers_in}
-pub use Rattle.mn_routing_laws.specs.Routed.{working, IsRoutes}
-pub use Rattle.mn_routing_laws.specs.Sending.{news_in, put_all, to_each, news_to, spelled_in, is_steady, is_established, peers_from, bgp_state_by}
+pub use Rattle.mn_routing_laws.specs.Routed.{IsRoutes}
+pub use Rattle.mn_routing_laws.specs.Sending.{news_in, put_all, to_each, news_to, bgp_state_by}
 pub use Rattle.mn_routing_laws.specs.Sources.{as_held}
-pub use Rattle.mn_routing_laws.specs.Standing.{edge_in}
-pub use Rattle.mn_routing_laws.specs.Whole.{opened, update_of, edge_or_none, routes_in}
+pub use Rattle.mn_routing_laws.specs.Whole.{opened, update_of}

@@ -1,82 +1,17 @@
 //! The steps of one edge, which has news then.
-ghost use Rattle.std.specs.Prelude.{◌≡◌, ◌<◌, ◌≤◌, ◌^◌, ◌↔◌, IsOk, None, Some, Ok, length, slice_get, IfOk, OnOk};
+ghost use Rattle.std.specs.Prelude.{◌≡◌, ◌<◌, ◌≤◌, ◌^◌, None, Some, length, slice_get, IfOk, OnOk};
 ghost use Rattle.std.specs.List.{All};
-ghost use Rattle.mn_routing.specs.Prelude.{home_of, edge_of, VrfState, add_refused, del_refused, set_refused, refusal_of, vrf_of_site, after_attach, after_detach, found_in, exports_at, exports_over, export_of, working, news_in, HasEdge, AreSayable, Puts, AreNews, edge_at, with_edge, those_of, export_set, static_added, static_deleted, MaySetImport, SetsImport, MaySetExport, SetsExport, MayAdd, Adds, MayDel, Dels, MayAttach, Attaches, MayDetach, Detaches};
+ghost use Rattle.mn_routing.specs.Prelude.{home_of, edge_of, VrfState, add_refused, del_refused, set_refused, vrf_of_site, after_attach, after_detach, found_in, exports_at, exports_over, export_of, working, news_in, HasEdge, AreSayable, Puts, AreNews, edge_at, with_edge, those_of, export_set, static_added, static_deleted, MaySetImport, SetsImport, MaySetExport, SetsExport, MayAdd, Adds, MayDel, Dels, MayAttach, Attaches, MayDetach, Detaches};
 
-use crate::flying::{steady_peers, tell};
+use crate::flying::tell;
 use crate::routes::Routes;
 use mn_base::{NodeNo, Rt, SiteNo, VrfNo};
+use mn_edges::{News, steady_peers};
 use mn_flight::Clock;
-use mn_pe::{Export, NoMemory};
+use mn_pe::Export;
 use mn_prefix::Prefix;
 use mn_topo::Topology;
-use mn_vrf::VrfBad;
-use std::alloc::{AllocError, Global};
-
-/// An answer of an edge that can only be out of memory.
-fn done(answer: Result<(), VrfBad>) -> Result<(), AllocError>
-    requires { refusal_of answer ≡ None }
-    ensures { IsOk result ↔ IsOk answer }
-{
-    match answer {
-        Ok(()) => Ok(()),
-        Err(VrfBad::NoMemory) => Err(AllocError),
-        Err(_) => unreachable!(),
-    }
-}
-
-/// What an edge advertises, or out of memory.
-fn told(answer: Result<Vec<Export>, NoMemory>) -> Result<Vec<Export>, AllocError>
-    ensures told { IfOk result (λ exports. answer ≡ Ok exports) }
-    ensures asked { IsOk answer → IsOk result }
-{
-    match answer {
-        Ok(exports) => Ok(exports),
-        Err(_) => Err(AllocError),
-    }
-}
-
-/// One export, if there is one, among others.
-fn told_of_one(
-    alloc: Global,
-    answer: Result<Option<Export>, NoMemory>,
-) -> Result<Vec<Export>, AllocError>
-    ensures told { IfOk result (λ exports. IfOk answer (λ export. exports.items ≡ those_of export)) }
-    ensures asked { IsOk result → IsOk answer }
-    ensures none { answer ≡ Ok None → IsOk result }
-{
-    let mut exports = Vec::new(alloc);
-    match answer {
-        Ok(None) => {}
-        Ok(Some(export)) => exports.push(export)?,
-        Err(_) => return Err(AllocError),
-    }
-    Ok(exports)
-}
-
-/// Exports of an edge that come, or that go.
-#[derive(Drop)]
-struct News {
-    exports: Vec<Export>,
-    comes: bool,
-}
-
-/// What comes, or where that is nothing what is gone.
-fn news_of(come: Vec<Export>, gone: Vec<Export>) -> News
-    ensures { AreNews result.comes result.exports.items come.items gone.items }
-{
-    if come.is_empty() {
-        News {
-            exports: gone,
-            comes: false,
-        }
-    } else {
-        News {
-            exports: come,
-            comes: true,
-        }
-    }
-}
+use std::alloc::AllocError;
 
 impl Routes {
     /// Tells an edge's peers of exports that come or go.
@@ -123,10 +58,7 @@ impl Routes {
         ensures { OnOk result (SetsImport topology.now vrf target on self.old self.new) }
     {
         let edge = topology.edge_of(vrf);
-        let Some(pe) = &mut self.edges[usize::from(edge.0)] else {
-            unreachable!()
-        };
-        done(pe.import(vrf, target, on))
+        mn_edges::import(&mut self.edges, edge, vrf, target, on)
     }
 
     /// A VRF exports routes with a target, or doesn't. It answers what the edge is to advertise then: what the VRF exports now, or
@@ -144,13 +76,7 @@ impl Routes {
         ensures now { OnOk result (self.new ≡ with_edge edge.0 (export_set (edge_at self.old edge.0) vrf target on) self.old) }
         ensures news { IfOk result (λ news. AreNews news.comes news.exports.items (exports_at (export_set (edge_at self.old edge.0) vrf target on) vrf.0) (exports_at (edge_at self.old edge.0) vrf.0)) }
     {
-        let Some(pe) = &mut self.edges[usize::from(edge.0)] else {
-            unreachable!()
-        };
-        let gone = told(pe.exports_at(vrf))?;
-        done(pe.export(vrf, target, on))?;
-        let come = told(pe.exports_at(vrf))?;
-        Ok(news_of(come, gone))
+        mn_edges::export(&mut self.edges, edge, vrf, target, on)
     }
 
     /// A VRF exports routes with a target, or doesn't, and its edge advertises what changes.
@@ -187,11 +113,7 @@ impl Routes {
         ensures now { OnOk result (self.new ≡ with_edge edge.0 (static_added (edge_at self.old edge.0) site prefix) self.old) }
         ensures come { IfOk result (λ come. come.items ≡ those_of (export_of (static_added (edge_at self.old edge.0) site prefix) site.0 prefix)) }
     {
-        let Some(pe) = &mut self.edges[usize::from(edge.0)] else {
-            unreachable!()
-        };
-        done(pe.add_route(site, prefix))?;
-        told_of_one(self.alloc, pe.export_of(site, prefix))
+        mn_edges::add(self.alloc, &mut self.edges, edge, site, prefix)
     }
 
     /// A site's VRF has a prefix over the site, which its edge announces.
@@ -227,12 +149,7 @@ impl Routes {
         ensures now { OnOk result (self.new ≡ with_edge edge.0 (static_deleted (edge_at self.old edge.0) site prefix) self.old) }
         ensures gone { IfOk result (λ gone. gone.items ≡ those_of (export_of (edge_at self.old edge.0) site.0 prefix)) }
     {
-        let Some(pe) = &mut self.edges[usize::from(edge.0)] else {
-            unreachable!()
-        };
-        let gone = told_of_one(self.alloc, pe.export_of(site, prefix))?;
-        done(pe.del_route(site, prefix))?;
-        Ok(gone)
+        mn_edges::del(self.alloc, &mut self.edges, edge, site, prefix)
     }
 
     /// A site's VRF has a prefix over the site no longer, and its edge withdraws it.
@@ -267,13 +184,7 @@ impl Routes {
         ensures now { OnOk result (self.new ≡ with_edge edge.0 (after_attach (edge_at self.old edge.0) site.0 label) self.old) }
         ensures come { IfOk result (λ come. come.items ≡ exports_over (after_attach (edge_at self.old edge.0) site.0 label) site.0) }
     {
-        let Some(pe) = &mut self.edges[usize::from(edge.0)] else {
-            unreachable!()
-        };
-        if pe.attach(site, label).is_err() {
-            return Err(AllocError);
-        }
-        told(pe.exports_over(site))
+        mn_edges::attach(&mut self.edges, edge, site, label)
     }
 
     /// A site is attached with a label, and its edge announces what its VRF exports over it.
@@ -303,14 +214,7 @@ impl Routes {
         ensures now { OnOk result (self.new ≡ with_edge edge.0 (after_detach (edge_at self.old edge.0) site.0) self.old) }
         ensures gone { IfOk result (λ gone. gone.items ≡ exports_over (edge_at self.old edge.0) site.0) }
     {
-        let Some(pe) = &mut self.edges[usize::from(edge.0)] else {
-            unreachable!()
-        };
-        let gone = told(pe.exports_over(site))?;
-        if pe.detach(site).is_err() {
-            return Err(AllocError);
-        }
-        Ok(gone)
+        mn_edges::detach(&mut self.edges, edge, site)
     }
 
     /// A site is detached, and its edge withdraws what its VRF exported over it.

@@ -1,30 +1,19 @@
 //! BGP messages in flight.
-ghost use Rattle.std.specs.Prelude.{◌≡◌, ◌<◌, ◌≤◌, ◌+◌, ◌*◌, ◌^◌, ◌++◌, ◌∷◌, [], Bool, length, map, IfOk, OnOk, if◌then◌else◌};
+ghost use Rattle.std.specs.Prelude.{◌≡◌, ◌<◌, ◌≤◌, ◌+◌, ◌*◌, ◌^◌, ◌++◌, ◌∷◌, [], length, IfOk, OnOk};
 ghost use Rattle.std.specs.List.{All, AllByRecursion};
 ghost use Rattle.mn_base.specs.declared.numbers.NodeNo.{NodeNo as NodeNumber};
-ghost use Rattle.mn_routing.specs.Prelude.{IsFlight, off_channel, loopback, put_all, to_each, news_to, spelled_in, is_steady, is_established, peers_from, IsSayable, AreSayable};
+ghost use Rattle.mn_routing.specs.Prelude.{IsFlight, off_channel, put_all, to_each, news_to, AreSayable};
 
 use mn_base::{ListOf, NodeNo};
-use mn_bgp_session::BgpSession;
-use mn_bgp_wire::{write_reach, write_unreach};
+use mn_edges::spell;
 use mn_flight::{Clock, Flight};
 use mn_flight_pool::PoolFlight;
 use mn_pe::Export;
-use mn_states::BgpState;
 use mn_topo::Topology;
-use mn_vpn_nlri::VpnRoute;
 use std::alloc::{AllocError, Global};
 
 /// The flight of BGP's messages, with a channel for each two nodes. Any `Flight` takes its place here.
 pub type Messages = PoolFlight<ListOf<u8>>;
-
-/// The address of a node.
-pub(crate) fn loopback_of(topology: &Topology, node: NodeNo) -> u32
-    requires { node.0 < length topology.now.loopbacks }
-    ensures { result ≡ loopback topology.now node.0 }
-{
-    topology.nodes()[usize::from(node.0)].loopback
-}
 
 /// The channel from an edge to a peer.
 pub(crate) fn channel_to(topology: &Topology, edge: NodeNo, peer: NodeNo) -> u32
@@ -106,29 +95,6 @@ fn send_each(
     Ok(number)
 }
 
-/// An export as it is announced, or as it is withdrawn.
-fn spell(
-    alloc: Global,
-    topology: &Topology,
-    edge: NodeNo,
-    export: &Export,
-    comes: bool,
-) -> Result<Vec<u8>, AllocError>
-    requires edge { edge.0 < length topology.now.loopbacks }
-    requires sayable { IsSayable export.now }
-    ensures { IfOk result (λ bytes. bytes.items ≡ spelled_in topology.now edge.0 comes export.now) }
-{
-    if !comes {
-        return write_unreach(alloc, export.rd(), export.prefix());
-    }
-    let route = VpnRoute {
-        rd: export.rd(),
-        prefix: export.prefix(),
-        label: export.label(),
-    };
-    write_reach(alloc, loopback_of(topology, edge), &route, export.targets())
-}
-
 /// Tells these peers of an edge's exports that come or go. It answers the number after the last message's.
 pub(crate) fn tell(
     messages: &mut Messages,
@@ -165,45 +131,6 @@ pub(crate) fn tell(
         number = send_each(messages, alloc, topology, edge, peers, &bytes, clock)?;
     }
     Ok(number)
-}
-
-/// Whether a session is there and Established.
-fn is_steady(end: &Option<BgpSession>) -> bool
-    ensures { result ≡ is_steady end.now }
-{
-    match end {
-        None => false,
-        Some(session) => match session.state() {
-            BgpState::Established => true,
-            _ => false,
-        },
-    }
-}
-
-/// Puts a peer behind others, if its session is Established.
-fn put_if(peers: &mut Vec<NodeNo>, steady: bool, peer: NodeNo) -> Result<(), AllocError>
-    ensures { OnOk result (peers.new.items ≡ peers.old.items ++ (if steady then peer ∷ [] else [])) }
-{
-    if steady {
-        peers.push(peer)?;
-    }
-    Ok(())
-}
-
-/// The peers with which an edge's session is Established, by its ends.
-pub(crate) fn steady_peers(
-    alloc: Global,
-    ends: &[Option<BgpSession>],
-) -> Result<Vec<NodeNo>, AllocError>
-    requires { length ends.now ≤ 65536 }
-    ensures peers { IfOk result (λ peers. peers.items ≡ peers_from 0 ends.now) }
-{
-    let mut peers = Vec::new(alloc);
-    for peer in 0..ends.len() {
-        let steady = is_steady(&ends[peer]);
-        put_if(&mut peers, steady, NodeNo(peer as u16))?;
-    }
-    Ok(peers)
 }
 
 /// Takes all that flies between two edges out of flight.

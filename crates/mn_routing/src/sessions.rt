@@ -7,11 +7,12 @@ ghost use Rattle.mn_bgp_session.specs.declared.table.BgpReply.{BgpReply as Reply
 ghost use Rattle.mn_bgp_session.specs.Table as table;
 ghost use Rattle.mn_routing_laws.specs.Doing.{cut as between_cut};
 
-use crate::flying::{channel_to, cut, loopback_of, send, tell};
+use crate::flying::{channel_to, cut, send, tell};
 use crate::routes::Routes;
 use mn_base::{ListOf, NodeNo};
 use mn_bgp_session::{BgpReply, BgpSession};
 use mn_bgp_wire::{BgpMessage, BgpWireBad, read_bgp, write_keep, write_open};
+use mn_edges::loopback_of;
 use mn_flight::{Clock, Flight};
 use mn_topo::Topology;
 use std::alloc::{AllocError, Global};

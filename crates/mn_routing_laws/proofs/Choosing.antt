@@ -1,10 +1,8 @@
 -- Of the routes that are open the edge finds the ledger's best among those that take part; where none is open, the best of all.
-use Rattle.std.proofs.Common.{ℕ, ◌≡◌, Bool, true, false, List, [], ◌∷◌, filter, refl, sym, ◌∙◌, ap, Option, Some, None}
+use Rattle.std.proofs.Common.{ℕ, ◌≡◌, Bool, true, false, List, filter, refl, sym, ◌∙◌, ap, Option, Some, None}
 use Rattle.std.specs.Prelude.{◌&&◌, option_map}
-use Rattle.std.specs.List.{list_any}
-use Rattle.mn_base.proofs.Bools.{no}
 use Rattle.mn_base.proofs.Places.{ascends_filter}
-use Rattle.mn_prefix.specs.Prefix.{AddressBlock, IsPrefix, contains}
+use Rattle.mn_prefix.specs.Prefix.{AddressBlock, IsPrefix}
 use Rattle.mn_prefix.specs.Table.{longest_match}
 use Rattle.mn_topo.specs.Network.{Network}
 use Rattle.mn_ledger.specs.World.{World}

@@ -1,11 +1,9 @@
 -- What an edge finds for a packet is the ledger's choice: among the routes that are open by the FECs that its node offers, or among all where
 -- the way to what it finds is open.
-use Rattle.std.proofs.Common.{ℕ, ◌≡◌, ◌<◌, inl, inr, Bool, true, false, List, [], ◌∷◌, length, refl, sym, ◌∙◌, ap, subst, Option, Some, None}
-use Rattle.std.specs.Prelude.{◌==◌, ◌||◌, is_none, is_some, option_map}
-use Rattle.std.specs.List.{Contains}
+use Rattle.std.proofs.Common.{ℕ, ◌≡◌, ◌<◌, inl, inr, Bool, true, List, length, refl, sym, ◌∙◌, ap, subst, Option, Some, None}
+use Rattle.std.specs.Prelude.{◌||◌, is_some, option_map}
 use Rattle.mn_base.proofs.Bools.{no, test_same, two_ways}
 use Rattle.mn_base.proofs.Members.{In, contained_in, in_contained}
-use Rattle.mn_prefix.specs.Prefix.{AddressBlock}
 use Rattle.mn_prefix.specs.Table.{longest_match}
 use Rattle.mn_pe.specs.Rule.{Rule}
 use Rattle.mn_ipv4.specs.Header.{destination_of}
@@ -16,7 +14,7 @@ use Rattle.mn_node.specs.Ldp.{usable_by}
 use Rattle.mn_ledger.specs.Entry.{first_rule}
 use Rattle.mn_ledger.specs.Places.{home_of, edge_of, vrf_of}
 use Rattle.mn_ledger.specs.World.{World}
-use Rattle.mn_ledger.specs.Transport.{known, offers}
+use Rattle.mn_ledger.specs.Transport.{known}
 use Rattle.mn_ledger.specs.Held.{HeldRoute, held, best}
 use Rattle.mn_ledger.specs.Held as ledger_held
 use Rattle.mn_ledger.specs.Best.{IsBest}
@@ -31,10 +29,8 @@ use Rattle.mn_ledger_laws.proofs.Holding.{names_what_exists}
 use Rattle.mn_frame_laws.specs.Entries.{AreWays}
 use Rattle.mn_frame_laws.specs.Numbers.{labels_of}
 use Rattle.mn_bgp_spelling_laws.specs.Spelling.{Labels}
-use Rattle.mn_vrf.specs.declared.source.Source.{Source}
 use Rattle.mn_vrf.specs.Routes.{is_open, found_among}
 use Rattle.mn_vrf.specs.Vrf.{VrfState}
-use Rattle.mn_pe.specs.declared.entering.Entered.{Entered}
 use Rattle.mn_pe.specs.Edge.{Edge}
 use Rattle.mn_pe.specs.Held.{site_label, held_by}
 use Rattle.mn_pe.specs.Pe.{found_in}

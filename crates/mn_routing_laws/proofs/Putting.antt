@@ -1,6 +1,6 @@
 -- One message after another is put into flight.
 use Rattle.std.proofs.Common.{ℕ, zero, suc, ◌≡◌, ◌+◌, ◌<◌, ◌≤◌, Bool, true, false, List, [], ◌∷◌, ◌++◌, length, map, drop, refl, arith, sym, ◌∙◌, ap}
-use Rattle.std.proofs.Common.{subst, append_assoc, append-nil, get_or, add-one}
+use Rattle.std.proofs.Common.{subst, append_assoc, get_or, add-one}
 use Rattle.std.specs.Prelude.{if◌then◌else◌, slice_index_or, Option}
 use Rattle.std.specs.List.{All, AllByRecursion}
 use Rattle.std.proofs.lemmas.List.{length-append, length-map}
@@ -9,7 +9,8 @@ use Rattle.mn_base.specs.declared.numbers.NodeNo.{NodeNo}
 use Rattle.mn_flight.specs.declared.Item.{Item}
 use Rattle.mn_bgp_session.specs.declared.session.BgpSession.{BgpSession}
 use Rattle.mn_pe.specs.Held.{Exported}
-use Rattle.mn_routing_laws.specs.Sending.{Parcel, put_all, to_each, to_all, is_steady, peers_from}
+use Rattle.mn_edges.specs.Peers.{is_steady, peers_from}
+use Rattle.mn_routing_laws.specs.Sending.{Parcel, put_all, to_each, to_all}
 
 drop_suc : {A : Type 0} (xs : List A) (n : ℕ) (d : A) → n < length xs → drop n xs ≡ get_or xs n d ∷ drop (suc n) xs
 drop_suc [] n d h = absurd (let none : n < 0 → ⊥ = (λ p. omega (arith, p)) in none h)
@@ -24,20 +25,6 @@ nothing_left [] = refl
 nothing_left (x ∷ xs) = nothing_left xs
 
 -- 1. Peers
-
-pub steady_next : (ends : List (Option BgpSession)) (k : ℕ) (d : Option BgpSession) (xs new all : List NodeNo) → k < length ends
-    → new ≡ xs ++ (if is_steady (get_or ends k d) then record { 0 = k } ∷ [] else [])
-    → xs ++ peers_from k (drop k ends) ≡ all → new ++ peers_from (k + 1) (drop (k + 1) ends) ≡ all
-steady_next ends k d xs new all h put was =
-    ap (λ ys. ys ++ peers_from (k + 1) (drop (k + 1) ends)) put
-    ∙ by (is_steady (get_or ends k d))
-    ∙ ap (λ ys. xs ++ peers_from k ys) (sym (drop_one ends k d h))
-    ∙ was
-  where
-    by : (b : Bool) → (xs ++ (if b then record { 0 = k } ∷ [] else [])) ++ peers_from (k + 1) (drop (k + 1) ends)
-        ≡ xs ++ (if b then record { 0 = k } ∷ peers_from (k + 1) (drop (k + 1) ends) else peers_from (k + 1) (drop (k + 1) ends))
-    by true = append_assoc xs (record { 0 = k } ∷ []) (peers_from (k + 1) (drop (k + 1) ends))
-    by false = ap (λ ys. ys ++ peers_from (k + 1) (drop (k + 1) ends)) (append-nil xs)
 
 peers_below : (from limit : ℕ) (ends : List (Option BgpSession)) → from + length ends ≤ limit →
     AllByRecursion (λ (peer : NodeNo). peer.0 < limit) (peers_from from ends)

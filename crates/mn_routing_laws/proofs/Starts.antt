@@ -1,25 +1,26 @@
 -- At the start each edge has what the topology says of it, each of its sites has its label, and nothing was received.
 use Rattle.std.proofs.Common.{ℕ, zero, suc, ◌≡◌, ◌≢◌, ◌+◌, ◌*◌, ◌<◌, Bool, true, false, cond, List, [], ◌∷◌, ◌++◌, map, length, refl, arith, sym}
-use Rattle.std.proofs.Common.{◌∙◌, ap, subst, Option, None, Some, inl, inr}
+use Rattle.std.proofs.Common.{◌∙◌, ap, Option, None, Some, inl, inr}
 use Rattle.std.specs.Prelude.{◌==◌, ◌&&◌, ◌||◌, nat_lt, filter, fold, slice_get, replicate, option_map, if◌then◌else◌}
 use Rattle.std.specs.List.{AllByRecursion, IsDistinct, range_with_len}
-use Rattle.std.proofs.lemmas.Bool.Decides.{eqb_tells, leb_tells}
+use Rattle.std.proofs.lemmas.Bool.Decides.{eqb_tells}
 use Rattle.std.proofs.lemmas.List.{map-append, length-map}
 use Rattle.std.proofs.lemmas.List.FromFn.{length-map-range_with_len}
 use Rattle.std.proofs.lemmas.Simd.{map-map}
 use Rattle.std.proofs.lemmas.List.Elements.{filter-append}
 use Rattle.std.proofs.lemmas.List.Sums.{fold-append}
 use Rattle.std.proofs.lemmas.Option.{get_or_from_slice_get}
-use Rattle.mn_base.proofs.Bools.{or_off, no, same_test, other_test, less_is, not_less}
+use Rattle.mn_base.proofs.Bools.{or_off, no, same_test, other_test}
 use Rattle.mn_base.specs.Ordered.{with_one}
 use Rattle.mn_wiring.specs.Wiring.{nodes_of}
 use Rattle.mn_base.specs.declared.numbers.Rt.{Rt}
 use Rattle.mn_prefix.specs.Prefix.{AddressBlock}
 use Rattle.mn_topo.specs.Network.{Network, wiring_of}
 use Rattle.mn_topo.specs.Lawful.{IsLawful, AreTargets}
+use Rattle.mn_topo.specs.VrfTable.{is_edge}
 use Rattle.mn_topo.specs.declared.vrfs.VrfDef.{VrfDef}
 use Rattle.mn_topo.specs.declared.sites.SiteDef.{SiteDef}
-use Rattle.mn_node.proofs.Lists.{map-put, map_below}
+use Rattle.mn_node.proofs.Lists.{map_below}
 use Rattle.mn_targets.specs.Targets.{has_target, target_set}
 use Rattle.mn_bgp_session.specs.declared.session.BgpSession.{BgpSession}
 use Rattle.mn_ledger.specs.Places.{vrf_at, vrf_of, vrfs_at, edge_of, home_of}
@@ -32,9 +33,11 @@ use Rattle.mn_frame_laws.specs.Given.{given, attachment_of, label_given}
 use Rattle.mn_frame_laws.specs.Numbers.{labels_of}
 use Rattle.mn_rib_in.specs.Heard.{Heard}
 use Rattle.mn_vrf.specs.Vrf.{Static, VrfState, static_before}
-use Rattle.mn_pe.specs.Edge.{Edge, after_attach}
+use Rattle.mn_pe.specs.Edge.{Edge}
 use Rattle.mn_pe.specs.Pe.{PeNow}
 use Rattle.mn_pe.specs.Start.{after_targets, after_prefixes, after_sites, vrf_at_start, vrf_if, vrfs_from, edge_at_start}
+use Rattle.mn_edges.specs.Start.{sites_before, label_at_start, first_edge, first_edge_or_none}
+use Rattle.mn_edges.proofs.Starts.{same_all}
 use Rattle.mn_routing_laws.specs.Routed.{Routed, working, bytes_on, IsRoutes}
 use Rattle.mn_routing_laws.specs.Standing.{static_of, statics_in, vrf_in, site_label_now, heard_in, edge_in}
 use Rattle.mn_routing_laws.specs.Whole.{edge_or_none, session_or_none, routes_in}
@@ -187,10 +190,6 @@ vrfs_are t node v (d ∷ ds) at targets =
 
 -- 4. Lists of one thing
 
-pub same_all : {A B : Type 0} (xs : List A) (f : ℕ → B) (z : B) (a : ℕ) → ((k : ℕ) → f k ≡ z) → map (λ (x : A). z) xs ≡ map f (range_with_len a (length xs))
-same_all [] f z a h = refl
-same_all (x ∷ xs) f z a h = ap (λ b. b ∷ map (λ y. z) xs) (sym (h a)) ∙ ap (λ bs. f a ∷ bs) (same_all xs f z (a + 1) h)
-
 pub all_alike : {B : Type 0} (n : ℕ) (f : ℕ → B) (z : B) (a : ℕ) → ((k : ℕ) → f k ≡ z) → replicate n z ≡ map f (range_with_len a n)
 all_alike zero f z a h = refl
 all_alike (suc n) f z a h = ap (λ b. b ∷ replicate n z) (sym (h a)) ∙ ap (λ bs. f a ∷ bs) (all_alike n f z (a + 1) h)
@@ -207,26 +206,7 @@ nothing_of true live xs e = refl
 nothing_of false true xs e = cc
 nothing_of false false xs e = refl
 
--- 5. How many of the first numbers pass a test
-
-module _ (p : ℕ → Bool) where
-  count_more : (n a : ℕ) → length (filter p (range_with_len a (suc n))) ≡ length (filter p (range_with_len a n)) + (if p (a + n) then 1 else 0)
-  count_more zero a = ap (λ k. length (cond (p k) (a ∷ []) [])) (let e : a ≡ a + 0 = omega arith in e) ∙ by (p (a + 0))
-    where
-      by : (b : Bool) → length (cond b (a ∷ []) []) ≡ 0 + (if b then 1 else 0)
-      by true = refl
-      by false = refl
-  count_more (suc n) a =
-      by (p a) (count_more n (a + 1) ∙ ap (λ k. length (filter p (range_with_len (a + 1) n)) + (if p k then 1 else 0)) (let e : a + 1 + n ≡ a + suc n =
-      omega arith in e))
-    where
-      by : (b : Bool) → length (filter p (range_with_len (a + 1) (suc n))) ≡ length (filter p (range_with_len (a + 1) n)) + (if p (a + suc n) then 1 else 0)
-          → length (cond b (a ∷ filter p (range_with_len (a + 1) (suc n))) (filter p (range_with_len (a + 1) (suc n))))
-          ≡ length (cond b (a ∷ filter p (range_with_len (a + 1) n)) (filter p (range_with_len (a + 1) n))) + (if p (a + suc n) then 1 else 0)
-      by true e = omega (arith, e)
-      by false e = e
-
--- 6. An edge, with labels for its sites below a number
+-- 5. An edge, with the first labels
 
 -- a site of the node has as its first label, from 16 on, the one after those of its sites before it
 first_label : (p : ℕ → Bool) (k : ℕ) → p k ≡ true → (d n b a : ℕ) → k ≡ b + d → d < n →
@@ -263,34 +243,6 @@ first_label p k on (suc d) (suc n) b a e h = by (p b) (λ c. first_label p k on 
         ∙ rest (a + 1) ∙ more (length (filter p (range_with_len (b + 1) d)))
     by false rest = rest a
 
--- how many of the sites below this one are the edge's
-abbrev pub given_below : Network → ℕ → ℕ → ℕ
-given_below t node k = length (filter (λ s. home_of t s == node) (range_with_len 0 k))
-
-pub given_more : (t : Network) (node k : ℕ) → given_below t node (k + 1) ≡ given_below t node k + (if home_of t k == node then 1 else 0)
-given_more t node k =
-    ap (λ n. length (filter (λ s. home_of t s == node) (range_with_len 0 n))) (let e : k + 1 ≡ suc k = omega arith in e)
-    ∙ count_more (λ s. home_of t s == node) k 0
-    ∙ ap (λ n. given_below t node k + (if home_of t n == node then 1 else 0)) (let e : 0 + k ≡ k = omega arith in e)
-
-pub given_here : (t : Network) (node k : ℕ) → home_of t k ≡ node → given_below t node (k + 1) ≡ given_below t node k + 1
-given_here t node k home =
-    given_more t node k ∙ ap (λ b. given_below t node k + (if b then 1 else 0)) (ap (λ n. n == node) home ∙ same_test node)
-
-pub given_away : (t : Network) (node k : ℕ) → home_of t k ≢ node → given_below t node (k + 1) ≡ given_below t node k
-given_away t node k apart =
-    given_more t node k ∙ ap (λ b. given_below t node k + (if b then 1 else 0)) (other_test (home_of t k) node apart) ∙ none_more (given_below t node k)
-  where
-    none_more : (n : ℕ) → n + 0 ≡ n
-    none_more n = omega arith
-
-abbrev pub label_below : Network → ℕ → ℕ → ℕ → Option ℕ
-label_below t node k s = if nat_lt s k then site_label_now t (labels_of t []) (first_config t) node s else None
-
-abbrev pub edge_below : Network → ℕ → ℕ → Edge
-edge_below t node k =
-    record (edge_in t (labels_of t []) (first_config t) (start t).peerings node) { labels = map (label_below t node k) (range_with_len 0 (length t.sites)) }
-
 module _ (t : Network) (lawful : IsLawful t) (node : ℕ) where
   vrfs_first : vrfs_from t.sites node 0 t.vrfs ≡ map (vrf_in t (first_config t)) (vrfs_at t node)
   vrfs_first = vrfs_are t node 0 t.vrfs
@@ -298,66 +250,33 @@ module _ (t : Network) (lawful : IsLawful t) (node : ℕ) where
       e) ∙ get_or_from_slice_get t.vrfs k d (record { node = record { 0 = 0 }; rd = record { 0 = 0 }; «import» = []; export = [] }) is)
       lawful.vrfs.targets
 
-  pub edge_first : edge_at_start t node ≡ edge_below t node 0
-  edge_first =
-      ap (λ (vs : List VrfState). let e : Edge = record (edge_at_start t node) { vrfs = vs } in e) vrfs_first
-      ∙ ap (λ (ls : List (Option ℕ)). let e : Edge =
-      record (edge_at_start t node) { vrfs = map (vrf_in t (first_config t)) (vrfs_at t node); labels = ls } in e)
-      (same_all t.sites (label_below t node 0) None 0
-      (λ s. ap (λ b. if b then site_label_now t (labels_of t []) (first_config t) node s else None) (not_less s 0 (omega arith))))
-      ∙ ap (λ (hs : List (List Heard)). let e : Edge = record (edge_below t node 0) { heard = hs } in e)
-      (same_all t.loopbacks (heard_in t (labels_of t []) (first_config t) (start t).peerings node) [] 0
-      (λ peer. nothing_of (peer == node) (peers_live (first_config t) node peer) _ (dead t node peer)))
-
-  pub edge_whole : edge_below t node (length t.sites) ≡ edge_in t (labels_of t []) (first_config t) (start t).peerings node
-  edge_whole = ap (λ (ls : List (Option ℕ)). let e : Edge = record (edge_in t (labels_of t []) (first_config t) (start t).peerings node) { labels = ls } in e)
-      (map_below (label_below t node (length t.sites)) (site_label_now t (labels_of t []) (first_config t) node) (length t.sites) 0
-      (λ s low below. ap (λ b. if b then site_label_now t (labels_of t []) (first_config t) node s else None)
-      (less_is s (length t.sites) (omega (arith, below)))))
-
-  -- what is below a number and what is below the next, but for that number itself
-  same_below : (k s : ℕ) → s ≢ k → nat_lt s (k + 1) ≡ nat_lt s k
-  same_below k s apart = elim (leb_tells k s) [
-    | inl p ↦ not_less s (k + 1) (let low = p.1 in omega (arith, low, apart)) ∙ sym (not_less s k p.1)
-    | inr p ↦ less_is s (k + 1) (let low = p.1 in omega (arith, low)) ∙ sym (less_is s k p.1)
-  ]
-
-  label_is : (k : ℕ) → k < length t.sites → home_of t k ≡ node → labels_of t [] k 1 ≡ 16 + given_below t node k
+  label_is : (k : ℕ) → k < length t.sites → home_of t k ≡ node → labels_of t [] k 1 ≡ 16 + sites_before t node k
   unfolding labels_of given node_labels
   label_is k below home =
       first_label (λ s. home_of t s == home_of t k) k (same_test (home_of t k)) k (length t.sites) 0 16 (let e : k ≡ 0 + k = omega arith in e) below
       ∙ ap (λ h. 16 + length (filter (λ s. home_of t s == h) (range_with_len 0 k))) home
 
-  pub edge_attached : (k label : ℕ) → k < length t.sites → home_of t k ≡ node → label ≡ 16 + given_below t node k
-      → after_attach (edge_below t node k) k label ≡ edge_below t node (k + 1)
-  edge_attached k label below home is =
-      ap (λ (ls : List (Option ℕ)). let e : Edge = record (edge_in t (labels_of t []) (first_config t) (start t).peerings node) { labels = ls } in e)
-      (map-put (label_below t node k) (label_below t node (k + 1)) (length t.sites) k (Some label) None
-      (ap (λ b. if b then site_label_now t (labels_of t []) (first_config t) node k else None) (less_is k (k + 1) (omega arith))
-      ∙ ap (λ b. if b then option_map (labels_of t [] k) ((first_config t).attached k) else None) (ap (λ n. n == node) home ∙ same_test node)
-      ∙ ap (λ n. let o : Option ℕ = Some n in o) (label_is k below home ∙ sym is))
-      (λ s under apart. ap (λ b. if b then site_label_now t (labels_of t []) (first_config t) node s else None) (same_below k s apart)))
+  label_so : (k : ℕ) → k < length t.sites → label_at_start t node k ≡ site_label_now t (labels_of t []) (first_config t) node k
+  label_so k below = elim (eqb_tells (home_of t k) node) [
+    | inl p ↦ ap (λ b. if b then Some (16 + sites_before t node k) else None) p.0
+        ∙ ap (λ n. let o : Option ℕ = Some n in o) (sym (label_is k below p.1))
+        ∙ sym (ap (λ b. if b then option_map (labels_of t [] k) ((first_config t).attached k) else None) p.0)
+    | inr p ↦ ap (λ b. if b then Some (16 + sites_before t node k) else None) p.0
+        ∙ sym (ap (λ b. if b then option_map (labels_of t [] k) ((first_config t).attached k) else None) p.0)
+  ]
 
-  pub edge_passed : (k : ℕ) → home_of t k ≢ node → edge_below t node k ≡ edge_below t node (k + 1)
-  edge_passed k apart =
-      ap (λ (ls : List (Option ℕ)). let e : Edge = record (edge_in t (labels_of t []) (first_config t) (start t).peerings node) { labels = ls } in e)
-      (map_below (label_below t node k) (label_below t node (k + 1)) (length t.sites) 0 (λ s low under. elim (eqb_tells s k) [
-        | inl p ↦ subst (λ n. label_below t node k n ≡ label_below t node (k + 1) n) (sym p.1) here
-        | inr p ↦ ap (λ b. if b then site_label_now t (labels_of t []) (first_config t) node s else None) (sym (same_below k s p.1))
-      ]))
-    where
-      nothing : site_label_now t (labels_of t []) (first_config t) node k ≡ None
-      nothing = ap (λ b. if b then option_map (labels_of t [] k) ((first_config t).attached k) else None) (other_test (home_of t k) node apart)
+  pub edge_is : first_edge t node ≡ edge_in t (labels_of t []) (first_config t) (start t).peerings node
+  edge_is =
+      ap (λ (vs : List VrfState). let e : Edge = record (first_edge t node) { vrfs = vs } in e) vrfs_first
+      ∙ ap (λ (ls : List (Option ℕ)). let e : Edge =
+      record (edge_at_start t node) { vrfs = map (vrf_in t (first_config t)) (vrfs_at t node); labels = ls } in e)
+      (map_below (label_at_start t node) (site_label_now t (labels_of t []) (first_config t) node) (length t.sites) 0
+      (λ s low below. label_so s (omega (arith, below))))
+      ∙ ap (λ (hs : List (List Heard)). let e : Edge = record (edge_in t (labels_of t []) (first_config t) (start t).peerings node) { heard = hs } in e)
+      (same_all t.loopbacks (heard_in t (labels_of t []) (first_config t) (start t).peerings node) [] 0
+      (λ peer. nothing_of (peer == node) (peers_live (first_config t) node peer) _ (dead t node peer)))
 
-      none_if : (b : Bool) (o : Option ℕ) → o ≡ None → (if b then o else None) ≡ None
-      none_if true o e = e
-      none_if false o e = refl
-
-      here : label_below t node k k ≡ label_below t node (k + 1) k
-      here = none_if (nat_lt k k) (site_label_now t (labels_of t []) (first_config t) node k) nothing
-          ∙ sym (none_if (nat_lt k (k + 1)) (site_label_now t (labels_of t []) (first_config t) node k) nothing)
-
--- 7. Sessions
+-- 6. Sessions
 
 pub no_session : (t : Network) (node peer : ℕ) → session_or_none t (first_config t) (start t).peerings node peer ≡ None
 no_session t node peer = by (peers_live (first_config t) node peer) _ (dead t node peer)
@@ -373,17 +292,13 @@ no_sessions t =
     (replicate (length t.loopbacks) None) 0
     (λ node. sym (all_alike (length t.loopbacks) (session_or_none t (first_config t) (start t).peerings node) None 0 (no_session t node)))
 
-pub edges_are : (t : Network) →
-    map (λ node. option_map working (edge_or_none t (labels_of t []) (first_config t) (start t).peerings node)) (range_with_len 0 (length t.loopbacks))
+pub edges_are : (t : Network) → IsLawful t → map (λ node. option_map working (first_edge_or_none t node)) (nodes_of (wiring_of t))
     ≡ map (option_map working) (routes_in t (labels_of t []) (first_config t) (start t).peerings).edges
-edges_are t = sym (map-map (option_map working) (edge_or_none t (labels_of t []) (first_config t) (start t).peerings) (range_with_len 0 (length t.loopbacks)))
-
-pub replicate_more : {A : Type 0} (x : A) (n : ℕ) → replicate n x ++ x ∷ [] ≡ replicate (n + 1) x
-replicate_more x n = by n ∙ ap (λ k. replicate k x) (let e : suc n ≡ n + 1 = omega arith in e)
-  where
-    by : (k : ℕ) → replicate k x ++ x ∷ [] ≡ replicate (suc k) x
-    by zero = refl
-    by (suc k) = ap (λ xs. x ∷ xs) (by k)
+edges_are t lawful =
+    map_below (λ node. option_map working (first_edge_or_none t node))
+    (λ node. option_map working (edge_or_none t (labels_of t []) (first_config t) (start t).peerings node)) (length t.loopbacks) 0
+    (λ node low below. ap (λ (e : Edge). option_map working (if is_edge t.vrfs node then Some e else None)) (edge_is t lawful node))
+    ∙ sym (map-map (option_map working) (edge_or_none t (labels_of t []) (first_config t) (start t).peerings) (range_with_len 0 (length t.loopbacks)))
 
 pub edges_many : (t : Network) → length (map (option_map working) (routes_in t (labels_of t []) (first_config t) (start t).peerings).edges) ≡ length t.loopbacks
 edges_many t =
@@ -406,8 +321,3 @@ pub channels_first : (t : Network) (edges : List (Option PeNow)) (nodes channels
 channels_first t edges nodes channels many are is =
     let long : length edges ≡ nodes = ap length are ∙ edges_many t ∙ sym many in
     is ∙ ap (λ n. n * n) (sym long)
-
-pub rows_more : {A R : Type 0} (f : R → List A) (rows new : List R) (row : R) (z : List A) (k : ℕ) → new ≡ rows ++ row ∷ [] → f row ≡ z →
-    map f rows ≡ replicate k z → map f new ≡ replicate (k + 1) z
-rows_more f rows new row z k put is before =
-    ap (map f) put ∙ map-append f rows (row ∷ []) ∙ ap (λ b. map f rows ++ b ∷ []) is ∙ ap (λ bs. bs ++ z ∷ []) before ∙ replicate_more z k

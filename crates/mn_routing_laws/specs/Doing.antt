@@ -1,16 +1,12 @@
 -- What the routes do in a step, before it is known to be the ledger's.
-use Rattle.std.specs.Prelude.{◌≡◌, ◌≢◌, ◌<◌, ◌≤◌, ◌+◌, ◌*◌, ◌^◌, ℕ, Bool, true, false, if◌then◌else◌, List, [], ◌∷◌, ◌++◌, length, slice_get, slice_set}
+use Rattle.std.specs.Prelude.{◌≡◌, ◌≢◌, ◌+◌, ◌*◌, ℕ, Bool, true, false, if◌then◌else◌, List, [], ◌∷◌, ◌++◌, length, slice_get, slice_set}
 use Rattle.std.specs.Prelude.{slice_index_or, Option, Some, None, option_map, Ok, ⊤}
-use Rattle.std.specs.List.{AllByRecursion}
-use Rattle.mn_base.specs.Numbers.{has_rd_form}
-use Rattle.mn_base.specs.Ordered.{IsAscending}
 use Rattle.mn_base.specs.declared.numbers.Rt.{Rt}
 use Rattle.mn_base.specs.declared.numbers.VrfNo.{VrfNo}
 use Rattle.mn_base.specs.declared.numbers.SiteNo.{SiteNo}
 use Rattle.mn_prefix.specs.Prefix.{AddressBlock}
 use Rattle.mn_flight.specs.declared.Item.{Item}
 use Rattle.mn_flight.specs.Flying.{on_channel, off_channel, without}
-use Rattle.mn_vpn_nlri.specs.Grammar.{AllTargets}
 use Rattle.mn_bgp_wire.specs.declared.message.BgpMessage.{BgpMessage}
 use Rattle.mn_bgp_wire.specs.Grammar.{IsBgp}
 use Rattle.mn_bgp_wire.specs.Says.{Says}
@@ -20,25 +16,22 @@ use Rattle.mn_bgp_session.specs.declared.table.BgpReply.{BgpReply}
 use Rattle.mn_bgp_session.specs.Table as table
 use Rattle.mn_topo.specs.Network.{Network}
 use Rattle.mn_ledger.specs.Places.{loopback, edge_of, home_of}
-use Rattle.mn_targets.specs.Targets.{target_set}
-use Rattle.mn_vrf.specs.Vrf.{Static, VrfState, with_static, without_static, with_imports, with_exports, add_refused, del_refused, set_refused}
-use Rattle.mn_pe.specs.Edge.{Edge, vrf_of_site, after_vrf, after_attach, after_detach, after_forget, after_message}
+use Rattle.mn_vrf.specs.Vrf.{VrfState, add_refused, del_refused, set_refused}
+use Rattle.mn_pe.specs.Edge.{Edge, vrf_of_site, after_attach, after_detach, after_forget, after_message}
 use Rattle.mn_pe.specs.Held.{Exported, exports_of}
-use Rattle.mn_pe.specs.Pe.{PeNow, found_in, AreLabelled}
-use Rattle.mn_pe.specs.Exports.{labelled, exports_at, exports_over, export_of}
+use Rattle.mn_pe.specs.Pe.{found_in, AreLabelled}
+use Rattle.mn_pe.specs.Exports.{exports_at, exports_over, export_of}
+pub use Rattle.mn_edges.specs.Changes.{edge_or_blank, edge_of_node, those_of, AreNews, import_set, export_set, static_added, static_deleted}
+pub use Rattle.mn_edges.specs.Said.{IsSayable, AreSayable}
 use Rattle.mn_routing_laws.specs.Whole.{opened, update_of}
 use Rattle.mn_routing_laws.specs.Routed.{Routed, working}
 use Rattle.mn_routing_laws.specs.Sending.{Parcel, put_all, news_to, news_in}
 
 -- 1. One edge
 
-abbrev pub edge_or_blank : Option PeNow → Edge
-edge_or_blank None = labelled []
-edge_or_blank (Some pe) = pe.edge
-
 -- what the edge of a number was told
 abbrev pub edge_at : Routed → ℕ → Edge
-edge_at routed edge = edge_or_blank (slice_index_or routed.edges edge None)
+edge_at routed edge = edge_of_node routed.edges edge
 
 abbrev pub with_edge : ℕ → Edge → Routed → Routed
 with_edge edge now routed = record routed { edges = slice_set routed.edges edge (Some (working now)) }
@@ -50,17 +43,6 @@ pub record HasEdge (topology : Network) (routed : Routed) (edge : ℕ) : Type 0 
   pub rows : length routed.sessions ≡ length topology.loopbacks
   pub ends : length (slice_index_or routed.sessions edge []) ≡ length topology.loopbacks
 
--- an export can be announced: RFC 4364, sections 4.2 and 4.3.1; RFC 8277, section 2.2
-pub record IsSayable (export : Exported) : Type 0 where
-  pub distinguisher : has_rd_form export.rd.0 ≡ true
-  pub label : export.label < 2 ^ 20
-  pub ascending : IsAscending export.targets
-  pub targets : AllTargets export.targets
-  pub few : length export.targets ≤ 16
-
-abbrev pub AreSayable : List Exported → Type 0
-AreSayable exports = AllByRecursion IsSayable exports
-
 -- 2. One edge is told one thing, and tells of exports that come or go
 
 pub record Puts (topology : Network) (tick number : ℕ) (parcels : List Parcel) (old new : Routed) (next : ℕ) : Type 0 where
@@ -71,24 +53,12 @@ abbrev pub Tells : Network → ℕ → ℕ → ℕ → Edge → Bool → List Ex
 Tells topology tick number edge now comes exports old new next =
     Puts topology tick number (news_in topology old edge comes exports) (with_edge edge now old) new next
 
-abbrev pub those_of : Option Exported → List Exported
-those_of None = []
-those_of (Some export) = export ∷ []
-
--- what comes, and where that is nothing what is gone
-abbrev pub AreNews : Bool → List Exported → List Exported → List Exported → Type 0
-AreNews comes exports [] gone = (comes ≡ false) × (exports ≡ gone)
-AreNews comes exports (export ∷ come) gone = (comes ≡ true) × (exports ≡ export ∷ come)
-
 -- what comes is announced, and where that is nothing what went is withdrawn
 abbrev pub TellsEither : Network → ℕ → ℕ → ℕ → Edge → List Exported → List Exported → Routed → Routed → ℕ → Type 0
 TellsEither topology tick number edge now [] goes old new next = Tells topology tick number edge now false goes old new next
 TellsEither topology tick number edge now (export ∷ exports) goes old new next = Tells topology tick number edge now true (export ∷ exports) old new next
 
 -- a VRF exports routes with a target, or doesn't
-abbrev pub export_set : Edge → VrfNo → Rt → Bool → Edge
-export_set was v target on = after_vrf was v.0 (with_exports (target_set target on))
-
 pub record MaySetExport (topology : Network) (routed : Routed) (v : VrfNo) (target : Rt) (on : Bool) : Type 0 where
   pub has : HasEdge topology routed (edge_of topology v.0)
   pub free : found_in v.0 (λ (vrf : VrfState). set_refused target on vrf.exports) (edge_at routed (edge_of topology v.0)).vrfs ≡ None
@@ -102,15 +72,6 @@ SetsExport topology tick number v target on old new next =
     (exports_at was v.0) old new next
 
 -- a site's VRF has a prefix over the site, or has it no longer
-abbrev pub static_over : SiteNo → AddressBlock → Static
-static_over site prefix = record { prefix = prefix; site = site.0 }
-
-abbrev pub static_added : Edge → SiteNo → AddressBlock → Edge
-static_added was site prefix = after_vrf was (vrf_of_site was site.0) (with_static (static_over site prefix))
-
-abbrev pub static_deleted : Edge → SiteNo → AddressBlock → Edge
-static_deleted was site prefix = after_vrf was (vrf_of_site was site.0) (without_static (static_over site prefix))
-
 pub record MayAdd (topology : Network) (routed : Routed) (site : SiteNo) (prefix : AddressBlock) : Type 0 where
   pub has : HasEdge topology routed (home_of topology site.0)
   pub free : found_in (vrf_of_site (edge_at routed (home_of topology site.0)) site.0) (λ (vrf : VrfState). add_refused prefix vrf)
@@ -159,7 +120,7 @@ pub record MaySetImport (topology : Network) (routed : Routed) (v : VrfNo) (targ
 
 abbrev pub SetsImport : Network → VrfNo → Rt → Bool → Routed → Routed → Type 0
 SetsImport topology v target on old new =
-    new ≡ with_edge (edge_of topology v.0) (after_vrf (edge_at old (edge_of topology v.0)) v.0 (with_imports (target_set target on))) old
+    new ≡ with_edge (edge_of topology v.0) (import_set (edge_at old (edge_of topology v.0)) v target on) old
 
 -- 3. A session opens or ends
 

@@ -1,5 +1,5 @@
 -- What contracts see of a network's routes, and when they stand for the ledger.
-use Rattle.std.specs.Prelude.{◌≡◌, ◌≢◌, ◌<◌, ◌+◌, ◌*◌, ℕ, false, List, length, map, drop, Option, option_map}
+use Rattle.std.specs.Prelude.{◌≡◌, ◌≢◌, ◌<◌, ◌+◌, ◌*◌, ℕ, List, length, map, drop, Option, option_map}
 use Rattle.mn_flight.specs.declared.Item.{Item}
 use Rattle.mn_flight.specs.Flying.{IsFlight, on_channel}
 use Rattle.mn_topo.specs.Network.{Network}
@@ -9,8 +9,8 @@ use Rattle.mn_ledger.specs.World.{Peerings, World}
 use Rattle.mn_ledger.specs.Ledger.{world_of}
 use Rattle.mn_frame_laws.specs.Numbers.{labels_of}
 use Rattle.mn_bgp_spelling_laws.specs.Spelling.{Labels, bytes_in}
-use Rattle.mn_pe.specs.Edge.{Edge}
 use Rattle.mn_pe.specs.Pe.{PeNow}
+pub use Rattle.mn_edges.specs.Changes.{working}
 use Rattle.mn_routing_laws.specs.Whole.{routes_in}
 
 pub record Routed : Type 0 where
@@ -22,10 +22,6 @@ pub record Routed : Type 0 where
 pub record HasChannels (routed : Routed) (channels : ℕ) : Type 0 where
   pub channels_are : channels ≡ length routed.edges * length routed.edges
   pub messages_fly : IsFlight channels routed.messages
-
--- an edge that works
-abbrev pub working : Edge → PeNow
-working edge = record { edge = edge; failed = false }
 
 -- what an edge sent a peer that the peer hasn't received, in bytes
 abbrev pub unheard : Network → Labels → Peerings → ℕ → ℕ → List (List ℕ)

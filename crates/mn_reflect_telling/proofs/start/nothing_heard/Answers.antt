@@ -1,4 +1,4 @@
-use Rattle.mn_routing_laws.proofs.Starts.{rows_more}
+use Rattle.mn_edges.proofs.Starts.{rows_more}
 use Rattle.mn_reflect_telling.proofs.start.nothing_heard.Goals as goal
 
 pub loop-node-preserved : goal.loop-node-preserved

@@ -1,8 +1,10 @@
 use Rattle.std.proofs.Common.{◌≡◌, ◌+◌, ◌*◌, ◌++◌, ◌∙◌, ap, append-nil, arith, length, List, map, sym}
+use Rattle.std.proofs.lemmas.List.{drop_all}
 use Rattle.mn_pe.specs.Held.{Exported}
-use Rattle.mn_routing_laws.specs.Sending.{Parcel, put_all, news_to, spelled_in}
+use Rattle.mn_edges.specs.Said.{spelled_in}
+use Rattle.mn_routing_laws.specs.Sending.{Parcel, put_all, news_to}
 use Rattle.mn_routing_laws.proofs.Putting.{told_next, told_count}
-use Rattle.mn_routing.proofs.Nobody.{to_nobody, none_left}
+use Rattle.mn_routing.proofs.Nobody.{to_nobody}
 use Rattle.mn_routing.proofs.flying.tell.Goals as goal
 
 pub loop-export-preserved : goal.loop-export-preserved
@@ -51,12 +53,12 @@ returns-clause-told c =
     sym (append-nil at.messages.items)
     ∙ sym (ap (λ (xs : List Exported). at.messages.items ++ put_all (c.args.clock.tick + t.bgp_delay) at.number
     (news_to t c.args.edge.0 c.args.peers.now c.args.comes xs))
-    (none_left c.args.exports.now at.export-index c.loop-export-test.false))
+    (drop_all at.export-index c.args.exports.now c.loop-export-test.false))
     ∙ at.invariant.sent
 
 pub returns-clause-next : goal.returns-clause-next
 returns-clause-next c =
     let at = c.loop-export in
     let none = ap (λ (xs : List Exported). length (news_to c.args.topology.now c.args.edge.0 c.args.peers.now c.args.comes xs))
-    (none_left c.args.exports.now at.export-index c.loop-export-test.false) in
+    (drop_all at.export-index c.args.exports.now c.loop-export-test.false) in
     omega (arith, none, at.invariant.count)

@@ -1,7 +1,8 @@
 use Rattle.std.proofs.Common.{◌≡◌, ◌<◌, ◌≤◌, ◌^◌, ◌+◌, ◌*◌, ◌++◌, length, drop, map}
 use Rattle.std.specs.List.{All}
 use Rattle.mn_flight.specs.Flying.{IsFlight}
-use Rattle.mn_routing_laws.specs.Sending.{put_all, to_all, spelled_in}
+use Rattle.mn_edges.specs.Said.{spelled_in}
+use Rattle.mn_routing_laws.specs.Sending.{put_all, to_all}
 use Rattle.mn_routing.proofs.flying.tell.Given as goal
 
 -- what is to come ends it

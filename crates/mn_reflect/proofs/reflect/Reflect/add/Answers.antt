@@ -3,14 +3,14 @@ use Rattle.mn_vrf.specs.Vrf.{VrfState, add_refused}
 use Rattle.mn_pe.specs.Edge.{vrf_of_site}
 use Rattle.mn_pe.specs.Pe.{found_in}
 use Rattle.mn_pe.specs.Exports.{export_of}
-use Rattle.mn_routing_laws.specs.Doing.{those_of}
+use Rattle.mn_edges.specs.Changes.{those_of}
 use Rattle.mn_reflect.specs.Changing.{with_route}
 use Rattle.mn_reflect_world_laws.specs.Now.{ReflectNow}
 use Rattle.mn_reflect_world_laws.specs.Goes.{edge_of_node}
 use Rattle.mn_reflect.specs.Doing.{IsEdgeAt, changed_edge}
 use Rattle.mn_reflect_telling.proofs.Results.{on_ok}
 use Rattle.mn_reflect.proofs.Edging.{home_so, told_so}
-use Rattle.mn_routing_laws.specs.Doing.{AreSayable}
+use Rattle.mn_edges.specs.Said.{AreSayable}
 use Rattle.mn_reflect.proofs.reflect.Reflect.add.Goals as goal
 
 pub add_on_edge-requires-clause-there : goal.add_on_edge-requires-clause-there

@@ -2,7 +2,7 @@ use Rattle.std.proofs.Common.{◌+◌, ◌∙◌, ap, subst, sym, true}
 use Rattle.std.specs.Prelude.{slice_index_or, slice_set}
 use Rattle.mn_pe.specs.Edge.{after_attach}
 use Rattle.mn_pe.specs.Exports.{exports_over}
-use Rattle.mn_routing_laws.specs.Doing.{AreSayable}
+use Rattle.mn_edges.specs.Said.{AreSayable}
 use Rattle.mn_reflect_world_laws.specs.Now.{ReflectNow}
 use Rattle.mn_reflect_world_laws.specs.Goes.{edge_of_node}
 use Rattle.mn_reflect.specs.Doing.{IsEdgeAt, changed_edge}

@@ -5,7 +5,7 @@ use Rattle.mn_reflect_world_laws.specs.Goes.{edge_of_node}
 use Rattle.mn_reflect.specs.Doing.{IsEdgeAt, changed_edge}
 use Rattle.mn_reflect_telling.proofs.Results.{on_ok}
 use Rattle.mn_reflect.proofs.Edging.{home_so, told_so}
-use Rattle.mn_routing_laws.specs.Doing.{AreSayable}
+use Rattle.mn_edges.specs.Said.{AreSayable}
 use Rattle.mn_reflect.proofs.reflect.Reflect.detach.Goals as goal
 
 pub detach_on_edge-requires-clause-there : goal.detach_on_edge-requires-clause-there

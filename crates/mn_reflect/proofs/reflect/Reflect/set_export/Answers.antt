@@ -2,7 +2,8 @@ use Rattle.std.proofs.Common.{◌≡◌, subst, sym, None}
 use Rattle.mn_vrf.specs.Vrf.{VrfState, set_refused}
 use Rattle.mn_pe.specs.Pe.{found_in}
 use Rattle.mn_pe.specs.Exports.{exports_at}
-use Rattle.mn_routing_laws.specs.Doing.{AreSayable, AreNews}
+use Rattle.mn_edges.specs.Changes.{AreNews}
+use Rattle.mn_edges.specs.Said.{AreSayable}
 use Rattle.mn_reflect_world_laws.specs.Goes.{edge_of_node}
 use Rattle.mn_reflect.specs.Changing.{exports_changed}
 use Rattle.mn_reflect.specs.Doing.{IsEdgeAt, changed_edge}

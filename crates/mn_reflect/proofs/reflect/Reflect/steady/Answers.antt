@@ -1,5 +1,5 @@
 use Rattle.std.proofs.Common.{◌∙◌, ap, refl, sym, subst}
-use Rattle.mn_routing_laws.specs.Sending.{peers_from}
+use Rattle.mn_edges.specs.Peers.{peers_from}
 use Rattle.mn_reflect_telling.specs.Mentions.{AreNodes}
 use Rattle.mn_reflect_telling.proofs.Results.{if_ok}
 use Rattle.mn_reflect.proofs.Views.{ends_row, few_ends, peers_there}

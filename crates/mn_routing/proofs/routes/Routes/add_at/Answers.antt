@@ -1,7 +1,8 @@
-use Rattle.std.proofs.Common.{true, false, ◌∙◌}
+use Rattle.std.proofs.Common.{true, ◌∙◌}
 use Rattle.mn_ledger.specs.Places.{home_of}
 use Rattle.mn_pe.specs.Exports.{export_of}
-use Rattle.mn_routing_laws.specs.Doing.{edge_at, those_of, static_added}
+use Rattle.mn_edges.specs.Changes.{those_of, static_added}
+use Rattle.mn_routing_laws.specs.Doing.{edge_at}
 use Rattle.mn_routing_laws.proofs.Said.{told_on}
 use Rattle.mn_routing.proofs.routes.Routes.add_at.Goals as goal
 

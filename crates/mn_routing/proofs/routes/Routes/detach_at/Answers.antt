@@ -1,4 +1,4 @@
-use Rattle.std.proofs.Common.{true, false, ◌∙◌}
+use Rattle.std.proofs.Common.{false, ◌∙◌}
 use Rattle.mn_ledger.specs.Places.{home_of}
 use Rattle.mn_pe.specs.Edge.{after_detach}
 use Rattle.mn_pe.specs.Exports.{exports_over}

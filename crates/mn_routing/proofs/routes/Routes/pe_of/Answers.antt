@@ -1,4 +1,4 @@
-use Rattle.std.proofs.Common.{◌≡◌, ◌<◌, ◌∙◌, ap, subst, sym, refl, length, Some, None}
+use Rattle.std.proofs.Common.{◌<◌, ◌∙◌, ap, subst, sym, refl, length, None}
 use Rattle.std.specs.Prelude.{slice_index_or, option_map}
 use Rattle.mn_routing_laws.proofs.Enters.{some_edge}
 use Rattle.mn_routing.proofs.Edges.{within}

@@ -1,4 +1,4 @@
-use Rattle.std.proofs.Common.{◌≡◌, ◌<◌, ◌∙◌, ap, refl, subst, sym, length}
+use Rattle.std.proofs.Common.{◌<◌, ◌∙◌, ap, refl, subst, sym, length}
 use Rattle.mn_routing_laws.specs.Routed.{Routed}
 use Rattle.mn_routing_laws.specs.Doing.{with_end}
 use Rattle.mn_routing.proofs.Rows.{row_set}

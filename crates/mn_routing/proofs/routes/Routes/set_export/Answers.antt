@@ -1,7 +1,8 @@
-use Rattle.std.proofs.Common.{◌≡◌, ◌∙◌, subst, sym}
+use Rattle.std.proofs.Common.{subst, sym}
 use Rattle.mn_ledger.specs.Places.{edge_of}
 use Rattle.mn_pe.specs.Exports.{exports_at}
-use Rattle.mn_routing_laws.specs.Doing.{AreNews, edge_at, export_set}
+use Rattle.mn_edges.specs.Changes.{AreNews, export_set}
+use Rattle.mn_routing_laws.specs.Doing.{edge_at}
 use Rattle.mn_routing_laws.proofs.Said.{told_either}
 use Rattle.mn_routing.proofs.routes.Routes.set_export.Goals as goal
 

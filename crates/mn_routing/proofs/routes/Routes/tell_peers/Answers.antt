@@ -1,4 +1,4 @@
-use Rattle.std.proofs.Common.{◌≡◌, ◌∙◌, ap, length, []}
+use Rattle.std.proofs.Common.{◌∙◌, ap, length, []}
 use Rattle.std.specs.Prelude.{slice_index_or}
 use Rattle.mn_routing_laws.specs.Routed.{Routed}
 use Rattle.mn_routing_laws.proofs.Putting.{told_to_nodes}
@@ -11,4 +11,4 @@ tell-requires-clause-peers c =
     c.from.ensures c.requires.edge
     (ap (λ (x : Routed). length x.sessions) c.self.view_is ∙ c.requires.has.rows)
     (ap (λ (x : Routed). length (slice_index_or x.sessions c.args.edge.0 [])) c.self.view_is ∙ c.requires.has.ends)
-    c.deref.ensures.value c.in_ok-peers.ensures.peers c.deref-2.ensures.value
+    c.deref.ensures.value c.in_ok-peers.ensures c.deref-2.ensures.value

@@ -1,0 +1,4 @@
+pub mod Changes
+pub mod Peers
+pub mod Said
+pub mod Start
