@@ -28,6 +28,8 @@ fn six(
 """,
     "crates/mn_low/specs/Low.antt": "-- what was heard\nlow : \u2115\n" + "x" * 161 + "\n" + "y" * 160 + "\n",
     "docs/PROVED.md": "| Crate | Says |\n|---|---|\n| `low` | one. " + "word " * 41 + "| " + "word " * 40 + "|\n",
+    "docs/LEDGER.md": "# Words\n\nOne. " + "word " * 20 + "\n" + "word " * 21 + "\n\n```\n" + "word " * 41 + "\n```\n- " + "word " * 39 + "\n"
+    + "- it. " + "word " * 41 + "\n\n| `low` | " + "word " * 40 + "| " + "word " * 41 + "|\n",
     "tools/one.js": "function bare() {}\n// What it does.\nfunction told() {\n  const inner = () => 1;\n}\n" + "z" * 161 + "\n",
 }
 WANTED = {
@@ -39,6 +41,7 @@ WANTED = {
     "failed": ["crates/mn_low/src/named.rt:14"],
     "modules": ["crates/mn_low/src/lib.rt:6"],
     "promises": ["docs/PROVED.md:3"],
+    "definitions": ["docs/LEDGER.md:3", "docs/LEDGER.md:10", "docs/LEDGER.md:12"],
     "wide-scripts": ["tools/one.js:6"],
     "bare-functions": ["tools/one.js:1"],
 }
@@ -65,8 +68,9 @@ class Readable(unittest.TestCase):
     def test_what_is_over_its_limit(self):
         ran = self.ran()
         self.assertEqual(1, ran.returncode)
-        self.assertEqual(["without-memory", "modules", "promises", "wide-scripts", "bare-functions"], [line.split(":")[0] for line in ran.stderr.splitlines()])
-        self.assertEqual(len(WANTED) - 5, len(ran.stdout.splitlines()))
+        over = ["without-memory", "modules", "promises", "definitions", "wide-scripts", "bare-functions"]
+        self.assertEqual(over, [line.split(":")[0] for line in ran.stderr.splitlines()])
+        self.assertEqual(len(WANTED) - len(over), len(ran.stdout.splitlines()))
 
     def test_wrong_words(self):
         self.assertEqual(2, self.ran("nothing").returncode)
