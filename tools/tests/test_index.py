@@ -79,6 +79,8 @@ class Index(unittest.TestCase):
         for words, said in [
             ("split horizon", "it offers an edge others' routes"), ("duplicate site", "T6 TwiceNamed"), ("duplicate prefix", "PrefixTaken"),
             ("tie", "the longest prefix, and of these own"), ("keepalive", "KeepAlive"), ("keepalive 0", "hold time 0"), ("import", "an import set"),
+            ("link down", "`link up A B`, `link down A B`"), ("drain", "`drain N`, `drain`"), ("show tree", "`show tree N`: "), ("UPDATE", "UPDATE, 2"),
+            ("best route", "`best`: "), ("exit code", "each outcome has its status"), ("multicast", "NotUnicast"), ("link life", "Overdue: "),
             ("NoLsp", "NoLsp: "), ("labels_of", "an edge's label for an attachment"), ("RFC 3031, section 3.16", "penultimate hop popping"),
         ]:
             with self.subTest(words):
