@@ -49,6 +49,15 @@ class Edits(unittest.TestCase):
             seen[wrong] = path.name
         self.assertEqual([], twice)
 
+    def test_those_of_the_wrong_bodies_are_there(self):
+        there = {f"{crate.name} {path.stem}" for path, crate in edits()}
+        named = []
+        for line in (TOP / "docs/PROVED.md").read_text().split("\n### Wrong bodies\n")[1].split("\n## ")[0].splitlines():
+            for crate, names in re.findall(r"(mn_\w+) (`[^|]+?`)(?=, mn_| \|)", line):
+                named += [f"{crate} {name}" for name in re.findall(r"`(\w+)`", names)]
+        self.assertGreater(len(named), 20)
+        self.assertEqual([], [name for name in named if name not in there])
+
     def test_there_are_some(self):
         self.assertGreater(len(list(edits())), 300)
 
