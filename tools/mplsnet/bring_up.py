@@ -2,13 +2,12 @@
 
 import mplsnet.expect as expect
 import mplsnet.whatif as whatif
-from mplsnet.files import Fault, bytes_of, read_topology
+from mplsnet.files import Fault, bytes_of
 from mplsnet.knowledge import Net
 from mplsnet.pcap import capture_of, udp_packet
 from mplsnet.rules import TopologyRules
 from mplsnet.toml import plain, read
-
-KINDS = ("node", "link", "vrf", "site")
+from mplsnet.topology import KINDS
 
 
 class Network:
@@ -74,5 +73,4 @@ def own(path):
     broken = TopologyRules(content).broken
     if broken:
         raise Fault("\n".join(one.words(path) for one in broken))
-    read_topology(path)
     return content

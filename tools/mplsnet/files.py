@@ -7,7 +7,8 @@ import sys
 from dataclasses import dataclass, field
 from pathlib import Path
 
-from mplsnet.toml import NotToml, plain, read
+from mplsnet.rules import TopologyRules
+from mplsnet.topology import KINDS
 
 if sys.version_info < (3, 11):
     sys.exit(f"{Path(sys.argv[0]).name}: needs Python 3.11 or later")
@@ -42,77 +43,19 @@ def lines_of(path, what):
 # The topology.
 
 
-def read_toml(path):
-    """The tables of the file, by TOML as the program reads it."""
-    content = bytes_of(path)
-    try:
-        return plain(read(content)[0])
-    except NotToml as error:
-        before = content.decode("utf-8", "replace")[: error.at]
-        line, column = before.count("\n") + 1, error.at - before.rfind("\n")
-        raise Fault(f"{path}: not TOML: {error} (at line {line}, column {column})") from None
+def read_tables(path, status=1):
+    """The tables of a topology that breaks no rule; of any other the first rule that it breaks is said, as the program says it."""
+    rules = TopologyRules(bytes_of(path))
+    if rules.broken:
+        more = f" ({len(rules.broken) - 1} more: mplsnet-lint tells them)" if len(rules.broken) > 1 else ""
+        raise Fault(rules.broken[0].words(path) + more, status)
+    return rules.tables
 
 
-def read_topology(path):
-    """The tables of the file, with what the tools need checked: names, and what they name."""
-    tables = read_toml(path)
-    net = {kind: entries(path, tables, kind) for kind in ("node", "link", "vrf", "site")}
-    nodes = names(path, net, "node")
-    vrfs = names(path, net, "vrf")
-    names(path, net, "site")
-    for at, link in enumerate(net["link"]):
-        for end in ("a", "b"):
-            refer(path, "link", at, link, end, nodes)
-        if link["a"] == link["b"]:
-            raise Fault(f"{path}: link {at}: both ends are '{link['a']}'")
-    for at, vrf in enumerate(net["vrf"]):
-        refer(path, "vrf", at, vrf, "node", nodes)
-    for at, site in enumerate(net["site"]):
-        refer(path, "site", at, site, "vrf", vrfs)
-    return net | {"resolve": tables.get("resolve") is True}
-
-
-def entries(path, tables, kind):
-    """The array of tables of this kind."""
-    found = tables.get(kind, [])
-    if not isinstance(found, list) or not all(isinstance(entry, dict) for entry in found):
-        raise Fault(f"{path}: '{kind}' isn't an array of tables: write [[{kind}]]")
-    return found
-
-
-def names(path, net, kind):
-    """The names of the entries, each of its form and standing once."""
-    seen = set()
-    for at, entry in enumerate(net[kind]):
-        name = text(path, kind, at, entry, "name")
-        if not NAME.match(name):
-            raise Fault(f"{path}: {kind} {at}: {name!r} is no name (1 to 32 letters, digits, '-', '.', '_')")
-        if name in seen:
-            raise Fault(f"{path}: {kind} {at}: an earlier {kind} is named '{name}'")
-        seen.add(name)
-    return seen
-
-
-def refer(path, kind, at, entry, key, known):
-    """The key names one of the known."""
-    name = text(path, kind, at, entry, key)
-    if name not in known:
-        raise Fault(f"{path}: {kind} {at}: {key} = {name!r} names nothing")
-
-
-def text(path, kind, at, entry, key):
-    """The text of the key."""
-    if key not in entry:
-        raise Fault(f"{path}: {kind} {at}: '{key}' is missing")
-    if not isinstance(entry[key], str):
-        raise Fault(f"{path}: {kind} {at}: '{key}' isn't a text")
-    return entry[key]
-
-
-def texts(table, key):
-    """The texts of an array; none where the key has something else."""
-    found = table.get(key, [])
-    return [one for one in found if isinstance(one, str)] if isinstance(found, list) else []
+def read_topology(path, status=1):
+    """The same: an array of each kind, and whether the topology resolves next hops."""
+    tables = read_tables(path, status)
+    return {kind: tables.get(kind, []) for kind in KINDS} | {"resolve": tables.get("resolve", False)}
 
 
 def vpns_of(net):
@@ -122,7 +65,7 @@ def vpns_of(net):
     """
     found, members = {}, {}
     for vrf in net["vrf"]:
-        targets = [one for key in ("export", "import") for one in texts(vrf, key)]
+        targets = [*vrf.get("export", []), *vrf.get("import", [])]
         target = targets[0] if targets else f"vrf {vrf['name']}"
         found[vrf["name"]] = target
         members.setdefault(target, []).append(vrf["name"])
@@ -223,7 +166,7 @@ JOURNAL = re.compile(
     r"|route (?:add|del) \S+ \S+|import (?:add|del) \S+ \S+|export (?:add|del) \S+ \S+|site (?:up|down) \S+|inject \S+ \d+|(?:carry|lose) \S+ \S+ \d+|tick \d+"
     r"|damage (?:ldp|bgp) \S+ \S+ \d+"
 )
-KINDS = {"link", "learn", "ldp", "hear", "bgp", "route", "import", "export", "site", "inject", "carry", "lose", "tick", "damage"}
+STEPS = {"link", "learn", "ldp", "hear", "bgp", "route", "import", "export", "site", "inject", "carry", "lose", "tick", "damage"}
 NUMBER = re.compile(r"0|[1-9]\d*")
 OLDER = "an older run's? It isn't removed when another run writes into the folder"
 
@@ -303,7 +246,7 @@ def misnamed(run, joined, words):
         return None if name in run.node_of else f"labels.txt has no site '{name}'"
     if kind == "bgp" or words[:2] in (("hear", "bgp"), ("damage", "bgp")):
         return None if tuple(rest[1:3]) in run.bgp else f"there is no {'+'.join(rest[1:3])}.bgp"
-    if kind not in KINDS or kind in ("import", "export", "tick"):
+    if kind not in STEPS or kind in ("import", "export", "tick"):
         return None
     ends = {"carry": rest[:2], "lose": rest[:2], "damage": rest[1:3]}.get(kind, rest[-2:])
     return None if frozenset(ends) in joined else f"there is no {'+'.join(ends)}.pcap"
@@ -314,8 +257,7 @@ LIFE = 2000  # ticks for which a frame may be on a link of which the topology na
 
 def lives_of(net):
     """Of each link of a topology's tables, by its ends, its life."""
-    lives = {(link["a"], link["b"]): link.get("life", LIFE) for link in net["link"]}
-    return {link: life if type(life) is int else LIFE for link, life in lives.items()}
+    return {(link["a"], link["b"]): link.get("life", LIFE) for link in net["link"]}
 
 
 def done_by(words):
@@ -338,7 +280,7 @@ def read_journal(run):
         words = known.get(rest)
         if words is None:
             words = tuple(map(sys.intern, rest.split()))
-            if not words or words[0] in KINDS and not JOURNAL.fullmatch(rest):
+            if not words or words[0] in STEPS and not JOURNAL.fullmatch(rest):
                 raise Fault(f"{path}: line {number}: not a step: {line[:100]}")
             known[rest] = words
         if not NUMBER.fullmatch(tick):

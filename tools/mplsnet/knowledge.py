@@ -28,15 +28,15 @@ class Vrf:
 
 
 class Net:
-    """The topology by numbers: nodes, links, VRFs and sites in its order."""
+    """A topology that breaks no rule, by numbers: nodes, links, VRFs and sites in its order."""
 
     def __init__(self, path, tables):
         self.path = path
         self.nodes = [node["name"] for node in tables["node"]]
         self.number = {name: at for at, name in enumerate(self.nodes)}
-        self.loopbacks = [self.address(at, node) for at, node in enumerate(tables["node"])]
+        self.loopbacks = [bytes(map(int, node["loopback"].split("."))) for node in tables["node"]]
         self.by_loopback = {address: at for at, address in enumerate(self.loopbacks)}
-        self.links = [(self.number[link["a"]], self.number[link["b"]], self.cost(at, link)) for at, link in enumerate(tables["link"])]
+        self.links = [(self.number[link["a"]], self.number[link["b"]], link.get("cost", 10)) for link in tables["link"]]
         self.losses = [link.get("loss", 0) for link in tables["link"]]
         self.lives = lives_of(tables)  # by their ends
         self.link_of, self.neighbours = {}, [[] for _ in self.nodes]
@@ -46,51 +46,21 @@ class Net:
             self.neighbours[b].append((a, at))
         for ends in self.neighbours:
             ends.sort()
-        self.vrfs = [self.vrf(at, vrf) for at, vrf in enumerate(tables["vrf"])]
+        self.vrfs = [self.vrf(vrf) for vrf in tables["vrf"]]
         self.vrf_of_rd = {vrf.rd: at for at, vrf in enumerate(self.vrfs)}
         vrfs = {vrf.name: at for at, vrf in enumerate(self.vrfs)}
         self.vrf_number = vrfs
         self.sites = [site["name"] for site in tables["site"]]
         self.site_number = {name: at for at, name in enumerate(self.sites)}
         self.vrf_of = [vrfs[site["vrf"]] for site in tables["site"]]
-        self.prefixes = [[self.prefix(at, text) for text in self.texts("site", at, site, "prefixes")] for at, site in enumerate(tables["site"])]
+        self.prefixes = [[prefix_of(text) for text in site.get("prefixes", [])] for site in tables["site"]]
         self.edges = sorted({vrf.node for vrf in self.vrfs})
         self.resolve = tables.get("resolve", False)  # routes to whose edge no label path leads stand aside
         self.trees = {}  # of (node, view), as long as there aren't too many
 
-    def refuse(self, kind, at, what):
-        raise Fault(f"{self.path}: {kind} {at}: {what}")
-
-    def texts(self, kind, at, table, key):
-        found = table.get(key, [])
-        if not isinstance(found, list) or not all(isinstance(one, str) for one in found):
-            self.refuse(kind, at, f"'{key}' isn't an array of texts")
-        return found
-
-    def address(self, at, node):
-        try:
-            numbers = bytes(int(part) for part in node["loopback"].split("."))
-        except (KeyError, AttributeError, ValueError):
-            numbers = b""
-        if len(numbers) != 4:
-            self.refuse("node", at, "'loopback' isn't an address")
-        return numbers
-
-    def cost(self, at, link):
-        cost = link.get("cost", 10)
-        if type(cost) is not int or cost < 1:
-            self.refuse("link", at, "'cost' isn't a number from 1")
-        return cost
-
-    def prefix(self, at, text):
-        try:
-            return prefix_of(text)
-        except ValueError:
-            self.refuse("site", at, f"{text!r} isn't a prefix")
-
-    def vrf(self, at, table):
-        targets = [frozenset(self.texts("vrf", at, table, key)) for key in ("import", "export")]
-        return Vrf(table["name"], self.number[table["node"]], distinguisher(table.get("rd")) or self.refuse("vrf", at, "'rd' isn't a route distinguisher"), *targets)
+    def vrf(self, table):
+        targets = [frozenset(table.get(key, [])) for key in ("import", "export")]
+        return Vrf(table["name"], self.number[table["node"]], distinguisher(table["rd"]), *targets)
 
     def link_name(self, link):
         return "-".join(self.nodes[end] for end in self.links[link][:2])
@@ -121,14 +91,11 @@ def contains(of, address):
 
 
 def distinguisher(text):
-    """The eight bytes of AS:N or ADDRESS:N; none where it has neither form."""
-    first, colon, last = text.partition(":") if isinstance(text, str) else ("", "", "")
-    try:
-        if "." in first:
-            return b"\0\1" + bytes(int(part) for part in first.split(".")) + int(last).to_bytes(2, "big")
-        return b"\0\0" + int(first).to_bytes(2, "big") + int(last).to_bytes(4, "big")
-    except (ValueError, OverflowError):
-        return None
+    """The eight bytes of AS:N or ADDRESS:N."""
+    first, _, last = text.partition(":")
+    if "." in first:
+        return b"\0\1" + bytes(map(int, first.split("."))) + int(last).to_bytes(2, "big")
+    return b"\0\0" + int(first).to_bytes(2, "big") + int(last).to_bytes(4, "big")
 
 
 def target_text(data):

@@ -8,7 +8,7 @@ import re
 from bisect import bisect_right
 from dataclasses import dataclass, field
 
-from mplsnet.toml import Array, NotToml, Table, read
+from mplsnet.toml import Array, NotToml, Table, plain, read
 
 
 RULES = {
@@ -202,10 +202,10 @@ class Topology:
 
 
 class TopologyRules:
-    """Looks at a topology's bytes; what is broken is in `broken`, in the program's order."""
+    """Looks at a topology's bytes; what is broken is in `broken`, in the program's order, and what it has in `tables`."""
 
     def __init__(self, bytes_):
-        self.broken, self.net, self.is_toml = [], Topology(), False
+        self.broken, self.net, self.is_toml, self.tables = [], Topology(), False, {}
         if len(bytes_) > MOST_BYTES:
             self.broken.append(Broken("too large topology bytes", "", f"it has {len(bytes_):,} bytes, and may have {MOST_BYTES:,}"))
             return
@@ -217,7 +217,7 @@ class TopologyRules:
             self.say(1, error.at, str(error))
             self.tell("top")
             return
-        self.starts, self.found, self.is_toml = starts_of(text), [], True
+        self.starts, self.found, self.is_toml, self.tables = starts_of(text), [], True, plain(top)
         self.look_at_top(top)
         for kind, look in (("node", self.look_at_node), ("link", self.look_at_link), ("vrf", self.look_at_vrf), ("site", self.look_at_site)):
             entries = top.get(kind, Array())

@@ -105,19 +105,19 @@ class Draw(unittest.TestCase):
         node = '[[node]]\nname = "x"\nloopback = "10.0.0.1"\n'
         self.refused(1, "nothing.toml: No such file", self.folder / "nothing.toml")
         for text, said in (
-            ("as = = 1", "not TOML: '=' stands where a value has to stand (at line 1, column 6)"),
-            ("[node]", "'node' isn't an array of tables"),
-            ("node = [1]", "'node' isn't an array of tables"),
-            (node + '[[link]]\na = "x"\nb = "y"\n', "link 0: b = 'y' names nothing"),
-            (node + '[[link]]\na = "x"\n', "link 0: 'b' is missing"),
-            (node + '[[link]]\na = "x"\nb = "x"\n', "link 0: both ends are 'x'"),
-            (node + node, "node 1: an earlier node is named 'x'"),
-            ('[[node]]\nname = "a b"\n', "node 0: 'a b' is no name"),
-            ('[[node]]\nname = 7\n', "node 0: 'name' isn't a text"),
-            ('[[site]]\nname = "a"\nvrf = "red"\n', "site 0: vrf = 'red' names nothing"),
+            ("as = = 1", "1:6: T1 NotToml at top: '=' stands where a value has to stand"),
+            ("[node]", "1:1: T4 WrongKind at top: node = {..}: it is an array of tables, and this is a table; write [[node]]"),
+            ("node = [1]", "1:9: T4 WrongKind at top: node: its element 0 is an integer, and it is an array of tables"),
+            (node + '[[link]]\na = "x"\nb = "y"\n', '6:5: T7 NoSuchName at link 0: b = "y"'),
+            (node + '[[link]]\na = "x"\n', "4:1: T3 MissingKey at link 0: the key 'b' is missing"),
+            (node + '[[link]]\na = "x"\nb = "x"\n', "6:5: T8 SelfLink at link 0: both ends are 'x'"),
+            (node + node, "5:8: T6 TwiceNamed at node 1 'x'"),
+            ('[[node]]\nname = "a b"\nloopback = "10.0.0.1"\n', "2:8: T5 BadName at node 0 'a b'"),
+            ('[[node]]\nname = 7\nloopback = "10.0.0.1"\n', "2:8: T4 WrongKind at node 0"),
+            ('[[site]]\nname = "a"\nvrf = "red"\n', '3:7: T7 NoSuchName at site 0 \'a\': vrf = "red"'),
         ):
             with self.subTest(text):
-                self.refused(1, f"net.toml: {said}", self.file(text))
+                self.refused(1, f"net.toml:{said}", self.file(text))
 
     def test_a_table_over_several_lines(self):
         """TOML 1.1, which the program reads too."""
@@ -130,7 +130,7 @@ class Draw(unittest.TestCase):
         self.refused(1, "no link from 'pe1' to 'pe2'", "--report", self.report, "--packet", 4, LINKS)
         self.refused(1, "report.txt: line 6: not a packet's line", "--report", self.report, "--packet", 5, LINKS)
         self.refused(1, "no site 'c'", "--report", self.report, "--packet", 6, LINKS)
-        self.refused(1, "not TOML", DRAW)
+        self.refused(1, "T1 NotToml", DRAW)
 
     def test_many_prefixes_are_told_in_few_words(self):
         prefixes = [f"10.{n}.0.0/16" for n in range(9)]

@@ -189,7 +189,7 @@ class Play(unittest.TestCase):
         self.refused(1, "there is no step 43: it has 42", LINKS / "expected", topology, self.out, "--svg", "--at", 43)
         self.refused(1, "packet 2: no step injects it", LINKS / "expected", topology, self.out, "--packet", 2)
         self.refused(1, "nothing: not a folder", self.folder / "nothing", topology, self.out)
-        self.refused(1, "not TOML", LINKS / "expected", TOOL, self.out)
+        self.refused(1, "T1 NotToml", LINKS / "expected", TOOL, self.out)
         self.refused(1, "No such file", LINKS / "expected", topology, self.folder / "none/run.html")
         self.refused(1, "has no 'p', which the run has: another run's topology?", LINKS / "expected", ROOT / "examples/first/topology.toml", self.out)
         other = self.folder / "net.toml"

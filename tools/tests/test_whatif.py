@@ -623,9 +623,9 @@ class Tool(unittest.TestCase):
         self.refused(3, "nothing.toml: No such file", self.folder / "nothing.toml")
         wrong = self.folder / "wrong.toml"
         wrong.write_text("as = = 1")
-        self.refused(3, "wrong.toml: not TOML", wrong)
+        self.refused(3, "T1 NotToml at top", wrong)
         wrong.write_text(DUAL.replace('name = "pe3"\nloopback = "192.0.2.4"', 'name = "pe3"\nloopback = "192.0.2.3"'))
-        self.refused(3, "wrong.toml: topology refused T10 TwiceLoopback at node 3", wrong)
+        self.refused(3, "T10 TwiceLoopback at node 3", wrong)
         wrong.write_text(DUAL.replace("65000:1", "65000:9", 1).replace('["65000:1"]', "[]"))
         self.refused(3, "no site's VRF imports a target of another's", wrong)
         self.refused(3, "page.html: No such file", "--quiet", "--html", self.folder / "no/page.html", LINKS)
