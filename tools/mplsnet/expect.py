@@ -84,8 +84,7 @@ class Sites:
     def seen_by(self, vrf):
         """The sites whose prefixes the VRF may have routes to: its own, and those of VRFs of which it imports a target."""
         if vrf not in self.seen:
-            imports, vrfs = self.net.vrfs[vrf].imports, self.net.vrfs
-            self.seen[vrf] = [site for site, of in enumerate(self.net.vrf_of) if of == vrf or imports & vrfs[of].exports]
+            self.seen[vrf] = [site for site, of in enumerate(self.net.vrf_of) if self.net.takes(vrf, of)]
         return self.seen[vrf]
 
     def same(self, site, of):
@@ -515,8 +514,7 @@ class First:
         for site in self.sites.seen_by(vrf):
             edge = net.edge_of(site)
             if edge == here or frozenset((net.nodes[here], net.nodes[edge])) not in apart:
-                rank = (0,) if net.vrf_of[site] == vrf else (1, net.vrf_of[site]) if edge == here else (2, net.loopbacks[edge], net.vrfs[net.vrf_of[site]].rd)
-                found += [(-of[1], rank, net.sites[site]) for of in net.prefixes[site] if contains(of, at)]
+                found += [(-of[1], net.rank(vrf, net.vrf_of[site]), net.sites[site]) for of in net.prefixes[site] if contains(of, at)]
         return min(found, default=(0, 0, None))[2]
 
     def group(self, name, sites):

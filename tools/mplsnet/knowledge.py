@@ -62,6 +62,17 @@ class Net:
         targets = [frozenset(table.get(key, [])) for key in ("import", "export")]
         return Vrf(table["name"], self.number[table["node"]], distinguisher(table["rd"]), *targets)
 
+    def takes(self, vrf, other):
+        """Whether a VRF has imported the other's routes once they have come: its own, and those that carry a target that it imports."""
+        return other == vrf or bool(self.vrfs[vrf].imports & self.vrfs[other].exports)
+
+    def rank(self, vrf, other):
+        """By what a VRF prefers the other's routes of one prefix, the least first (docs/LEDGER.md): its own, another's of its edge, another edge's."""
+        if other == vrf:
+            return (0,)
+        theirs = self.vrfs[other]
+        return (1, other) if theirs.node == self.vrfs[vrf].node else (2, self.loopbacks[theirs.node], theirs.rd)
+
     def link_name(self, link):
         return "-".join(self.nodes[end] for end in self.links[link][:2])
 
@@ -407,14 +418,14 @@ class Knowledge:
                 continue
             since = latest(since, self.attached_since[site])
             if of_vrf == vrf:
-                yield Route(of, (0,), edge, of_vrf, site, self.attachment[site], since)
+                yield Route(of, net.rank(vrf, vrf), edge, of_vrf, site, self.attachment[site], since)
             elif net.vrfs[of_vrf].node == edge and imports & self.targets["export"][of_vrf]:
-                yield Route(of, (1, of_vrf), edge, of_vrf, site, self.attachment[site], latest(since, self.sharing_since(vrf, of_vrf)))
+                yield Route(of, net.rank(vrf, of_vrf), edge, of_vrf, site, self.attachment[site], latest(since, self.sharing_since(vrf, of_vrf)))
         for peer in net.edges:
             for (of_vrf, of), told in self.believed[edge, peer].items() if peer != edge else ():
                 if (address is None or contains(of, address)) and imports & told.targets:
                     since = latest(told.step, self.sharing_since(vrf, targets=told.targets))
-                    yield Route(of, (2, net.loopbacks[peer], net.vrfs[of_vrf].rd), peer, of_vrf, told.site, told.attachment, since)
+                    yield Route(of, net.rank(vrf, of_vrf), peer, of_vrf, told.site, told.attachment, since)
 
     def best(self, vrf, address):
         """The best of the routes that take part: where the topology says `resolve`, the resolved ones, if there are any; else all."""

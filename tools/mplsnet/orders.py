@@ -74,19 +74,12 @@ class Edges:
         for site, prefixes in enumerate(net.prefixes):
             for first, length in prefixes:
                 sources.setdefault(net.vrf_of[site], []).append((length, first >> 32 - length))
-        for vrf, entry in enumerate(net.vrfs):
+        for vrf in range(len(net.vrfs)):
             table = self.routes[vrf] = {}
             for other, prefixes in sources.items():
-                if other == vrf or entry.imports & net.vrfs[other].exports:
+                if net.takes(vrf, other):
                     for of in prefixes:
-                        table.setdefault(of, []).append((self.rank(vrf, other), net.vrfs[other].node))
-
-    def rank(self, vrf, other):
-        """How a route of the other VRF is preferred, the least first (docs/LEDGER.md)."""
-        net = self.net
-        if other == vrf:
-            return (0,)
-        return (1, other) if net.vrfs[other].node == net.vrfs[vrf].node else (2, net.loopbacks[net.vrfs[other].node], net.vrfs[other].rd)
+                        table.setdefault(of, []).append((net.rank(vrf, other), net.vrfs[other].node))
 
     def of(self, probe):
         """The edge where the probe enters, and those that it may be sent towards, the most preferred first."""

@@ -66,12 +66,10 @@ class AtRest(Knowledge):
     def taken(self, vrf):
         """The routes that the VRF takes where all sessions stand, by prefix."""
         if vrf not in self.routes:
-            found, net, edge = {}, self.net, self.net.vrfs[vrf].node
+            found, net = {}, self.net
             for (of_vrf, of), (site, _) in self.statics.items():
-                other = net.vrfs[of_vrf]
-                if of_vrf == vrf or net.vrfs[vrf].imports & other.exports:
-                    rank = (0,) if of_vrf == vrf else (1, of_vrf) if other.node == edge else (2, net.loopbacks[other.node], other.rd)
-                    found.setdefault(of, []).append(Route(of, rank, other.node, of_vrf, site, 1, START))
+                if net.takes(vrf, of_vrf):
+                    found.setdefault(of, []).append(Route(of, net.rank(vrf, of_vrf), net.vrfs[of_vrf].node, of_vrf, site, 1, START))
             self.routes[vrf] = found
         return self.routes[vrf]
 

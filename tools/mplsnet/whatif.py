@@ -221,7 +221,7 @@ class Reach:
     """What a VRF's sites may send to: the sites of the VRF, and of those that export a target that it imports."""
 
     def __init__(self, net, vrf):
-        self.sites = [site for site, other in enumerate(net.vrf_of) if other == vrf or net.vrfs[vrf].imports & net.vrfs[other].exports]
+        self.sites = [site for site, other in enumerate(net.vrf_of) if net.takes(vrf, other)]
         self.prefixes = sorted({of for site in self.sites for of in net.prefixes[site]})
         self.known = {}
 
