@@ -1,0 +1,6 @@
+pub mod Run
+pub mod Choosing
+pub mod Arriving
+pub mod Telling
+pub mod Labelled
+pub mod Cases

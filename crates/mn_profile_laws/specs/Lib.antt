@@ -1,0 +1,10 @@
+pub mod Profiles
+pub mod Paths
+pub mod Lookups
+pub mod Ways
+pub mod Verdicts
+pub mod Journals
+pub mod Choices
+pub mod FourAnswers
+pub mod TwoLinks
+pub mod LookedUpAgain
