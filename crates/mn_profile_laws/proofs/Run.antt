@@ -35,7 +35,7 @@ abbrev routes_of : Option HeldRoute → List HeldRoute
 routes_of None = []
 routes_of (Some route) = route ∷ []
 
-same_only : (b : Bool) (p q : HeldRoute → Bool) (xs : List HeldRoute) → ((r : HeldRoute) → p r ≡ q r) → only_if b p xs ≡ only_if b q xs
+pub same_only : (b : Bool) (p q : HeldRoute → Bool) (xs : List HeldRoute) → ((r : HeldRoute) → p r ≡ q r) → only_if b p xs ≡ only_if b q xs
 same_only true p q xs h = same_filter p q xs (λ r i. h r)
 same_only false p q xs h = refl
 

@@ -5,6 +5,7 @@ pub mod Ways
 pub mod Verdicts
 pub mod Journals
 pub mod Choices
+pub mod ByChoices
 pub mod FourAnswers
 pub mod TwoLinks
 pub mod LookedUpAgain

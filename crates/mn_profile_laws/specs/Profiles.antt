@@ -19,6 +19,10 @@ of_run = record { equal = equal_cost.Least; resolve = AsTopology; sync = false; 
 abbrev pub of_one_hop : Resolve → Bool → Profile
 of_one_hop resolve sync = record of_run { resolve = resolve; sync = sync }
 
+-- the same, where each node has taken one of its next hops and nobody knows which
+abbrev pub of_any_hop : Resolve → Bool → Profile
+of_any_hop resolve sync = record of_run { equal = equal_cost.Any; resolve = resolve; sync = sync }
+
 -- 1. Costs: LDP-IGP synchronization
 
 -- what a link costs at most, LSInfinity of OSPF: RFC 5443, section 2

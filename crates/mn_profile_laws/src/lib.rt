@@ -16,12 +16,14 @@
 //! - `specs/Paths`: next hops, label switched paths, and whether labels lead there by some choice or by all
 //! - `specs/Lookups`: the routes that are chosen in a VRF, and what a lookup comes to
 //! - `specs/Ways`: all ways of a packet; `specs/Verdicts`: its verdict
-//! - `specs/Choices`: next hops that nodes have chosen, and what is told of all choices; `specs/Journals`: what is told by the choices of a run
+//! - `specs/Choices`: next hops that nodes have chosen, and what is told of all choices; `specs/ByChoices`: what becomes of a packet by them
+//! - `specs/Journals`: what is told by the choices of a run
 //! - `specs/FourAnswers`, `specs/LookedUpAgain`: verdicts of one network by several profiles, worked from the definitions
 //! - `specs/TwoLinks`: a network in which all that the laws of choices ask is met
 #![tactic(auto)]
 
 ghost use Rattle.std.specs.Prelude.{ℕ, ◌≡◌, ◌<◌, Bool, true, false, List, [], ◌∷◌, length, Some};
+ghost use Rattle.std.specs.List.{Contains};
 ghost use Rattle.mn_wiring.specs.Paths.{IsLeast, next};
 ghost use Rattle.mn_topo.specs.Network.{Network, wiring_of};
 ghost use Rattle.mn_topo.specs.Lawful.{IsLawful};
@@ -31,10 +33,11 @@ ghost use Rattle.mn_failure_laws.specs.Failures.{Failure, config_under};
 ghost use Rattle.mn_failure_laws.specs.Fates.{fate_to, fate_under};
 ghost use Rattle.mn_profile.specs.declared.switches.Resolve.{Resolve};
 ghost use Rattle.mn_profile.specs.declared.switches.Profile.{Profile};
-ghost use Rattle.mn_profile_laws.specs.Profiles.{of_run, of_one_hop, asks_links, network_under};
+ghost use Rattle.mn_profile_laws.specs.Profiles.{of_run, of_one_hop, of_any_hop, asks_links, network_under};
 ghost use Rattle.mn_profile_laws.specs.Paths.{some_lead, all_lead};
 ghost use Rattle.mn_profile_laws.specs.Ways.{Ends, ways_under};
 ghost use Rattle.mn_profile_laws.specs.Choices.{Choice, Chooses, ChoosesLabelled, chosen_lsp, CoversEachChoice, TellsOfChoices, HasLdpWhereUp, ArrivesAtCost};
+ghost use Rattle.mn_profile_laws.specs.ByChoices.{Choices, AllChoose, fate_by};
 ghost use Rattle.mn_profile_laws.specs.Journals.{AllGoTheirOneWay};
 ghost use Rattle.mn_profile_laws.specs.FourAnswers.{FourAnswers};
 ghost use Rattle.mn_profile_laws.specs.LookedUpAgain.{LookedUpAgain};
@@ -87,6 +90,15 @@ pub fn labelled_next_hops_lead_there()
         ChoosesLabelled (network_under topology profile config) profile config to choice → (node : ℕ) → node < length topology.loopbacks →
         some_lead (network_under topology profile config) profile config node to ≡ true →
         (nodes : List ℕ) × (chosen_lsp (network_under topology profile config) config choice node to ≡ Some nodes) }
+{}
+
+/// Where all nodes have chosen, what becomes of a packet is one of its ways.
+pub fn each_choice_has_its_way()
+    ensures { (topology : Network) (resolve : Resolve) (sync : Bool) (failure : Failure) (choices : Choices) (s ttl address : ℕ) →
+        asks_links resolve ≡ false →
+        AllChoose (network_under topology (of_any_hop resolve sync) (config_under topology failure)) (of_any_hop resolve sync) (config_under topology failure) choices →
+        Contains (ways_under topology (of_any_hop resolve sync) failure s ttl address)
+        (Ends (fate_by (network_under topology (of_any_hop resolve sync) (config_under topology failure)) (config_under topology failure) choices s ttl address)) }
 {}
 
 // 3. Arrival
