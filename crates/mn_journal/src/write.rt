@@ -88,45 +88,47 @@ fn ends(topology: &Topology, link: LinkNo, direction: Dir) -> (&[u8], &[u8])
     (topology.node_name(from), topology.node_name(to))
 }
 
+/// Two words that a line begins with, behind its tick.
+#[derive(Clone, Copy)]
+struct Words<'w>(&'w [u8], &'w [u8]);
+
 /// Two words, and the two nodes of a link.
 fn put_link(
     out: &mut Vec<u8>,
     topology: &Topology,
-    one: &[u8],
-    other: &[u8],
+    words: Words<'_>,
     link: LinkNo,
     direction: Dir,
 ) -> Result<(), AllocError>
     requires { link.0 < length topology.now.links }
     ensures ok { OnOk result (out.new.items ≡ out.old.items ++ spaced
-        (one.now ∷ other.now ∷ from_text topology.now link direction ∷ to_text topology.now link direction ∷ [])) }
+        (words.entry.0.now ∷ words.entry.1.now ∷ from_text topology.now link direction ∷ to_text topology.now link direction ∷ [])) }
     ensures grew { Grew out.old.items out.new.items }
 {
     let (from, to) = ends(topology, link, direction);
-    put_pieces(out, &[b" ", one, b" ", other, b" ", from, b" ", to])
+    put_pieces(out, &[b" ", words.0, b" ", words.1, b" ", from, b" ", to])
 }
 
 /// Two words, and two nodes.
 fn put_nodes(
     out: &mut Vec<u8>,
     topology: &Topology,
-    one: &[u8],
-    other: &[u8],
+    words: Words<'_>,
     a: NodeNo,
     b: NodeNo,
 ) -> Result<(), AllocError>
     requires { (a.0 < length topology.now.loopbacks) × (b.0 < length topology.now.loopbacks) }
     ensures ok { OnOk result (out.new.items ≡ out.old.items ++ spaced
-        (one.now ∷ other.now ∷ node_text topology.now a ∷ node_text topology.now b ∷ [])) }
+        (words.entry.0.now ∷ words.entry.1.now ∷ node_text topology.now a ∷ node_text topology.now b ∷ [])) }
     ensures grew { Grew out.old.items out.new.items }
 {
     put_pieces(
         out,
         &[
             b" ",
-            one,
+            words.0,
             b" ",
-            other,
+            words.1,
             b" ",
             node_name(topology, a),
             b" ",
@@ -164,20 +166,41 @@ fn put_route(
     )
 }
 
+/// That a VRF gets a route target or, where it isn't added, loses one.
+#[derive(Clone, Copy)]
+struct TargetChange(VrfNo, bool, Rt);
+
+/// `site`, a word and a site.
+fn put_site(
+    out: &mut Vec<u8>,
+    topology: &Topology,
+    word: &[u8],
+    site: SiteNo,
+) -> Result<(), AllocError>
+    requires { site.0 < length topology.now.sites }
+    ensures ok { OnOk result (out.new.items ≡ out.old.items ++ spaced
+        (codes "site" ∷ word.now ∷ site_text topology.now site ∷ [])) }
+    ensures grew { Grew out.old.items out.new.items }
+{
+    put_pieces(
+        out,
+        &[b" ", b"site", b" ", word, b" ", site_name(topology, site)],
+    )
+}
+
 /// A word, whether the target is added, a VRF and the target.
 fn put_target(
     out: &mut Vec<u8>,
     topology: &Topology,
     word: &[u8],
-    vrf: VrfNo,
-    target: Rt,
-    on: bool,
+    change: TargetChange,
 ) -> Result<(), AllocError>
-    requires { vrf.0 < length topology.now.vrfs }
+    requires { change.0.0 < length topology.now.vrfs }
     ensures ok { OnOk result (out.new.items ≡ out.old.items ++ spaced
-        (word.now ∷ (if on then codes "add" else codes "del") ∷ vrf_text topology.now vrf ∷ rt_text target ∷ [])) }
+        (word.now ∷ (if change.1 then codes "add" else codes "del") ∷ vrf_text topology.now change.0 ∷ rt_text change.2 ∷ [])) }
     ensures grew { Grew out.old.items out.new.items }
 {
+    let TargetChange(vrf, on, target) = change;
     let text = target_text(target);
     let whether = if on { "add" } else { "del" };
     put_pieces(
@@ -195,20 +218,23 @@ fn put_target(
     )
 }
 
+/// A frame that flies in a direction of a link, by its place there.
+#[derive(Clone, Copy)]
+struct FlyingFrame(LinkNo, Dir, u32);
+
 /// A word, the sender and the receiver of a frame, and its place.
 fn put_frame(
     out: &mut Vec<u8>,
     topology: &Topology,
     word: &[u8],
-    link: LinkNo,
-    direction: Dir,
-    place: u32,
+    frame: FlyingFrame,
 ) -> Result<(), AllocError>
-    requires { link.0 < length topology.now.links }
+    requires { frame.0.0 < length topology.now.links }
     ensures ok { OnOk result (out.new.items ≡ out.old.items ++ spaced
-        (word.now ∷ from_text topology.now link direction ∷ to_text topology.now link direction ∷ number_text place ∷ [])) }
+        (word.now ∷ from_text topology.now frame.0 frame.1 ∷ to_text topology.now frame.0 frame.1 ∷ number_text frame.2 ∷ [])) }
     ensures grew { Grew out.old.items out.new.items }
 {
+    let FlyingFrame(link, direction, place) = frame;
     let (from, to) = ends(topology, link, direction);
     let mut digits = Buffer::new();
     put_pieces(
@@ -269,45 +295,39 @@ fn put_step_words(out: &mut Vec<u8>, topology: &Topology, step: &Step) -> Result
 {
     topology.laws();
     match *step {
-        Step::LinkUp(link) => put_link(out, topology, b"link", b"up", link, Dir::Forth),
-        Step::LinkDown(link) => put_link(out, topology, b"link", b"down", link, Dir::Forth),
+        Step::LinkUp(link) => put_link(out, topology, Words(b"link", b"up"), link, Dir::Forth),
+        Step::LinkDown(link) => put_link(out, topology, Words(b"link", b"down"), link, Dir::Forth),
         Step::Learn(node, link) => {
             let name = node_name(topology, node);
-            put_link(out, topology, b"learn", name, link, Dir::Forth)
+            put_link(out, topology, Words(b"learn", name), link, Dir::Forth)
         }
         Step::LdpAdmin(link, on) => {
             let whether = if on { "on" } else { "off" };
-            put_link(out, topology, b"ldp", whether.as_bytes(), link, Dir::Forth)
+            let words = Words(b"ldp", whether.as_bytes());
+            put_link(out, topology, words, link, Dir::Forth)
         }
-        Step::HearLdp(link, direction) => put_link(out, topology, b"hear", b"ldp", link, direction),
-        Step::BgpUp(a, b) => put_nodes(out, topology, b"bgp", b"up", a, b),
-        Step::BgpDown(a, b) => put_nodes(out, topology, b"bgp", b"down", a, b),
-        Step::HearBgp(a, b) => put_nodes(out, topology, b"hear", b"bgp", a, b),
+        Step::HearLdp(link, direction) => {
+            put_link(out, topology, Words(b"hear", b"ldp"), link, direction)
+        }
+        Step::BgpUp(a, b) => put_nodes(out, topology, Words(b"bgp", b"up"), a, b),
+        Step::BgpDown(a, b) => put_nodes(out, topology, Words(b"bgp", b"down"), a, b),
+        Step::HearBgp(a, b) => put_nodes(out, topology, Words(b"hear", b"bgp"), a, b),
         Step::AddRoute(site, prefix) => put_route(out, topology, b"add", site, prefix),
         Step::DelRoute(site, prefix) => put_route(out, topology, b"del", site, prefix),
-        Step::Import(vrf, on, target) => put_target(out, topology, b"import", vrf, target, on),
-        Step::Export(vrf, on, target) => put_target(out, topology, b"export", vrf, target, on),
-        Step::Attach(site) => put_pieces(
-            out,
-            &[b" ", b"site", b" ", b"up", b" ", site_name(topology, site)],
-        ),
-        Step::Detach(site) => put_pieces(
-            out,
-            &[
-                b" ",
-                b"site",
-                b" ",
-                b"down",
-                b" ",
-                site_name(topology, site),
-            ],
-        ),
+        Step::Import(vrf, on, target) => {
+            put_target(out, topology, b"import", TargetChange(vrf, on, target))
+        }
+        Step::Export(vrf, on, target) => {
+            put_target(out, topology, b"export", TargetChange(vrf, on, target))
+        }
+        Step::Attach(site) => put_site(out, topology, b"up", site),
+        Step::Detach(site) => put_site(out, topology, b"down", site),
         Step::Inject(site, number) => put_record(out, topology, site, number),
         Step::Carry(link, direction, place) => {
-            put_frame(out, topology, b"carry", link, direction, place)
+            put_frame(out, topology, b"carry", FlyingFrame(link, direction, place))
         }
         Step::Lose(link, direction, place) => {
-            put_frame(out, topology, b"lose", link, direction, place)
+            put_frame(out, topology, b"lose", FlyingFrame(link, direction, place))
         }
         Step::Tick(ticks) => put_tick(out, ticks),
     }
@@ -442,17 +462,16 @@ fn lay_carry(
     at: usize,
     topology: &Topology,
     tick: u64,
-    link: LinkNo,
-    direction: Dir,
-    place: u32,
+    frame: FlyingFrame,
 ) -> usize
-    requires there { link.0 < length topology.now.links }
+    requires there { frame.0.0 < length topology.now.links }
     requires room { at + 128 ≤ length bytes.old }
     ensures most { result ≤ at + 128 }
     ensures laid { take result bytes.new ≡ take at bytes.old ++
-        ((number_text tick ++ spaced (step_words topology.now (Carry link direction place))) ++ 10 ∷ []) }
+        ((number_text tick ++ spaced (step_words topology.now (Carry frame.0 frame.1 frame.2))) ++ 10 ∷ []) }
 {
     topology.laws();
+    let FlyingFrame(link, direction, place) = frame;
     let (from, to) = ends(topology, link, direction);
     let after_tick = lay_number(bytes, at, tick);
     let after_carry = lay(bytes, after_tick, b" carry ");
@@ -469,22 +488,24 @@ fn put_carry(
     out: &mut Vec<u8>,
     topology: &Topology,
     tick: u64,
-    link: LinkNo,
-    direction: Dir,
-    place: u32,
+    frame: FlyingFrame,
 ) -> Result<(), AllocError>
-    requires { link.0 < length topology.now.links }
+    requires { frame.0.0 < length topology.now.links }
     ensures ok { OnOk result (out.new.items ≡ out.old.items ++
-        ((number_text tick ++ spaced (step_words topology.now (Carry link direction place))) ++ 10 ∷ [])) }
+        ((number_text tick ++ spaced (step_words topology.now (Carry frame.0 frame.1 frame.2))) ++ 10 ∷ [])) }
     ensures grew { Grew out.old.items out.new.items }
 {
     let before = out.len();
     out.resize(before + 128, 0)?;
     let bytes = &mut out[..];
-    let end = lay_carry(bytes, before, topology, tick, link, direction, place);
+    let end = lay_carry(bytes, before, topology, tick, frame);
     out.truncate(end);
     Ok(())
 }
+
+/// A packet that is sent at a site: that of the record of this number, from 1.
+#[derive(Clone, Copy)]
+struct Injection(SiteNo, u32);
 
 /// Composes the line of a packet that is sent from a place on, and answers where it ends.
 #[inline(always)]
@@ -493,16 +514,16 @@ fn lay_inject(
     at: usize,
     topology: &Topology,
     tick: u64,
-    site: SiteNo,
-    number: u32,
+    injection: Injection,
 ) -> usize
-    requires there { site.0 < length topology.now.sites }
+    requires there { injection.0.0 < length topology.now.sites }
     requires room { at + 96 ≤ length bytes.old }
     ensures most { result ≤ at + 96 }
     ensures laid { take result bytes.new ≡ take at bytes.old ++
-        ((number_text tick ++ spaced (step_words topology.now (Inject site number))) ++ 10 ∷ []) }
+        ((number_text tick ++ spaced (step_words topology.now (Inject injection.0 injection.1))) ++ 10 ∷ []) }
 {
     topology.laws();
+    let Injection(site, number) = injection;
     let after_tick = lay_number(bytes, at, tick);
     let after_inject = lay(bytes, after_tick, b" inject ");
     let after_site = lay_name(bytes, after_inject, site_name(topology, site));
@@ -516,18 +537,17 @@ fn put_inject(
     out: &mut Vec<u8>,
     topology: &Topology,
     tick: u64,
-    site: SiteNo,
-    number: u32,
+    injection: Injection,
 ) -> Result<(), AllocError>
-    requires { site.0 < length topology.now.sites }
+    requires { injection.0.0 < length topology.now.sites }
     ensures ok { OnOk result (out.new.items ≡ out.old.items ++
-        ((number_text tick ++ spaced (step_words topology.now (Inject site number))) ++ 10 ∷ [])) }
+        ((number_text tick ++ spaced (step_words topology.now (Inject injection.0 injection.1))) ++ 10 ∷ [])) }
     ensures grew { Grew out.old.items out.new.items }
 {
     let before = out.len();
     out.resize(before + 96, 0)?;
     let bytes = &mut out[..];
-    let end = lay_inject(bytes, before, topology, tick, site, number);
+    let end = lay_inject(bytes, before, topology, tick, injection);
     out.truncate(end);
     Ok(())
 }
@@ -539,10 +559,12 @@ fn put_line(out: &mut Vec<u8>, topology: &Topology, entry: &JournalEntry) -> Res
 {
     match (entry.step, entry.damaged) {
         (Step::Carry(link, direction, place), Damaged::Undamaged) => {
-            put_carry(out, topology, entry.tick, link, direction, place)
+            let frame = FlyingFrame(link, direction, place);
+            put_carry(out, topology, entry.tick, frame)
         }
         (Step::Inject(site, number), Damaged::Undamaged) => {
-            put_inject(out, topology, entry.tick, site, number)
+            let injection = Injection(site, number);
+            put_inject(out, topology, entry.tick, injection)
         }
         _ => put_parts(out, topology, entry),
     }
