@@ -3,7 +3,9 @@ use mn_base::{LinkNo, NodeNo, SiteNo};
 use mn_drops::Rule;
 use mn_edge::{DeviceBad, MemSink};
 use mn_ledger::{Refused, Verdict};
-use mn_lines::{Page, Sent, Totals, write_packet, write_refusal, write_refused, write_total};
+use mn_lines::{
+    Packet, Page, Sent, Totals, write_packet, write_refusal, write_refused, write_total,
+};
 use mn_test_nets::pair;
 use mn_wiring::Dir;
 use std::alloc::{AllocError, Global};
@@ -15,6 +17,15 @@ const SENT: Sent = Sent {
     record: 7,
 };
 
+fn packet(number: u32, verdict: Verdict, path: &[NodeNo]) -> Packet<'_> {
+    Packet {
+        number,
+        sent: SENT,
+        verdict,
+        path,
+    }
+}
+
 #[test]
 fn a_packet_has_its_line(rt: HostRuntime) -> Result<(), Fail> {
     let topology = pair(rt.alloc())?;
@@ -25,17 +36,17 @@ fn a_packet_has_its_line(rt: HostRuntime) -> Result<(), Fail> {
         ttl: 62,
         copy: 3,
     };
-    write_packet(&mut line, &topology, 1, SENT, delivered, &both)?;
+    write_packet(&mut line, &topology, packet(1, delivered, &both))?;
     let dropped = Verdict::Dropped {
         rule: Rule::NoRoute,
         node: NodeNo(0),
     };
-    write_packet(&mut line, &topology, 2, SENT, dropped, &first)?;
+    write_packet(&mut line, &topology, packet(2, dropped, &first))?;
     let flying = Verdict::Flying {
         link: LinkNo(0),
         dir: Dir::Back,
     };
-    write_packet(&mut line, &topology, 4294967295, SENT, flying, &[])?;
+    write_packet(&mut line, &topology, packet(4294967295, flying, &[]))?;
     let lines = "packet 1 line 2 site a record 7 delivered b ttl 62 copy 3 path pe1 pe2\n\
                  packet 2 line 2 site a record 7 dropped NoRoute at pe1 path pe1\n\
                  packet 4294967295 line 2 site a record 7 flying pe2 pe1 path\n";

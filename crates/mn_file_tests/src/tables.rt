@@ -6,8 +6,9 @@ use mn_edge::{DeviceBad, MemSink};
 use mn_lines::Page;
 use mn_states::{BgpState, LdpState};
 use mn_tables::{
-    put_bgp, put_counts, put_far_route, put_frames, put_ldp, put_link, put_near_route,
-    put_own_route, put_walk,
+    BgpEnd, Direction, FarRoute, HeldPrefix, LdpEnds, LinkState, NearSite, Walk, put_bgp,
+    put_counts, put_far_route, put_frames, put_ldp, put_link, put_near_route, put_own_route,
+    put_walk,
 };
 use mn_test_nets::row;
 use mn_topo::Topology;
@@ -43,42 +44,53 @@ const RED1: VrfNo = VrfNo(0);
 
 const RED2: VrfNo = VrfNo(1);
 
-/// A line, by what it is given.
+/// A line, by what it is given; of a route, that red1 holds.
 #[derive(Clone, Copy)]
 enum Line<'a> {
     Link(LinkNo, bool, u32),
-    Walk(NodeNo, NodeNo, Option<u32>, Option<NodeNo>),
+    Tree(NodeNo, NodeNo, Option<u32>, Option<NodeNo>),
     Ldp(LinkNo, Option<LdpState>, Option<LdpState>),
-    Bgp(NodeNo, NodeNo, BgpState, BgpState),
+    Bgp((NodeNo, BgpState), (NodeNo, BgpState)),
     Counts(u64, u64),
     Frames(LinkNo, Dir, u64),
-    Own(VrfNo, &'a [u8], SiteNo),
-    Near(VrfNo, &'a [u8], VrfNo, SiteNo),
-    Far(VrfNo, &'a [u8], NodeNo, u32, bool),
+    Own(&'a [u8], SiteNo),
+    Near(&'a [u8], VrfNo, SiteNo),
+    Far(&'a [u8], NodeNo, u32, bool),
 }
 
-use Line::{Bgp, Counts, Far, Frames, Ldp, Link, Near, Own, Walk};
+use Line::{Bgp, Counts, Far, Frames, Ldp, Link, Near, Own, Tree};
 
 const GIVEN: [Line<'static>; 13] = [
     Link(SECOND, false, 2),
-    Walk(PE1, PE2, Some(30), Some(P)),
-    Walk(PE1, PE2, None, None),
+    Tree(PE1, PE2, Some(30), Some(P)),
+    Tree(PE1, PE2, None, None),
     Ldp(FIRST, Some(LdpState::Operational), Some(LdpState::OpenRec)),
     Ldp(SECOND, None, None),
-    Bgp(PE1, PE2, BgpState::OpenConfirm, BgpState::OpenSent),
+    Bgp((PE1, BgpState::OpenConfirm), (PE2, BgpState::OpenSent)),
     Counts(3, 0),
     Frames(FIRST, Dir::Forth, 0),
     Frames(SECOND, Dir::Back, 5),
-    Own(RED1, b"10.1.0.0/16", SiteNo(0)),
-    Near(RED1, b"10.2.0.0/16", RED2, SiteNo(1)),
-    Far(RED1, b"10.3.0.0/16", PE2, 18, false),
-    Far(RED1, b"10.4.0.0/16", PE2, 19, true),
+    Own(b"10.1.0.0/16", SiteNo(0)),
+    Near(b"10.2.0.0/16", RED2, SiteNo(1)),
+    Far(b"10.3.0.0/16", PE2, 18, false),
+    Far(b"10.4.0.0/16", PE2, 19, true),
 ];
 
 fn is_there(topology: &Topology, link: LinkNo) -> bool
     ensures { IsTrue result → link.0 < length topology.now.links }
 {
     usize::from(link.0) < topology.links().len()
+}
+
+fn end(one: (NodeNo, BgpState)) -> BgpEnd {
+    BgpEnd {
+        edge: one.0,
+        state: one.1,
+    }
+}
+
+fn held(prefix: &[u8]) -> HeldPrefix<'_> {
+    HeldPrefix { vrf: RED1, prefix }
 }
 
 /// Puts a line. One of a link that isn't there counts as a put that fails.
@@ -90,23 +102,36 @@ fn put(
 ) -> Result<(), DeviceBad> {
     match line {
         Link(link, up, changes) if is_there(topology, link) => {
-            put_link(out, page, topology, link, up, changes)
+            put_link(out, page, topology, link, LinkState { up, changes })
         }
-        Walk(from, to, cost, hop) => put_walk(out, page, topology, from, to, cost, hop),
-        Ldp(link, first, second) if is_there(topology, link) => {
-            put_ldp(out, page, topology, link, first, second)
+        Tree(from, to, dist, hop) => {
+            let walk = Walk {
+                from,
+                to,
+                dist,
+                hop,
+            };
+            put_walk(out, page, topology, walk)
         }
-        Bgp(a, b, first, second) => put_bgp(out, page, topology, a, b, first, second),
+        Ldp(link, a, b) if is_there(topology, link) => {
+            put_ldp(out, page, topology, link, LdpEnds { a, b })
+        }
+        Bgp(one, other) => put_bgp(out, page, topology, end(one), end(other)),
         Counts(notices, messages) => put_counts(out, page, notices, messages),
         Frames(link, dir, count) if is_there(topology, link) => {
-            put_frames(out, page, topology, link, dir, count)
+            put_frames(out, page, topology, Direction(link, dir), count)
         }
-        Own(vrf, prefix, site) => put_own_route(out, page, topology, vrf, prefix, site),
-        Near(vrf, prefix, from, site) => {
-            put_near_route(out, page, topology, vrf, prefix, from, site)
+        Own(prefix, site) => put_own_route(out, page, topology, held(prefix), site),
+        Near(prefix, vrf, site) => {
+            put_near_route(out, page, topology, held(prefix), NearSite { vrf, site })
         }
-        Far(vrf, prefix, edge, label, unresolved) => {
-            put_far_route(out, page, topology, vrf, prefix, edge, label, unresolved)
+        Far(prefix, edge, label, unresolved) => {
+            let far = FarRoute {
+                edge,
+                label,
+                unresolved,
+            };
+            put_far_route(out, page, topology, held(prefix), far)
         }
         _ => Err(DeviceBad::Failed),
     }

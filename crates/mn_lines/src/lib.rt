@@ -24,7 +24,7 @@ mod packet;
 mod page;
 mod write;
 
-pub use lines::{Sent, Totals, cause_name, rule_name};
+pub use lines::{Packet, Sent, Totals, cause_name, rule_name};
 pub use names::{node_name, site_name};
 pub use page::Page;
 pub use write::{put_pieces, write_packet, write_refusal, write_refused, write_total};

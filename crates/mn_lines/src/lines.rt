@@ -1,9 +1,9 @@
 ghost use Rattle.std.specs.Prelude.{◌≡◌};
 ghost use Rattle.mn_lines.specs.Lines.{cause_name, rule_name};
 
-use mn_base::SiteNo;
+use mn_base::{NodeNo, SiteNo};
 use mn_drops::Rule;
-use mn_ledger::Refused;
+use mn_ledger::{Refused, Verdict};
 
 /// A packet that a line of the script sent.
 #[derive(Clone, Copy, Debug, PartialEq, Eq)]
@@ -14,6 +14,15 @@ pub struct Sent {
     pub site: SiteNo,
     /// The record of the capture, from 1.
     pub record: u32,
+}
+
+/// A packet of a run: its number, from 1, what sent it, what became of it, and at which nodes it was.
+#[derive(Clone, Copy)]
+pub struct Packet<'p> {
+    pub number: u32,
+    pub sent: Sent,
+    pub verdict: Verdict,
+    pub path: &'p [NodeNo],
 }
 
 /// What the last line counts.

@@ -3,7 +3,7 @@ ghost use Rattle.std.specs.Prelude.{◌≡◌, ◌+◌, ◌*◌, ◌≤◌, ◌+
 ghost use Rattle.mn_lines.specs.Names.{name_at, names_of};
 ghost use Rattle.mn_lines.specs.Lines.{packet_line, path_text, sent_text, text, verdict_text};
 
-use crate::lines::{Sent, rule_name};
+use crate::lines::{Packet, Sent, rule_name};
 use crate::names::{direction, node_name, site_name};
 use mn_base::{LinkNo, NodeNo, SiteNo};
 use mn_drops::Rule;
@@ -52,27 +52,28 @@ fn lay_sent(bytes: &mut [u8], at: usize, topology: &Topology, number: u32, sent:
     lay(bytes, end, b" ")
 }
 
-/// A packet that reached a site, and the word before its path.
-#[inline(always)]
-fn lay_delivered(
-    bytes: &mut [u8],
-    at: usize,
-    topology: &Topology,
+/// That a packet reached a site with this TTL, and how many deliveries there were up to this one.
+#[derive(Clone, Copy)]
+struct Delivery {
     site: SiteNo,
     ttl: u8,
     copy: u32,
-) -> usize
+}
+
+/// A packet that reached a site, and the word before its path.
+#[inline(always)]
+fn lay_delivered(bytes: &mut [u8], at: usize, topology: &Topology, delivery: Delivery) -> usize
     requires { at + 100 ≤ length bytes.old }
     ensures most { result ≤ at + 100 }
     ensures laid { take result bytes.new ≡
-        take at bytes.old ++ text (verdict_text (names_of topology.now) (Verdict.Delivered ttl site copy) ∷ codes " path" ∷ []) }
+        take at bytes.old ++ text (verdict_text (names_of topology.now) (Verdict.Delivered delivery.ttl delivery.site delivery.copy) ∷ codes " path" ∷ []) }
 {
     let after_delivered = lay(bytes, at, b"delivered ");
-    let after_site = lay_site(bytes, after_delivered, topology, site);
+    let after_site = lay_site(bytes, after_delivered, topology, delivery.site);
     let after_ttl = lay(bytes, after_site, b" ttl ");
-    let after_left = lay_number(bytes, after_ttl, ttl as u64);
+    let after_left = lay_number(bytes, after_ttl, delivery.ttl as u64);
     let after_copy = lay(bytes, after_left, b" copy ");
-    let end = lay_number(bytes, after_copy, copy as u64);
+    let end = lay_number(bytes, after_copy, delivery.copy as u64);
     lay(bytes, end, b" path")
 }
 
@@ -115,7 +116,7 @@ fn lay_verdict(bytes: &mut [u8], at: usize, topology: &Topology, verdict: Verdic
 {
     match verdict {
         Verdict::Delivered { site, ttl, copy } => {
-            lay_delivered(bytes, at, topology, site, ttl, copy)
+            lay_delivered(bytes, at, topology, Delivery { site, ttl, copy })
         }
         Verdict::Dropped { rule, node } => lay_dropped(bytes, at, topology, rule, node),
         Verdict::Flying { link, dir } => lay_flying(bytes, at, topology, link, dir),
@@ -138,24 +139,22 @@ fn lay_path(bytes: &mut [u8], at: usize, topology: &Topology, path: &[NodeNo]) -
     end
 }
 
-/// Composes the line of the packet of this number, from 1, from a place on, and answers where it ends: 64 bytes for
-/// each node of the path and four times 64 for the rest are enough.
+/// Composes the line of a packet from a place on, and answers where it ends: 64 bytes for each node of the path and four
+/// times 64 for the rest are enough.
 #[inline(always)]
 pub(crate) fn lay_packet(
     bytes: &mut [u8],
     at: usize,
     topology: &Topology,
-    number: u32,
-    sent: Sent,
-    verdict: Verdict,
-    path: &[NodeNo],
+    packet: Packet<'_>,
 ) -> usize
-    requires { at + 64 * (length path.now + 4) ≤ length bytes.old }
+    requires { at + 64 * (length packet.path.now + 4) ≤ length bytes.old }
     ensures most { result ≤ length bytes.old }
-    ensures laid { take result bytes.new ≡ take at bytes.old ++ packet_line (names_of topology.now) number sent verdict path.now }
+    ensures laid { take result bytes.new ≡ take at bytes.old
+        ++ packet_line (names_of topology.now) packet.entry.number packet.entry.sent packet.entry.verdict packet.entry.path.now }
 {
-    let after_sent = lay_sent(bytes, at, topology, number, sent);
-    let after_verdict = lay_verdict(bytes, after_sent, topology, verdict);
-    let end = lay_path(bytes, after_verdict, topology, path);
+    let after_sent = lay_sent(bytes, at, topology, packet.number, packet.sent);
+    let after_verdict = lay_verdict(bytes, after_sent, topology, packet.verdict);
+    let end = lay_path(bytes, after_verdict, topology, packet.path);
     lay(bytes, end, b"\n")
 }

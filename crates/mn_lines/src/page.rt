@@ -5,11 +5,9 @@ ghost use Rattle.mn_lines.specs.Names.{names_of};
 ghost use Rattle.mn_lines.specs.Lines.{packet_line};
 ghost use Rattle.mn_lines.specs.Putting.{Puts, PutsPart};
 
-use crate::lines::Sent;
+use crate::lines::Packet;
 use crate::packet::lay_packet;
-use mn_base::NodeNo;
 use mn_edge::{DeviceBad, Sink};
-use mn_ledger::Verdict;
 use mn_topo::Topology;
 use std::alloc::{AllocError, Global};
 use std::marker::Model;
@@ -77,33 +75,19 @@ impl Page {
         Ok(())
     }
 
-    /// Composes the line of the packet of this number, from 1, where it will wait, and answers whether there is surely
-    /// room: 64 bytes for each node of its path and four times 64 for the rest. Where there isn't, nothing changes.
-    pub fn hold_packet(
-        &mut self,
-        topology: &Topology,
-        number: u32,
-        sent: Sent,
-        verdict: Verdict,
-        path: &[NodeNo],
-    ) -> bool
-        ensures room { result ≡ nat_le (length self.old + 64 * (length path.now + 4)) 65536 }
-        ensures held { IsTrue result → self.new ≡ self.old ++ packet_line (names_of topology.now) number sent verdict path.now }
+    /// Composes the line of a packet where it will wait, and answers whether there is surely room: 64 bytes for each
+    /// node of its path and four times 64 for the rest. Where there isn't, nothing changes.
+    pub fn hold_packet(&mut self, topology: &Topology, packet: Packet<'_>) -> bool
+        ensures room { result ≡ nat_le (length self.old + 64 * (length packet.entry.path.now + 4)) 65536 }
+        ensures held { IsTrue result → self.new ≡ self.old
+            ++ packet_line (names_of topology.now) packet.entry.number packet.entry.sent packet.entry.verdict packet.entry.path.now }
         ensures kept { result ≡ false → self.new ≡ self.old }
     {
         let rows = (ROOM - self.held) / 64;
-        if rows < 4 || path.len() > rows - 4 {
+        if rows < 4 || packet.path.len() > rows - 4 {
             return false;
         }
-        self.held = lay_packet(
-            &mut self.bytes,
-            self.held,
-            topology,
-            number,
-            sent,
-            verdict,
-            path,
-        );
+        self.held = lay_packet(&mut self.bytes, self.held, topology, packet);
         true
     }
 

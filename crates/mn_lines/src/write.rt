@@ -4,13 +4,13 @@ ghost use Rattle.mn_edge.specs.Written.{IsPrefix};
 ghost use Rattle.mn_lines.specs.Names.{names_of};
 ghost use Rattle.mn_lines.specs.Lines.{cause_text, packet_line, pieces_of, refused_line, text, total_line, verdicts_text};
 
-use crate::lines::{Sent, Totals, cause_name};
+use crate::lines::{Packet, Totals, cause_name};
 use crate::names::site_name;
 use crate::packet::lay_packet;
 use itoa::Buffer;
-use mn_base::{NodeNo, SiteNo};
+use mn_base::SiteNo;
 use mn_laying::lay;
-use mn_ledger::{Refused, Verdict};
+use mn_ledger::Refused;
 use mn_topo::Topology;
 use std::alloc::AllocError;
 
@@ -77,27 +77,23 @@ fn end_of_packet(from: usize, nodes: usize) -> Option<usize>
     nodes.checked_add(4)?.checked_mul(64)?.checked_add(from)
 }
 
-/// Appends the line of the packet of this number, from 1: what became of it, and at which nodes it was. An `Err`
-/// appends nothing.
+/// Appends the line of a packet: what became of it, and at which nodes it was. An `Err` appends nothing.
 pub fn write_packet(
     line: &mut Vec<u8>,
     topology: &Topology,
-    number: u32,
-    sent: Sent,
-    verdict: Verdict,
-    path: &[NodeNo],
+    packet: Packet<'_>,
 ) -> Result<(), AllocError>
     ensures ok { OnOk result (line.new.items ≡
-        line.old.items ++ packet_line (names_of topology.now) number sent verdict path.now) }
+        line.old.items ++ packet_line (names_of topology.now) packet.entry.number packet.entry.sent packet.entry.verdict packet.entry.path.now) }
     ensures err { OnErr result (line.new.items ≡ line.old.items) }
 {
     let before = line.len();
-    let Some(room) = end_of_packet(before, path.len()) else {
+    let Some(room) = end_of_packet(before, packet.path.len()) else {
         return Err(AllocError);
     };
     line.resize(room, 0)?;
     let bytes = &mut line[..];
-    let end = lay_packet(bytes, before, topology, number, sent, verdict, path);
+    let end = lay_packet(bytes, before, topology, packet);
     line.truncate(end);
     Ok(())
 }

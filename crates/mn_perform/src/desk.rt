@@ -10,7 +10,7 @@ ghost use Rattle.mn_perform.specs.Whole.{last_text};
 use crate::ended::{Ended, Fault};
 use mn_edge::Sink;
 use mn_lines::{Page, Sent};
-use mn_report::{Shown, put_packets, put_refused, put_table, put_total};
+use mn_report::{AskedTable, Shown, put_packets, put_refused, put_table, put_total};
 use mn_sched::{Net, Played};
 use mn_script::{Command, Line, Show};
 use mn_topo::{Step, Topology};
@@ -120,7 +120,8 @@ impl Desk {
         ensures wants { net.now.failed ≡ true →
             (result ≡ Err NoMemory) × (self.new.page ≡ self.old.page) × (out.new ≡ out.old) }
     {
-        put_table(out, &mut self.page, &mut self.line, net, table, packet)?;
+        let asked = AskedTable { table, packet };
+        put_table(out, &mut self.page, &mut self.line, net, asked)?;
         Ok(())
     }
 

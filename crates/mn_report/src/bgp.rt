@@ -11,7 +11,7 @@ use mn_base::NodeNo;
 use mn_edge::{DeviceBad, Sink};
 use mn_lines::Page;
 use mn_net::Net;
-use mn_tables::put_bgp;
+use mn_tables::{BgpEnd, put_bgp};
 
 /// Whether a node is an edge.
 fn is_edge(net: &Net, node: NodeNo) -> bool
@@ -44,9 +44,15 @@ fn put_pair<O: Sink>(
     if !is_pair(net, a, b) {
         return Ok(());
     }
-    let one = net.bgp_state(a, b);
-    let other = net.bgp_state(b, a);
-    put_bgp(out, page, net.topology(), a, b, one, other)
+    let one = BgpEnd {
+        edge: a,
+        state: net.bgp_state(a, b),
+    };
+    let other = BgpEnd {
+        edge: b,
+        state: net.bgp_state(b, a),
+    };
+    put_bgp(out, page, net.topology(), one, other)
 }
 
 /// Puts the lines of the sessions of a node with each edge of greater number, in order, where it is an edge.

@@ -10,7 +10,7 @@ use mn_course_laws::Kind;
 use mn_edge::{DeviceBad, Sink};
 use mn_lines::Page;
 use mn_net::Net;
-use mn_tables::{put_counts, put_frames};
+use mn_tables::{Direction, put_counts, put_frames};
 use mn_wiring::Dir;
 
 /// Puts the lines that count the frames of a link, Forth first.
@@ -28,8 +28,14 @@ fn put_frames_of<O: Sink>(
 {
     let forth = net.flying(link, Dir::Forth);
     let back = net.flying(link, Dir::Back);
-    put_frames(out, page, net.topology(), link, Dir::Forth, forth)?;
-    put_frames(out, page, net.topology(), link, Dir::Back, back)
+    put_frames(
+        out,
+        page,
+        net.topology(),
+        Direction(link, Dir::Forth),
+        forth,
+    )?;
+    put_frames(out, page, net.topology(), Direction(link, Dir::Back), back)
 }
 
 /// Puts the lines that count the frames of all links, in order.

@@ -10,7 +10,7 @@ use mn_base::LinkNo;
 use mn_edge::{DeviceBad, Sink};
 use mn_lines::Page;
 use mn_net::Net;
-use mn_tables::put_ldp;
+use mn_tables::{LdpEnds, put_ldp};
 use mn_wiring::Dir;
 
 /// Puts the line of a link's session.
@@ -25,9 +25,11 @@ fn put_session_of<O: Sink>(
     ensures { Tells (ldp_line net.now.topology (world_of net.now.topology net.now.journal) link.0)
         (standing page.old (O.written out.old) (O.faults out.old)) (standing page.new (O.written out.new) (O.faults out.new)) result }
 {
-    let one = net.ldp_state(link, Dir::Forth);
-    let other = net.ldp_state(link, Dir::Back);
-    put_ldp(out, page, net.topology(), link, one, other)
+    let ends = LdpEnds {
+        a: net.ldp_state(link, Dir::Forth),
+        b: net.ldp_state(link, Dir::Back),
+    };
+    put_ldp(out, page, net.topology(), link, ends)
 }
 
 /// Puts the lines of the sessions of all links, in order.

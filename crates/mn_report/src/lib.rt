@@ -29,5 +29,5 @@ mod written;
 
 pub use packets::put_packets;
 pub use refused::{Shown, put_refused};
-pub use table::put_table;
+pub use table::{AskedTable, put_table};
 pub use total::put_total;

@@ -10,7 +10,7 @@ use mn_base::LinkNo;
 use mn_edge::{DeviceBad, Sink};
 use mn_lines::Page;
 use mn_net::Net;
-use mn_tables::put_link;
+use mn_tables::{LinkState, put_link};
 
 /// Puts the line of a link.
 fn put_link_of<O: Sink>(
@@ -24,9 +24,11 @@ fn put_link_of<O: Sink>(
     ensures { Tells (link_line net.now.topology (world_of net.now.topology net.now.journal) link.0)
         (standing page.old (O.written out.old) (O.faults out.old)) (standing page.new (O.written out.new) (O.faults out.new)) result }
 {
-    let up = net.link_up(link);
-    let changes = net.link_changes(link);
-    put_link(out, page, net.topology(), link, up, changes)
+    let state = LinkState {
+        up: net.link_up(link),
+        changes: net.link_changes(link),
+    };
+    put_link(out, page, net.topology(), link, state)
 }
 
 /// Puts the lines of all links, in order.

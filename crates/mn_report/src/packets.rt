@@ -1,59 +1,68 @@
 //! What became of each packet.
 ghost use Rattle.std.specs.Prelude.{◌≡◌, ◌≤◌, ◌<◌, ◌++◌, true, false, length, map, min, List, ℕ, OnOk, OnErr, Err};
 ghost use Rattle.mn_report.specs.Prelude.{most_steps, NoMemory, Counted, packets_of, Puts, PutsPart, StandsFor, packet_lines, standing, Tells};
+ghost use Rattle.mn_lines.specs.Names.{names_of};
+ghost use Rattle.mn_lines.specs.Lines.{packet_line};
 ghost use Rattle.mn_report.specs.Packets.{packet_row};
 ghost use Rattle.mn_report.specs.Shown.{sending_of};
 
 use crate::written::put_line;
 use mn_edge::{DeviceBad, Sink};
-use mn_lines::{Page, Sent, write_packet};
+use mn_lines::{Packet, Page, Sent, write_packet};
 use mn_net::Net;
+use mn_topo::Topology;
 
-/// Writes the line of the packet of a number, from 0, which this injection sent, and puts it.
+/// A packet by its number, from 0, and the injection that sent it.
+#[derive(Clone, Copy)]
+struct SentPacket {
+    number: u32,
+    sent: Sent,
+}
+
+/// Writes the line of a packet, and puts it.
 fn put_written<O: Sink>(
     out: &mut O,
     page: &mut Page,
     line: &mut Vec<u8>,
-    net: &Net,
-    packet: u32,
-    sent: Sent,
+    topology: &Topology,
+    packet: Packet<'_>,
 ) -> Result<(), DeviceBad>
-    requires there { packet < length net.now.moving.verdicts }
-    requires few { length net.now.moving.verdicts ≤ most_steps }
-    ensures told { (inputs : List (List ℕ)) → StandsFor net.now inputs →
-        Tells (packet_row net.now.topology (packets_of net.now.topology net.now.journal inputs) packet sent)
+    ensures { Tells (packet_line (names_of topology.now) packet.entry.number packet.entry.sent packet.entry.verdict packet.entry.path.now)
         (standing page.old (O.written out.old) (O.faults out.old)) (standing page.new (O.written out.new) (O.faults out.new)) result }
-    ensures cause { Counted (O.faults out.old) (O.faults out.new) result }
 {
     line.clear();
-    let verdict = net.verdict(packet);
-    let path = net.path(packet);
-    write_packet(line, net.topology(), packet + 1, sent, verdict, path)?;
+    write_packet(line, topology, packet)?;
     put_line(out, page, line.as_slice())
 }
 
-/// Puts the line of the packet of a number, from 0, which this injection sent. Where there is room it is composed on the page.
+/// Puts the line of a packet. Where there is room it is composed on the page.
 fn put_packet<O: Sink>(
     out: &mut O,
     page: &mut Page,
     line: &mut Vec<u8>,
     net: &Net,
-    packet: u32,
-    sent: Sent,
+    packet: SentPacket,
 ) -> Result<(), DeviceBad>
-    requires there { packet < length net.now.moving.verdicts }
+    requires there { packet.number < length net.now.moving.verdicts }
     requires few { length net.now.moving.verdicts ≤ most_steps }
     ensures told { (inputs : List (List ℕ)) → StandsFor net.now inputs →
-        Tells (packet_row net.now.topology (packets_of net.now.topology net.now.journal inputs) packet sent)
+        Tells (packet_row net.now.topology (packets_of net.now.topology net.now.journal inputs) packet.number packet.sent)
         (standing page.old (O.written out.old) (O.faults out.old)) (standing page.new (O.written out.new) (O.faults out.new)) result }
     ensures cause { Counted (O.faults out.old) (O.faults out.new) result }
 {
-    let verdict = net.verdict(packet);
-    let path = net.path(packet);
-    if page.hold_packet(net.topology(), packet + 1, sent, verdict, path) {
+    let topology = net.topology();
+    let verdict = net.verdict(packet.number);
+    let path = net.path(packet.number);
+    let told = Packet {
+        number: packet.number + 1,
+        sent: packet.sent,
+        verdict,
+        path,
+    };
+    if page.hold_packet(topology, told) {
         return Ok(());
     }
-    put_written(out, page, line, net, packet, sent)
+    put_written(out, page, line, topology, told)
 }
 
 /// The lesser of two numbers.
@@ -84,7 +93,11 @@ fn put_each<O: Sink>(
     ensures cause { Counted (O.faults out.old) (O.faults out.new) result }
 {
     for packet in 0..lesser(net.packets(), sendings.len()) {
-        put_packet(out, page, line, net, packet as u32, sendings[packet])?;
+        let sent = SentPacket {
+            number: packet as u32,
+            sent: sendings[packet],
+        };
+        put_packet(out, page, line, net, sent)?;
     }
     Ok(())
 }

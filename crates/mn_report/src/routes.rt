@@ -9,7 +9,7 @@ use mn_edge::{DeviceBad, Sink};
 use mn_lines::Page;
 use mn_net::Net;
 use mn_prefix::Prefix;
-use mn_tables::{put_far_route, put_near_route, put_own_route};
+use mn_tables::{FarRoute, HeldPrefix, NearSite, put_far_route, put_near_route, put_own_route};
 use mn_text::put_prefix;
 use mn_topo::Topology;
 use mn_vrf::Source;
@@ -21,35 +21,38 @@ struct Shown {
     unresolved: bool,
 }
 
-/// Puts the line of a route from a source. The prefix comes as its text.
+/// A row of the table: the prefix that the VRF holds, and the route that is shown of it.
+#[derive(Clone, Copy)]
+struct Row {
+    vrf: VrfNo,
+    prefix: Prefix,
+    shown: Shown,
+}
+
+/// Puts the line of a route from a source.
 fn put_from<O: Sink>(
     out: &mut O,
     page: &mut Page,
     topology: &Topology,
-    vrf: VrfNo,
-    prefix: &[u8],
+    held: HeldPrefix<'_>,
     shown: Shown,
 ) -> Result<(), DeviceBad>
-    ensures { (given : Labelling) (route : HeldRoute) → prefix.now ≡ prefix_text route.prefix → shown.source ≡ source_of given route route.source →
-        Tells (marked_line topology.now given vrf.0 shown.unresolved route)
+    ensures { (given : Labelling) (route : HeldRoute) → held.entry.prefix.now ≡ prefix_text route.prefix → shown.source ≡ source_of given route route.source →
+        Tells (marked_line topology.now given held.entry.vrf.0 shown.unresolved route)
         (standing page.old (O.written out.old) (O.faults out.old)) (standing page.new (O.written out.new) (O.faults out.new)) result }
 {
     match shown.source {
-        Source::Own(site) => put_own_route(out, page, topology, vrf, prefix, site),
-        Source::Near(other, site) => {
-            put_near_route(out, page, topology, vrf, prefix, other, site)
+        Source::Own(site) => put_own_route(out, page, topology, held, site),
+        Source::Near(vrf, site) => {
+            put_near_route(out, page, topology, held, NearSite { vrf, site })
         }
         Source::Far { edge, label, .. } => {
-            put_far_route(
-                out,
-                page,
-                topology,
-                vrf,
-                prefix,
+            let far = FarRoute {
                 edge,
                 label,
-                shown.unresolved,
-            )
+                unresolved: shown.unresolved,
+            };
+            put_far_route(out, page, topology, held, far)
         }
     }
 }
@@ -60,17 +63,19 @@ fn put_route<O: Sink>(
     page: &mut Page,
     line: &mut Vec<u8>,
     topology: &Topology,
-    vrf: VrfNo,
-    prefix: Prefix,
-    shown: Shown,
+    row: Row,
 ) -> Result<(), DeviceBad>
-    ensures { (given : Labelling) (route : HeldRoute) → prefix ≡ route.prefix → shown.source ≡ source_of given route route.source →
-        Tells (marked_line topology.now given vrf.0 shown.unresolved route)
+    ensures { (given : Labelling) (route : HeldRoute) → row.prefix ≡ route.prefix → row.shown.source ≡ source_of given route route.source →
+        Tells (marked_line topology.now given row.vrf.0 row.shown.unresolved route)
         (standing page.old (O.written out.old) (O.faults out.old)) (standing page.new (O.written out.new) (O.faults out.new)) result }
 {
     line.clear();
-    put_prefix(line, prefix)?;
-    put_from(out, page, topology, vrf, line.as_slice(), shown)
+    put_prefix(line, row.prefix)?;
+    let held = HeldPrefix {
+        vrf: row.vrf,
+        prefix: line.as_slice(),
+    };
+    put_from(out, page, topology, held, row.shown)
 }
 
 /// What is shown of a prefix that a VRF holds, whose best route comes from this source: where next hops are to be resolved, the best of its
@@ -122,7 +127,12 @@ pub(crate) fn put_routes<O: Sink>(
             None => return Ok(()),
             Some(found) => {
                 let shown = shown_of(net, vrf, found.0, found.1, &ways);
-                put_route(out, page, line, net.topology(), vrf, found.0, shown)?;
+                let row = Row {
+                    vrf,
+                    prefix: found.0,
+                    shown,
+                };
+                put_route(out, page, line, net.topology(), row)?;
                 route = net.held_after(vrf, found.0);
             }
         }

@@ -9,7 +9,7 @@ use mn_edge::{DeviceBad, Sink};
 use mn_lines::Page;
 use mn_linkdb::tree_is_computed;
 use mn_net::Net;
-use mn_tables::put_walk;
+use mn_tables::{Walk, put_walk};
 
 /// Puts the line of the least walk to a node, but for the node itself.
 fn put_walk_to<O: Sink>(
@@ -31,9 +31,13 @@ fn put_walk_to<O: Sink>(
     tree_is_computed();
     net.topology().laws();
     let tree = net.tree(node);
-    let dist = tree.dist(to);
-    let hop = tree.next(to);
-    put_walk(out, page, net.topology(), node, to, dist, hop)
+    let walk = Walk {
+        from: node,
+        to,
+        dist: tree.dist(to),
+        hop: tree.next(to),
+    };
+    put_walk(out, page, net.topology(), walk)
 }
 
 /// Puts the lines of the least walks from a node to each other node, in order.

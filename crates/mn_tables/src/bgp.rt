@@ -22,27 +22,49 @@ fn bgp_name(state: BgpState) -> &'static str
     }
 }
 
+/// An end of a BGP session: the edge, and its state.
+#[derive(Clone, Copy)]
+pub struct BgpEnd {
+    pub edge: NodeNo,
+    pub state: BgpState,
+}
+
+/// An end of a BGP session, with the text of its state.
+#[derive(Clone, Copy)]
+struct EndText<'t> {
+    edge: NodeNo,
+    state: &'t [u8],
+}
+
 /// Puts the line of the session between two edges, of which the states come as their texts.
 fn put_states<O: Sink>(
     out: &mut O,
     page: &mut Page,
     topology: &Topology,
-    a: NodeNo,
-    b: NodeNo,
-    one: &[u8],
-    other: &[u8],
+    one: EndText<'_>,
+    other: EndText<'_>,
 ) -> Result<(), DeviceBad>
-    ensures { (world : World) → one.now ≡ bgp_name (bgp_state_of world.config world.peerings a.0 b.0) →
-        other.now ≡ bgp_name (bgp_state_of world.config world.peerings b.0 a.0) →
-        Tells (bgp_line topology.now world a.0 b.0)
+    ensures { (world : World) → one.entry.state.now ≡ bgp_name (bgp_state_of world.config world.peerings one.entry.edge.0 other.entry.edge.0) →
+        other.entry.state.now ≡ bgp_name (bgp_state_of world.config world.peerings other.entry.edge.0 one.entry.edge.0) →
+        Tells (bgp_line topology.now world one.entry.edge.0 other.entry.edge.0)
         (standing page.old (O.written out.old) (O.faults out.old)) (standing page.new (O.written out.new) (O.faults out.new)) result }
 {
-    let from = node_name(topology, a);
-    let to = node_name(topology, b);
+    let from = node_name(topology, one.edge);
+    let to = node_name(topology, other.edge);
     put_pieces(
         out,
         page,
-        &[b"bgp ", from, b" ", one, b" ", to, b" ", other, b"\n"],
+        &[
+            b"bgp ",
+            from,
+            b" ",
+            one.state,
+            b" ",
+            to,
+            b" ",
+            other.state,
+            b"\n",
+        ],
     )
 }
 
@@ -51,16 +73,21 @@ pub fn put_bgp<O: Sink>(
     out: &mut O,
     page: &mut Page,
     topology: &Topology,
-    a: NodeNo,
-    b: NodeNo,
-    first: BgpState,
-    second: BgpState,
+    one: BgpEnd,
+    other: BgpEnd,
 ) -> Result<(), DeviceBad>
-    ensures { (world : World) → first ≡ bgp_state_of world.config world.peerings a.0 b.0 → second ≡ bgp_state_of world.config world.peerings b.0 a.0 →
-        Tells (bgp_line topology.now world a.0 b.0)
+    ensures { (world : World) → one.state ≡ bgp_state_of world.config world.peerings one.edge.0 other.edge.0 →
+        other.state ≡ bgp_state_of world.config world.peerings other.edge.0 one.edge.0 →
+        Tells (bgp_line topology.now world one.edge.0 other.edge.0)
         (standing page.old (O.written out.old) (O.faults out.old)) (standing page.new (O.written out.new) (O.faults out.new)) result }
 {
-    let one = bgp_name(first).as_bytes();
-    let other = bgp_name(second).as_bytes();
-    put_states(out, page, topology, a, b, one, other)
+    let first = EndText {
+        edge: one.edge,
+        state: bgp_name(one.state).as_bytes(),
+    };
+    let second = EndText {
+        edge: other.edge,
+        state: bgp_name(other.state).as_bytes(),
+    };
+    put_states(out, page, topology, first, second)
 }

@@ -32,24 +32,28 @@ pub fn put_counts<O: Sink>(
     )
 }
 
+/// A direction of a link.
+#[derive(Clone, Copy)]
+pub struct Direction(pub LinkNo, pub Dir);
+
 /// Puts the line that counts the frames of a direction of a link, and none where no frame flies there.
 pub fn put_frames<O: Sink>(
     out: &mut O,
     page: &mut Page,
     topology: &Topology,
-    link: LinkNo,
-    dir: Dir,
+    direction: Direction,
     frames: u64,
 ) -> Result<(), DeviceBad>
-    requires { link.0 < length topology.now.links }
-    ensures told { (items : List Item) → frames ≡ length (items_on (Frames link.0 dir) items) →
-        Tells (frames_line topology.now link.0 dir (items_on (Frames link.0 dir) items))
+    requires { direction.0.0 < length topology.now.links }
+    ensures told { (items : List Item) → frames ≡ length (items_on (Frames direction.0.0 direction.1) items) →
+        Tells (frames_line topology.now direction.0.0 direction.1 (items_on (Frames direction.0.0 direction.1) items))
         (standing page.old (O.written out.old) (O.faults out.old)) (standing page.new (O.written out.new) (O.faults out.new)) result }
     ensures cause { Counted (O.faults out.old) (O.faults out.new) result }
 {
     if frames == 0 {
         return Ok(());
     }
+    let Direction(link, dir) = direction;
     let (from, to) = end_names(topology, link, dir);
     let mut buffer = Buffer::new();
     let count = digits(&mut buffer, frames);

@@ -1,5 +1,5 @@
 //! What a node would do with a frame (RFC 3031, sections 3.10 and 3.11).
-ghost use Rattle.std.specs.Prelude.{◌≡◌, ◌<◌, ◌++◌};
+ghost use Rattle.std.specs.Prelude.{◌≡◌, ◌<◌, ◌++◌, codes};
 ghost use Rattle.mn_lines.specs.Lines.{pieces_of, text};
 ghost use Rattle.mn_output_laws.specs.Shown.{hex_digit, byte_text, hex_text, unread_text, outcome_text, said_line};
 ghost use Rattle.mn_tables.specs.Frames.{head_text};
@@ -44,92 +44,90 @@ fn put_hex<O: Sink>(out: &mut O, page: &mut Page, bytes: &[u8]) -> Result<(), De
     Ok(())
 }
 
-/// Puts the line of a frame that can't be read: `unread` and the rule. The record's number is from 1.
+/// The packet of a record, from 1, taken as a frame that a node receives.
+#[derive(Clone, Copy)]
+pub struct ShownFrame {
+    pub node: NodeNo,
+    pub number: u32,
+}
+
+/// What a node does with a frame: where it goes on, and its bytes then, or the rule by which it is dropped.
+#[derive(Clone, Copy)]
+pub struct ForwardedFrame<'b> {
+    pub outcome: Forwarded,
+    pub bytes: &'b [u8],
+}
+
+/// Puts the line of a frame that can't be read: `unread` and the rule.
 pub fn put_unread<O: Sink>(
     out: &mut O,
     page: &mut Page,
     topology: &Topology,
-    node: NodeNo,
-    number: u32,
+    frame: ShownFrame,
     rule: &str,
 ) -> Result<(), DeviceBad>
-    ensures { Tells (said_line topology.now node.0 number (unread_text rule.now))
+    ensures { Tells (said_line topology.now frame.node.0 frame.number (unread_text rule.now))
         (standing page.old (O.written out.old) (O.faults out.old)) (standing page.new (O.written out.new) (O.faults out.new)) result }
 {
-    put_said(
-        out,
-        page,
-        topology,
-        node,
-        number,
-        &[b"unread ", rule.as_bytes()],
-        &[],
-    )
+    put_head(out, page, topology, frame)?;
+    put_said(out, page, &[b"unread ", rule.as_bytes()], &[])
 }
 
 /// Puts the line of a frame that goes on with these bytes, or is dropped: `next` and the neighbour, `site` and the site, or `drop` and
-/// the rule. The record's number is from 1.
+/// the rule.
 pub fn put_outcome<O: Sink>(
     out: &mut O,
     page: &mut Page,
     topology: &Topology,
-    node: NodeNo,
-    number: u32,
-    outcome: Forwarded,
-    bytes: &[u8],
+    frame: ShownFrame,
+    forwarded: ForwardedFrame<'_>,
 ) -> Result<(), DeviceBad>
-    ensures { Tells (said_line topology.now node.0 number (outcome_text topology.now outcome bytes.now))
+    ensures { Tells (said_line topology.now frame.node.0 frame.number (outcome_text topology.now forwarded.entry.outcome forwarded.entry.bytes.now))
         (standing page.old (O.written out.old) (O.faults out.old)) (standing page.new (O.written out.new) (O.faults out.new)) result }
 {
-    match outcome {
+    put_head(out, page, topology, frame)?;
+    match forwarded.outcome {
         Forwarded::Next(hop) => {
             let to = node_name(topology, hop);
-            let said: [&[u8]; 3] = [b"next ", to, b" bytes "];
-            put_said(out, page, topology, node, number, &said, bytes)
+            put_said(out, page, &[b"next ", to, b" bytes "], forwarded.bytes)
         }
         Forwarded::Site(site) => {
             let to = site_name(topology, site);
-            let said: [&[u8]; 3] = [b"site ", to, b" bytes "];
-            put_said(out, page, topology, node, number, &said, bytes)
+            put_said(out, page, &[b"site ", to, b" bytes "], forwarded.bytes)
         }
         Forwarded::Drop(rule) => {
-            let said: [&[u8]; 2] = [b"drop ", rule_name(rule).as_bytes()];
-            put_said(out, page, topology, node, number, &said, &[])
+            let word = rule_name(rule).as_bytes();
+            put_said(out, page, &[b"drop ", word], &[])
         }
     }
 }
 
-/// Puts the pieces before the bytes' digits.
+/// Puts the pieces before what becomes of a frame.
 fn put_head<O: Sink>(
     out: &mut O,
     page: &mut Page,
     topology: &Topology,
-    node: NodeNo,
-    number: u32,
+    frame: ShownFrame,
 ) -> Result<(), DeviceBad>
-    ensures { Tells (head_text topology.now node.0 number)
+    ensures { Tells (head_text topology.now frame.node.0 frame.number)
         (standing page.old (O.written out.old) (O.faults out.old)) (standing page.new (O.written out.new) (O.faults out.new)) result }
 {
-    let name = node_name(topology, node);
+    let name = node_name(topology, frame.node);
     let mut buffer = Buffer::new();
-    let count = digits(&mut buffer, number);
+    let count = digits(&mut buffer, frame.number);
     put_pieces(out, page, &[b"frame ", name, b" ", count, b" "])
 }
 
-/// Puts the line of a record's packet, taken as a frame: these pieces, and then the digits of these bytes.
+/// Puts what becomes of a frame, to the end of its line: these pieces, and then the digits of these bytes.
 fn put_said<O: Sink>(
     out: &mut O,
     page: &mut Page,
-    topology: &Topology,
-    node: NodeNo,
-    number: u32,
     said: &[&[u8]],
     bytes: &[u8],
 ) -> Result<(), DeviceBad>
-    ensures { Tells (said_line topology.now node.0 number (text (pieces_of said.now) ++ hex_text bytes.now))
+    ensures { Tells ((text (pieces_of said.now) ++ hex_text bytes.now) ++ codes "\n")
         (standing page.old (O.written out.old) (O.faults out.old)) (standing page.new (O.written out.new) (O.faults out.new)) result }
 {
-    put_head(out, page, topology, node, number)?;
     put_pieces(out, page, said)?;
     put_hex(out, page, bytes)?;
     put_pieces(out, page, &[b"\n"])

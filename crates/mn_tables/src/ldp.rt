@@ -27,19 +27,33 @@ fn state_name(state: Option<LdpState>) -> &'static str
     }
 }
 
+/// The states of an LDP session at the two ends of its link, none where no session lives.
+#[derive(Clone, Copy)]
+pub struct LdpEnds {
+    /// At the end that the topology names first.
+    pub a: Option<LdpState>,
+    pub b: Option<LdpState>,
+}
+
+/// The texts of the states at the two ends of a link.
+#[derive(Clone, Copy)]
+struct EndTexts<'t> {
+    a: &'t [u8],
+    b: &'t [u8],
+}
+
 /// Puts the line of a link's session, of which the states come as their texts.
 fn put_states<O: Sink>(
     out: &mut O,
     page: &mut Page,
     topology: &Topology,
     link: LinkNo,
-    one: &[u8],
-    other: &[u8],
+    texts: EndTexts<'_>,
 ) -> Result<(), DeviceBad>
     requires { link.0 < length topology.now.links }
     ensures { (world : World) →
-        one.now ≡ state_name (state_at topology.now world link.0 (sender (wiring_of topology.now) link.0 Forth)) →
-        other.now ≡ state_name (state_at topology.now world link.0 (sender (wiring_of topology.now) link.0 Back)) →
+        texts.entry.a.now ≡ state_name (state_at topology.now world link.0 (sender (wiring_of topology.now) link.0 Forth)) →
+        texts.entry.b.now ≡ state_name (state_at topology.now world link.0 (sender (wiring_of topology.now) link.0 Back)) →
         Tells (ldp_line topology.now world link.0)
         (standing page.old (O.written out.old) (O.faults out.old)) (standing page.new (O.written out.new) (O.faults out.new)) result }
 {
@@ -47,7 +61,7 @@ fn put_states<O: Sink>(
     put_pieces(
         out,
         page,
-        &[b"ldp ", from, b" ", one, b" ", to, b" ", other, b"\n"],
+        &[b"ldp ", from, b" ", texts.a, b" ", to, b" ", texts.b, b"\n"],
     )
 }
 
@@ -57,17 +71,18 @@ pub fn put_ldp<O: Sink>(
     page: &mut Page,
     topology: &Topology,
     link: LinkNo,
-    first: Option<LdpState>,
-    second: Option<LdpState>,
+    ends: LdpEnds,
 ) -> Result<(), DeviceBad>
     requires { link.0 < length topology.now.links }
     ensures { (world : World) →
-        first ≡ state_at topology.now world link.0 (sender (wiring_of topology.now) link.0 Forth) →
-        second ≡ state_at topology.now world link.0 (sender (wiring_of topology.now) link.0 Back) →
+        ends.a ≡ state_at topology.now world link.0 (sender (wiring_of topology.now) link.0 Forth) →
+        ends.b ≡ state_at topology.now world link.0 (sender (wiring_of topology.now) link.0 Back) →
         Tells (ldp_line topology.now world link.0)
         (standing page.old (O.written out.old) (O.faults out.old)) (standing page.new (O.written out.new) (O.faults out.new)) result }
 {
-    let one = state_name(first).as_bytes();
-    let other = state_name(second).as_bytes();
-    put_states(out, page, topology, link, one, other)
+    let texts = EndTexts {
+        a: state_name(ends.a).as_bytes(),
+        b: state_name(ends.b).as_bytes(),
+    };
+    put_states(out, page, topology, link, texts)
 }

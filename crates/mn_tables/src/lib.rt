@@ -28,11 +28,11 @@ mod pieces;
 mod routes;
 mod tree;
 
-pub use bgp::put_bgp;
-pub use flight::{put_counts, put_frames};
-pub use frame::{put_outcome, put_unread};
-pub use ldp::put_ldp;
-pub use links::put_link;
+pub use bgp::{BgpEnd, put_bgp};
+pub use flight::{Direction, put_counts, put_frames};
+pub use frame::{ForwardedFrame, ShownFrame, put_outcome, put_unread};
+pub use ldp::{LdpEnds, put_ldp};
+pub use links::{LinkState, put_link};
 pub use pieces::put_pieces;
-pub use routes::{put_far_route, put_near_route, put_own_route};
-pub use tree::put_walk;
+pub use routes::{FarRoute, HeldPrefix, NearSite, put_far_route, put_near_route, put_own_route};
+pub use tree::{Walk, put_walk};

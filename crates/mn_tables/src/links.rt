@@ -28,24 +28,37 @@ fn cost_of(topology: &Topology, link: LinkNo) -> u32
     topology.links()[usize::from(link.0)].cost
 }
 
+/// Whether a link is up, and how often it came up or went down.
+#[derive(Clone, Copy)]
+pub struct LinkState {
+    pub up: bool,
+    pub changes: u32,
+}
+
+/// The text of a link's state, and how often it came up or went down.
+#[derive(Clone, Copy)]
+struct StateText<'t> {
+    up: &'t [u8],
+    changes: u32,
+}
+
 /// Puts the line of a link, of which the state comes as its text.
 fn put_state<O: Sink>(
     out: &mut O,
     page: &mut Page,
     topology: &Topology,
     link: LinkNo,
-    state: &[u8],
-    changes: u32,
+    state: StateText<'_>,
 ) -> Result<(), DeviceBad>
     requires { link.0 < length topology.now.links }
-    ensures { (world : World) → state.now ≡ up_or_down (world.config.is_up link.0) → changes ≡ world.views.changes link.0 →
+    ensures { (world : World) → state.entry.up.now ≡ up_or_down (world.config.is_up link.0) → state.entry.changes ≡ world.views.changes link.0 →
         Tells (link_line topology.now world link.0)
         (standing page.old (O.written out.old) (O.faults out.old)) (standing page.new (O.written out.new) (O.faults out.new)) result }
 {
     let (from, to) = end_names(topology, link, Dir::Forth);
     let (mut first, mut second) = (Buffer::new(), Buffer::new());
     let cost = digits(&mut first, cost_of(topology, link));
-    let times = digits(&mut second, changes);
+    let times = digits(&mut second, state.changes);
     put_pieces(
         out,
         page,
@@ -54,7 +67,7 @@ fn put_state<O: Sink>(
             from,
             b" ",
             to,
-            state,
+            state.up,
             b" cost ",
             cost,
             b" changes ",
@@ -70,14 +83,16 @@ pub fn put_link<O: Sink>(
     page: &mut Page,
     topology: &Topology,
     link: LinkNo,
-    up: bool,
-    changes: u32,
+    state: LinkState,
 ) -> Result<(), DeviceBad>
     requires { link.0 < length topology.now.links }
-    ensures { (world : World) → up ≡ world.config.is_up link.0 → changes ≡ world.views.changes link.0 →
+    ensures { (world : World) → state.up ≡ world.config.is_up link.0 → state.changes ≡ world.views.changes link.0 →
         Tells (link_line topology.now world link.0)
         (standing page.old (O.written out.old) (O.faults out.old)) (standing page.new (O.written out.new) (O.faults out.new)) result }
 {
-    let state = up_or_down(up);
-    put_state(out, page, topology, link, state.as_bytes(), changes)
+    let text = StateText {
+        up: up_or_down(state.up).as_bytes(),
+        changes: state.changes,
+    };
+    put_state(out, page, topology, link, text)
 }

@@ -13,33 +13,13 @@ use mn_edge::{DeviceBad, Sink};
 use mn_lines::{Page, node_name};
 use mn_topo::Topology;
 
-/// Puts the line of a walk: what it costs, and to which node it goes first.
-fn put_reached<O: Sink>(
-    out: &mut O,
-    page: &mut Page,
-    topology: &Topology,
-    node: NodeNo,
-    to: NodeNo,
-    dist: u32,
-    hop: NodeNo,
-) -> Result<(), DeviceBad>
-    ensures { (view : View) → Some dist ≡ dist_in (dists_to (wiring_of topology.now) view to.0) node.0 →
-        Some hop ≡ hop_alone (next (wiring_of topology.now) view node.0 to.0) →
-        Tells (tree_line topology.now view node.0 to.0)
-        (standing page.old (O.written out.old) (O.faults out.old)) (standing page.new (O.written out.new) (O.faults out.new)) result }
-{
-    let from = node_name(topology, node);
-    let there = node_name(topology, to);
-    let near = node_name(topology, hop);
-    let mut buffer = Buffer::new();
-    let cost = digits(&mut buffer, dist);
-    put_pieces(
-        out,
-        page,
-        &[
-            b"tree ", from, b" to ", there, b" cost ", cost, b" next ", near, b"\n",
-        ],
-    )
+/// The least walk from a node to another: what it costs, and to which node it goes first; neither where there is none.
+#[derive(Clone, Copy)]
+pub struct Walk {
+    pub from: NodeNo,
+    pub to: NodeNo,
+    pub dist: Option<u32>,
+    pub hop: Option<NodeNo>,
 }
 
 /// Puts the line of a node to which there is no walk.
@@ -47,15 +27,14 @@ fn put_unreached<O: Sink>(
     out: &mut O,
     page: &mut Page,
     topology: &Topology,
-    node: NodeNo,
-    to: NodeNo,
+    walk: Walk,
 ) -> Result<(), DeviceBad>
-    ensures { (view : View) → (dist_in (dists_to (wiring_of topology.now) view to.0) node.0 ≡ None) ⊎ (hop_alone (next (wiring_of topology.now) view node.0 to.0) ≡ None) →
-        Tells (tree_line topology.now view node.0 to.0)
+    ensures { (view : View) → (dist_in (dists_to (wiring_of topology.now) view walk.to.0) walk.from.0 ≡ None) ⊎ (hop_alone (next (wiring_of topology.now) view walk.from.0 walk.to.0) ≡ None) →
+        Tells (tree_line topology.now view walk.from.0 walk.to.0)
         (standing page.old (O.written out.old) (O.faults out.old)) (standing page.new (O.written out.new) (O.faults out.new)) result }
 {
-    let from = node_name(topology, node);
-    let there = node_name(topology, to);
+    let from = node_name(topology, walk.from);
+    let there = node_name(topology, walk.to);
     put_pieces(
         out,
         page,
@@ -69,21 +48,31 @@ pub fn put_walk<O: Sink>(
     out: &mut O,
     page: &mut Page,
     topology: &Topology,
-    node: NodeNo,
-    to: NodeNo,
-    dist: Option<u32>,
-    hop: Option<NodeNo>,
+    walk: Walk,
 ) -> Result<(), DeviceBad>
-    ensures { (view : View) → dist ≡ dist_in (dists_to (wiring_of topology.now) view to.0) node.0 →
-        hop ≡ hop_alone (next (wiring_of topology.now) view node.0 to.0) →
-        Tells (tree_line topology.now view node.0 to.0)
+    ensures { (view : View) → walk.dist ≡ dist_in (dists_to (wiring_of topology.now) view walk.to.0) walk.from.0 →
+        walk.hop ≡ hop_alone (next (wiring_of topology.now) view walk.from.0 walk.to.0) →
+        Tells (tree_line topology.now view walk.from.0 walk.to.0)
         (standing page.old (O.written out.old) (O.faults out.old)) (standing page.new (O.written out.new) (O.faults out.new)) result }
 {
-    match dist {
-        None => put_unreached(out, page, topology, node, to),
-        Some(cost) => match hop {
-            None => put_unreached(out, page, topology, node, to),
-            Some(near) => put_reached(out, page, topology, node, to, cost, near),
+    match walk.dist {
+        None => put_unreached(out, page, topology, walk),
+        Some(dist) => match walk.hop {
+            None => put_unreached(out, page, topology, walk),
+            Some(hop) => {
+                let from = node_name(topology, walk.from);
+                let there = node_name(topology, walk.to);
+                let near = node_name(topology, hop);
+                let mut buffer = Buffer::new();
+                let cost = digits(&mut buffer, dist);
+                put_pieces(
+                    out,
+                    page,
+                    &[
+                        b"tree ", from, b" to ", there, b" cost ", cost, b" next ", near, b"\n",
+                    ],
+                )
+            }
         },
     }
 }

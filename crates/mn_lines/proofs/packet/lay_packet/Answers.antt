@@ -12,5 +12,6 @@ returns-clause-laid c =
     four_put (take c.args.at c.args.bytes.now) (take c.lay_sent-after_sent.result c.lay_sent-after_sent.new.bytes)
     (take c.lay_verdict-after_verdict.result c.lay_verdict-after_verdict.new.bytes) (take c.lay_path-end.result c.lay_path-end.new.bytes)
     (take c.lay.result c.lay.new.bytes)
-    (sent_text names c.args.number c.args.sent) (codes " ") (verdict_text names c.args.verdict) (codes " path") (path_text names c.args.path.now) (10 ∷ [])
+    (sent_text names c.args.packet.number c.args.packet.sent) (codes " ") (verdict_text names c.args.packet.verdict) (codes " path")
+    (path_text names c.args.packet.path.now) (10 ∷ [])
     c.lay_sent-after_sent.ensures.laid c.lay_verdict-after_verdict.ensures.laid c.lay_path-end.ensures.laid c.lay.ensures.laid

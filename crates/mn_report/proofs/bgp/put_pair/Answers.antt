@@ -16,6 +16,6 @@ pub returns : goal.returns
 returns g c = tells_as _ _ _ _ _
     (of_topology (λ (topology : Network). bgp_line topology (world_of c.args.net.now.topology c.args.net.now.journal) c.args.a.0 c.args.b.0) _ _ _ _ _
     c.topology.ensures
-    (c.put_bgp.ensures (world_of c.args.net.now.topology c.args.net.now.journal) c.bgp_state-one.ensures.told c.bgp_state-other.ensures.told))
+    (c.put_bgp.ensures (world_of c.args.net.now.topology c.args.net.now.journal) c.bgp_state.ensures.told c.bgp_state-2.ensures.told))
     (one_pair_row c.args.net.now.topology (world_of c.args.net.now.topology c.args.net.now.journal) c.args.a.0 c.args.b.0
     (sym c.is_pair.ensures ∙ c.if-not-is_pair.false))

@@ -10,11 +10,12 @@ use Rattle.mn_report.proofs.frame.put_forwarded.Goals as goal
 pub returns : goal.returns
 returns g c =
     let t = c.args.net.now.topology in
+    let at = c.args.shown in
     tells_as _ _ _ _ _
-    (of_topology (λ (topology : Network). said_line topology c.args.node.0 c.args.number (outcome_text topology c.forward-outcome.result c.bytes.result.now)) t
+    (of_topology (λ (topology : Network). said_line topology at.node.0 at.number (outcome_text topology c.forward-outcome.result c.bytes.result.now)) t
     _ _ _ _ c.topology.ensures c.put_outcome.ensures)
-    (ap (said_line t c.args.node.0 c.args.number)
-    (forwarded_row t c.args.net.now.journal c.args.node.0 c.args.frame c.forward-outcome.new.frame c.forward-outcome.result c.bytes.result.now
+    (ap (said_line t at.node.0 at.number)
+    (forwarded_row t c.args.net.now.journal at.node.0 c.args.frame c.forward-outcome.new.frame c.forward-outcome.result c.bytes.result.now
     (forwarded c.transport.result.now.uses c.args.frame) c.requires.room c.forward-outcome.ensures.cases
-    (c.a_table_is_told.ensures t c.args.net.now.journal c.args.node.0 c.transport.result.now.uses c.requires.node c.transport.ensures.told.table c.args.frame)
+    (c.a_table_is_told.ensures t c.args.net.now.journal at.node.0 c.transport.result.now.uses c.requires.node c.transport.ensures.told.table c.args.frame)
     c.bytes.ensures.bytes))

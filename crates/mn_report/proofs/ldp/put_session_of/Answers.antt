@@ -15,9 +15,9 @@ pub returns : goal.returns
 returns g c =
     of_topology (λ (topology : Network). ldp_line topology (world_of c.args.net.now.topology c.args.net.now.journal) c.args.link.0) _ _ _ _ _ c.topology.ensures
     (c.put_ldp.ensures (world_of c.args.net.now.topology c.args.net.now.journal)
-    (c.ldp_state-one.ensures.told
+    (c.ldp_state.ensures.told
     ∙ ap (λ (topology : Network). state_at topology (world_of c.args.net.now.topology c.args.net.now.journal) c.args.link.0
     (sender (wiring_of topology) c.args.link.0 Forth)) (sym c.topology.ensures))
-    (c.ldp_state-other.ensures.told
+    (c.ldp_state-2.ensures.told
     ∙ ap (λ (topology : Network). state_at topology (world_of c.args.net.now.topology c.args.net.now.journal) c.args.link.0
     (sender (wiring_of topology) c.args.link.0 Back)) (sym c.topology.ensures)))

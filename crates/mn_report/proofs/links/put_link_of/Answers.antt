@@ -11,4 +11,4 @@ pub returns : goal.returns
 returns g c =
     of_topology (λ (topology : Network). link_line topology (world_of c.args.net.now.topology c.args.net.now.journal) c.args.link.0) _ _ _ _ _
     c.topology.ensures
-    (c.put_link.ensures (world_of c.args.net.now.topology c.args.net.now.journal) c.link_up-up.ensures.told c.link_changes-changes.ensures.told)
+    (c.put_link.ensures (world_of c.args.net.now.topology c.args.net.now.journal) c.link_up.ensures.told c.link_changes.ensures.told)

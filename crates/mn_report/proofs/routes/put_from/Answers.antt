@@ -7,13 +7,13 @@ pub returns-in-Own : goal.returns-in-Own
 returns-in-Own g c = λ given route is_prefix is_source.
     let own = is_own given route c.in-Own.site (sym c.in-Own.is ∙ is_source) in
     tells_as _ _ _ _ _ (c.put_own_route.ensures given route is_prefix own.source_is own.site_is)
-    (own_line c.args.topology.now given c.args.vrf.0 c.args.shown.unresolved route own.source_is)
+    (own_line c.args.topology.now given c.args.held.vrf.0 c.args.shown.unresolved route own.source_is)
 
 pub returns-in-Near : goal.returns-in-Near
 returns-in-Near g c = λ given route is_prefix is_source.
-    let near = is_near given route c.in-Near.other c.in-Near.site (sym c.in-Near.is ∙ is_source) in
+    let near = is_near given route c.in-Near.vrf c.in-Near.site (sym c.in-Near.is ∙ is_source) in
     tells_as _ _ _ _ _ (c.put_near_route.ensures given route is_prefix near.source_is near.site_is)
-    (near_line c.args.topology.now given c.args.vrf.0 c.args.shown.unresolved route _ near.source_is)
+    (near_line c.args.topology.now given c.args.held.vrf.0 c.args.shown.unresolved route _ near.source_is)
 
 pub returns-in-Far : goal.returns-in-Far
 returns-in-Far g c = λ given route is_prefix is_source.

@@ -12,14 +12,14 @@ returns-then-not-works-clause-part g c =
 
 pub returns-clause-put : goal.returns-clause-put
 returns-clause-put g c =
-    put_where (StandsFor c.args.net.now) (λ inputs. table_text c.args.net.now.topology c.args.net.now.journal inputs (packet_of c.args.packet) c.args.table) _ _
-    _
+    put_where (StandsFor c.args.net.now)
+    (λ inputs. table_text c.args.net.now.topology c.args.net.now.journal inputs (packet_of c.args.asked.packet) c.args.asked.table) _ _ _
     c.put_rows.ensures.told
 
 pub returns-clause-part : goal.returns-clause-part
 returns-clause-part g c =
-    part_where (StandsFor c.args.net.now) (λ inputs. table_text c.args.net.now.topology c.args.net.now.journal inputs (packet_of c.args.packet) c.args.table) _
-    _ _
+    part_where (StandsFor c.args.net.now)
+    (λ inputs. table_text c.args.net.now.topology c.args.net.now.journal inputs (packet_of c.args.asked.packet) c.args.asked.table) _ _ _
     c.put_rows.ensures.told
 
 pub returns-clause-cause : goal.returns-clause-cause

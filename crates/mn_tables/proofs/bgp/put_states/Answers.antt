@@ -4,4 +4,4 @@ use Rattle.mn_tables.proofs.bgp.put_states.Goals as goal
 
 pub returns : goal.returns
 returns g c = λ world is_one is_other. tells_as _ _ _ _ _ c.put_pieces.ensures
-    (bgp_row c.args.topology.now world c.args.a.0 c.args.b.0 _ _ _ _ c.node_name-from.ensures c.node_name-to.ensures is_one is_other)
+    (bgp_row c.args.topology.now world c.args.one.edge.0 c.args.other.edge.0 _ _ _ _ c.node_name-from.ensures c.node_name-to.ensures is_one is_other)
