@@ -10,7 +10,7 @@ use mn_edge::{DeviceBad, Sink};
 use mn_flood::{Flood, FloodBad};
 use mn_lines::Page;
 use mn_linkdb::{Tree, tree_is_computed};
-use mn_tables::{put_pieces, put_walk};
+use mn_tables::{Walk, put_pieces, put_walk};
 use mn_topo::Topology;
 
 /// A refusal by its name.
@@ -72,7 +72,13 @@ fn put_walk_to<O: Sink>(
     topology.laws();
     let dist = tree.dist(to);
     let hop = tree.next(to);
-    put_walk(out, page, topology, node, to, dist, hop)
+    let walk = Walk {
+        from: node,
+        to,
+        dist,
+        hop,
+    };
+    put_walk(out, page, topology, walk)
 }
 
 /// Puts the lines of the least walks from a node to each other node, in order.

@@ -12,7 +12,7 @@ use mn_ledger::Refused;
 use mn_lines::{Page, node_name, write_refusal};
 use mn_prefix::Prefix;
 use mn_reflect::Reflect;
-use mn_tables::{put_near_route, put_own_route, put_pieces};
+use mn_tables::{HeldPrefix, NearSite, put_near_route, put_own_route, put_pieces};
 use mn_text::put_prefix;
 use mn_topo::Topology;
 use mn_vrf::Source;
@@ -78,10 +78,12 @@ fn put_from<O: Sink>(
         Tells (route_line topology.now labels vrf.0 (Some route))
         (standing page.old (O.written out.old) (O.faults out.old)) (standing page.new (O.written out.new) (O.faults out.new)) result }
 {
+    let held = HeldPrefix { vrf, prefix };
     match source {
-        Source::Own(site) => put_own_route(out, page, topology, vrf, prefix, site),
+        Source::Own(site) => put_own_route(out, page, topology, held, site),
         Source::Near(other, site) => {
-            put_near_route(out, page, topology, vrf, prefix, other, site)
+            let near = NearSite { vrf: other, site };
+            put_near_route(out, page, topology, held, near)
         }
         Source::Far { edge, label, .. } => {
             put_far_route(out, page, topology, vrf, prefix, edge, label)
