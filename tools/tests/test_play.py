@@ -110,11 +110,12 @@ class Play(unittest.TestCase):
         self.assertTrue(bgp["x"].startswith("Record 6 comes to pe1 in place of a message of BGP from pe2, and can't be read. The BGP session ends"), bgp["x"])
 
     def test_names_that_look_like_marks_of_html(self):
-        topology = self.folder / "net.toml"
-        topology.write_text((LINKS / "topology.toml").read_text().replace('prefixes = ["10.1.0.0/16"]', 'prefixes = ["</script><b>"]'))
+        topology = self.folder / "<script><b>/net.toml"
+        topology.parent.mkdir()
+        shutil.copy(LINKS / "topology.toml", topology)
         page = self.made(LINKS / "expected", topology)
-        self.assertEqual(["</script><b>"], self.data(page)["sites"][0]["prefixes"])
-        self.assertEqual(2, page.count("</script>"))
+        self.assertEqual("<script><b>", self.data(page)["title"])
+        self.assertNotIn("<script><b>", page)
 
     def test_a_part_of_the_steps_begins_with_the_state_before_it(self):
         whole = self.data(self.made(LINKS / "expected", LINKS / "topology.toml"))
