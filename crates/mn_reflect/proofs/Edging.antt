@@ -1,18 +1,20 @@
 -- One edge changes, and tells its peers.
-use Rattle.std.proofs.Common.{[], ℕ, ◌≡◌, ◌<◌, ◌+◌, Bool, true, false, List, ◌∷◌, length, sym, ap, ◌∙◌, subst}
+use Rattle.std.proofs.Common.{[], ℕ, ◌≡◌, ◌<◌, ◌+◌, Bool, true, false, List, ◌∷◌, ◌++◌, length, take, drop, sym, ap, ◌∙◌, subst, Option}
 use Rattle.std.specs.Prelude.{slice_index_or, slice_set}
+use Rattle.std.proofs.Math.Seq.{take-append_seam}
 use Rattle.mn_base.specs.declared.numbers.NodeNo.{NodeNo}
 use Rattle.mn_topo.specs.Network.{Network}
 use Rattle.mn_ledger.specs.Places.{edge_of, home_of}
 use Rattle.mn_pe.specs.Edge.{Edge}
 use Rattle.mn_pe.specs.Held.{Exported}
-use Rattle.mn_edges.specs.Changes.{AreNews}
+use Rattle.mn_pe.specs.Pe.{PeNow}
+use Rattle.mn_edges.specs.Changes.{edge_of_node, IsThere, edge_set, AreNews}
 use Rattle.mn_edges.specs.Said.{AreSayable}
 use Rattle.mn_reflect_world_laws.specs.Now.{ReflectNow}
 use Rattle.mn_reflect_world_laws.specs.Letters.{edge_news}
 use Rattle.mn_reflect_world_laws.specs.Goes.{steady_of, either_news}
 use Rattle.mn_reflect.specs.Shape.{IsShaped}
-use Rattle.mn_reflect.specs.Doing.{changed_edge, with_letters}
+use Rattle.mn_reflect.specs.Doing.{IsEdgeAt, changed_edge, with_letters}
 use Rattle.mn_reflect.specs.Changing.{told_peers}
 use Rattle.mn_reflect_telling.proofs.Posting.{any_default}
 
@@ -23,6 +25,25 @@ home_so same site at = at ∙ ap (λ (x : ReflectNow). home_of x.topology site) 
 
 pub edge_so : {was now : ReflectNow} → was ≡ now → (v : ℕ) {k : ℕ} → k ≡ edge_of was.topology v → k ≡ edge_of now.topology v
 edge_so same v at = at ∙ ap (λ (x : ReflectNow). edge_of x.topology v) same
+
+-- 2. The edges, as the code has them
+
+module _ (was now : ReflectNow) (same : was ≡ now) (given : List (Option PeNow)) (from : given ≡ was.edges) where
+  pub edges_so : given ≡ now.edges
+  edges_so = from ∙ ap (λ (x : ReflectNow). x.edges) same
+
+  pub there_so : {e home : ℕ} → e ≡ home → IsEdgeAt now home → IsThere given e
+  there_so {e = e} at there = subst (λ xs. IsThere xs e) (sym edges_so) (subst (λ k. IsThere now.edges k) (sym at) there)
+
+  pub edge_turned : {after : List (Option PeNow)} (edges : List (Option PeNow)) (e : ℕ) (change : Edge → Edge) → after ≡ edges →
+      edges ≡ edge_set e (change (edge_of_node given e)) given → (let x : ReflectNow = record was { edges = after } in x) ≡ changed_edge e change now
+  edge_turned edges e change written set =
+      ap (λ es. let x : ReflectNow = record was { edges = es } in x) (written ∙ set ∙ ap (λ xs. edge_set e (change (edge_of_node xs e)) xs) from)
+      ∙ ap (changed_edge e change) same
+
+-- as they are after a call that had all of them lent
+pub all_written : (len : ℕ) (new old : List (Option PeNow)) → length new ≡ len → take len (new ++ drop (length new) old) ≡ new
+all_written len new old h = ap (λ n. take n (new ++ drop (length new) old)) (sym h) ∙ take-append_seam new (drop (length new) old)
 
 -- how many attachments its sites have had
 pub count_is : (was now : ReflectNow) → was ≡ now → IsShaped was → (k node count : ℕ) → count ≡ slice_index_or was.attachments k count → k ≡ node →
@@ -43,7 +64,7 @@ counted_on now one e k count change is at so =
     ∙ ap (λ n. let x : ReflectNow = record (changed_edge e (change count) now) { attachments = slice_set now.attachments n (count + 1) } in x) at
     ∙ ap (λ n. let x : ReflectNow = record (changed_edge e (change n) now) { attachments = slice_set now.attachments e (n + 1) } in x) so
 
--- 2. What it tells
+-- 3. What it tells
 
 news_are : (t : Network) (node : ℕ) (peers : List NodeNo) (comes : Bool) (exports come went : List Exported) → AreNews comes exports come went →
     edge_news t node peers comes exports ≡ either_news t node peers come went
