@@ -64,16 +64,15 @@ fn pair_name(
     alloc: Global,
     topology: &Topology,
     folder: &str,
-    a: NodeNo,
-    b: NodeNo,
+    pair: (NodeNo, NodeNo),
     ending: &str,
 ) -> Result<String, AllocError>
-    requires a { a.0 < length topology.now.loopbacks }
-    requires b { b.0 < length topology.now.loopbacks }
-    ensures { IfOk result (λ name. string_bytes name ≡ folder.now ++ (codes "/" ++ pair_name topology.now a.0 b.0 ending.now)) }
+    requires a { pair.0.0 < length topology.now.loopbacks }
+    requires b { pair.1.0 < length topology.now.loopbacks }
+    ensures { IfOk result (λ name. string_bytes name ≡ folder.now ++ (codes "/" ++ pair_name topology.now pair.0.0 pair.1.0 ending.now)) }
 {
-    let a = node_name(topology, a);
-    let b = node_name(topology, b);
+    let a = node_name(topology, pair.0);
+    let b = node_name(topology, pair.1);
     format!(in alloc; "{folder}/{a}+{b}{ending}")
 }
 
@@ -82,19 +81,19 @@ fn link_name(
     alloc: Global,
     topology: &Topology,
     folder: &str,
-    link: LinkNo,
-    dir: Dir,
+    direction: (LinkNo, Dir),
     ending: &str,
 ) -> Result<String, AllocError>
-    requires { link.0 < length topology.now.links }
+    requires { direction.0.0 < length topology.now.links }
     ensures { IfOk result (λ name.
-        string_bytes name ≡ folder.now ++ (codes "/" ++ link_name topology.now link.0 dir ending.now)) }
+        string_bytes name ≡ folder.now ++ (codes "/" ++ link_name topology.now direction.0.0 direction.1 ending.now)) }
 {
     topology.laws();
+    let (link, dir) = direction;
     let ends = &topology.links()[link.0 as usize];
     match dir {
-        Dir::Forth => pair_name(alloc, topology, folder, ends.a, ends.b, ending),
-        Dir::Back => pair_name(alloc, topology, folder, ends.b, ends.a, ending),
+        Dir::Forth => pair_name(alloc, topology, folder, (ends.a, ends.b), ending),
+        Dir::Back => pair_name(alloc, topology, folder, (ends.b, ends.a), ending),
     }
 }
 
@@ -112,7 +111,7 @@ fn push_frames(
     topology.laws();
     for number in 0..topology.links().len() {
         let link = LinkNo(number as u16);
-        names.push(link_name(alloc, topology, folder, link, Dir::Forth, ".pcap")?)?;
+        names.push(link_name(alloc, topology, folder, (link, Dir::Forth), ".pcap")?)?;
     }
     Ok(())
 }
@@ -131,8 +130,8 @@ fn push_said(
     topology.laws();
     for number in 0..topology.links().len() {
         let link = LinkNo(number as u16);
-        names.push(link_name(alloc, topology, folder, link, Dir::Forth, ".ldp")?)?;
-        names.push(link_name(alloc, topology, folder, link, Dir::Back, ".ldp")?)?;
+        names.push(link_name(alloc, topology, folder, (link, Dir::Forth), ".ldp")?)?;
+        names.push(link_name(alloc, topology, folder, (link, Dir::Back), ".ldp")?)?;
     }
     Ok(())
 }
@@ -182,7 +181,7 @@ fn push_told_by(
     for number in 0..topology.nodes().len() {
         let peer = NodeNo(number as u16);
         if is_told(topology, edge, peer) {
-            names.push(pair_name(alloc, topology, folder, edge, peer, ".bgp")?)?;
+            names.push(pair_name(alloc, topology, folder, (edge, peer), ".bgp")?)?;
         }
     }
     Ok(())
