@@ -1,12 +1,14 @@
 -- A way is walked hop by hop.
-use Rattle.std.proofs.Common.{ℕ, zero, suc, ◌≡◌, ◌+◌, ◌-◌, ◌<◌, Bool, true, false, cond, List, [], ◌∷◌, ◌++◌, length, refl, arith, sym, ◌∙◌, ap, Option, None}
-use Rattle.std.proofs.Common.{Some}
-use Rattle.std.specs.Prelude.{◌&&◌, option_map}
+use Rattle.std.proofs.Common.{ℕ, zero, suc, ◌≡◌, ◌+◌, ◌-◌, ◌<◌, Bool, true, false, cond, List, [], ◌∷◌, ◌++◌, length, map, take, refl, arith, sym, ◌∙◌, ap, Option}
+use Rattle.std.proofs.Common.{None, Some}
+use Rattle.std.specs.Prelude.{◌&&◌, option_map, unwrap_or}
 use Rattle.std.specs.List.{list_all}
+use Rattle.std.specs.Option.{option_and_then}
 use Rattle.std.proofs.lemmas.List.{length-map}
+use Rattle.mn_base.specs.declared.numbers.NodeNo.{NodeNo}
 use Rattle.mn_wiring.specs.Wiring.{Wiring, View}
-use Rattle.mn_wiring.specs.Paths.{next}
-use Rattle.mn_way.specs.Way.{Hop, onward, hops_within, has_ldp, nodes_on, labelled}
+use Rattle.mn_wiring.specs.Paths.{dist_in, dists_to, next}
+use Rattle.mn_way.specs.Way.{Hop, onward, hops_within, has_ldp, nodes_on, labelled, label_path, numbered}
 
 -- 1. One hop
 
@@ -60,3 +62,25 @@ count-end ldp passed = ap (λ m. Some m) same
 pub no_more : {A : Type 0} (xs : List A) → xs ≡ xs ++ []
 no_more [] = refl
 no_more (x ∷ xs) = ap (λ ys. x ∷ ys) (no_more xs)
+
+-- behind what was there
+pub front-of : {A : Type 0} (xs more ys : List A) → ys ≡ xs ++ more → take (length xs) ys ≡ xs
+front-of xs more ys is = ap (take (length xs)) is ∙ front xs more
+  where
+    front : {A : Type 0} (xs more : List A) → take (length xs) (xs ++ more) ≡ xs
+    front [] more = refl
+    front (x ∷ xs) more = ap (λ ys. x ∷ ys) (front xs more)
+
+-- 4. Where LDP is on on each link, all nodes, and else none
+
+pub label-path-is : (w : Wiring) (v : View) (ldp : List Bool) (n to cost : ℕ) → Some cost ≡ dist_in (dists_to w v to) n →
+    label_path w v ldp n to ≡ labelled ldp n (hops_within w v to cost n)
+label-path-is w v ldp n to cost is = ap (λ o. option_and_then (labelled ldp n) (option_map (λ most. hops_within w v to most n) o)) (sym is)
+
+module _ (ldp : List Bool) (n : ℕ) (hops : List Hop) (old new : List NodeNo) where
+  pub put-whole : true ≡ list_all (has_ldp ldp) hops → new ≡ old ++ map numbered (nodes_on n hops) →
+      new ≡ old ++ map numbered (unwrap_or (labelled ldp n hops) [])
+  put-whole on put = put ∙ ap (λ b. old ++ map numbered (unwrap_or (cond b (Some (nodes_on n hops)) None) [])) on
+
+  pub put-none : false ≡ list_all (has_ldp ldp) hops → new ≡ old → new ≡ old ++ map numbered (unwrap_or (labelled ldp n hops) [])
+  put-none off same = same ∙ no_more old ∙ ap (λ b. old ++ map numbered (unwrap_or (cond b (Some (nodes_on n hops)) None) [])) off

@@ -1,9 +1,10 @@
-ghost use Rattle.std.specs.Prelude.{◌≡◌, ◌<◌, ◌+◌, ◌++◌, ℕ, length, map, false, is_some, option_map, unwrap_or, Option, Some, IfSome, OnOk, []};
+ghost use Rattle.std.specs.Prelude.{◌≡◌, ◌<◌, ◌+◌, ◌++◌, ℕ, length, map, take, true, false, is_some, option_map, unwrap_or, Option, Some, IfOk, IfSome, OnOk, []};
+ghost use Rattle.std.specs.List.{list_all};
 ghost use Rattle.mn_wiring.specs.Wiring.{Wiring};
 ghost use Rattle.mn_wiring.specs.Paths.{dist_in, dists_to, next};
 ghost use Rattle.mn_toward.specs.Toward.{as_hop};
 ghost use Rattle.mn_way.specs.Switched.{IsOver, edge_at};
-ghost use Rattle.mn_way.specs.Way.{hops_within, label_path, labelled, link_numbered, links_on, nodes_on, numbered, way};
+ghost use Rattle.mn_way.specs.Way.{has_ldp, hops_within, label_path, labelled, link_numbered, links_on, nodes_on, numbered, way};
 
 use crate::ways::Ways;
 use mn_base::{LinkNo, NodeNo};
@@ -81,16 +82,14 @@ impl Ways {
         requires here { node.0 < self.now.nodes }
         ensures { (wiring : Wiring) → IsOver wiring self.now → OnOk result (path.new.items ≡ path.old.items ++ map numbered (unwrap_or (label_path wiring self.now.up self.now.ldp node.0 (edge_at self.now edge)) [])) }
     {
-        match self.cost(node, edge) {
-            Some(cost) => {
-                if self.length_within(node, edge, cost).is_some() {
-                    self.put_nodes(node, edge, cost, path)
-                } else {
-                    Ok(())
-                }
-            }
-            None => Ok(()),
+        let Some(cost) = self.cost(node, edge) else {
+            return Ok(());
+        };
+        let before = path.len();
+        if !self.put_nodes(node, edge, cost, path)? {
+            path.truncate(before);
         }
+        Ok(())
     }
 
     /// Appends the links of the way from the node to the edge, whatever LDP; none where no links lead there.
@@ -138,31 +137,40 @@ impl Ways {
         Some(length)
     }
 
-    /// Appends the nodes of the way of at most so many hops.
+    /// Appends the nodes of the way of at most so many hops, and answers whether LDP is on on each of its links. Where it isn't, only the
+    /// first nodes are appended.
     fn put_nodes(
         &self,
         node: NodeNo,
         edge: usize,
         most: u32,
         path: &mut Vec<NodeNo>,
-    ) -> Result<(), AllocError>
+    ) -> Result<bool, AllocError>
         requires sound { self.now.failed ≡ false }
         requires edge { edge < length self.now.edges }
         requires here { node.0 < self.now.nodes }
-        ensures { (wiring : Wiring) → IsOver wiring self.now → OnOk result (path.new.items ≡ path.old.items ++ map numbered (nodes_on node.0 (hops_within wiring self.now.up (edge_at self.now edge) most node.0))) }
+        ensures behind { OnOk result (take (length path.old.items) path.new.items ≡ path.old.items) }
+        ensures on { (wiring : Wiring) → IsOver wiring self.now →
+            IfOk result (λ on. on ≡ list_all (has_ldp self.now.ldp) (hops_within wiring self.now.up (edge_at self.now edge) most node.0)) }
+        ensures nodes { (wiring : Wiring) → IsOver wiring self.now →
+            IfOk result (λ on. on ≡ true → path.new.items ≡ path.old.items ++ map numbered (nodes_on node.0 (hops_within wiring self.now.up (edge_at self.now edge) most node.0))) }
     {
         let mut at = node;
         path.push(node)?;
         for _passed in 0..most {
             match self.hop(at, edge) {
                 Some(hop) => {
+                    let has_ldp = self.has_ldp(hop.1);
+                    if !has_ldp {
+                        return Ok(false);
+                    }
                     path.push(hop.0)?;
                     at = hop.0;
                 }
-                None => return Ok(()),
+                None => return Ok(true),
             }
         }
-        Ok(())
+        Ok(true)
     }
 
     /// Appends the links of the way of at most so many hops.
