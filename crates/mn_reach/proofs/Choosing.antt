@@ -1,9 +1,13 @@
 -- The first that passes of a list that is gone through, and the way to it.
-use Rattle.std.proofs.Common.{ℕ, ◌≡◌, ◌+◌, ◌<◌, ◌≤◌, Bool, true, false, cond, List, [], ◌∷◌, map, filter, length, get_or, drop, refl, ◌∙◌, ap}
+use Rattle.std.proofs.Common.{ℕ, ◌≡◌, ◌+◌, ◌<◌, ◌≤◌, Bool, true, false, cond, List, [], ◌∷◌, map, filter, length, get_or, drop, refl, sym, ◌∙◌, ap}
 use Rattle.std.proofs.Common.{Option, Some, None}
 use Rattle.std.specs.Prelude.{◌&&◌}
 use Rattle.std.proofs.lemmas.List.{at_drop_more, at_drop_all}
+use Rattle.mn_topo.specs.Network.{Network}
+use Rattle.mn_ledger.specs.World.{Config}
 use Rattle.mn_ledger.specs.Held.{HeldRoute, first_of}
+use Rattle.mn_reach_laws.specs.Candidates.{is_told, chosen, chosen_by}
+use Rattle.mn_reach_laws.specs.Fates.{is_reached}
 use Rattle.mn_reach.specs.declared.plan.Candidate.{Candidate}
 use Rattle.mn_reach.specs.Plans.{held_in}
 
@@ -41,3 +45,24 @@ both p q (r ∷ rs) = by (p r) ∙ ap (λ ys. cond (p r) (cond (q r) (r ∷ ys) 
         (cond b (r ∷ filter p rs) (filter p rs))
     back true = refl
     back false = refl
+
+-- the one that is chosen
+module _ (t : Network) (config : Config) (home : ℕ) (rs : List HeldRoute) where
+  pub by_first : t.resolve ≡ false → first_of (filter (is_told config home) rs) ≡ chosen t config home rs
+  by_first off =
+      sym (ap (λ b. chosen_by b (first_of (filter (is_reached t config home) (filter (is_told config home) rs))) (first_of (filter (is_told config home) rs))) off)
+
+  module _ (on : t.resolve ≡ true) where
+    by : (o : Option HeldRoute) → first_of (filter (is_reached t config home) (filter (is_told config home) rs)) ≡ o →
+        chosen_by true o (first_of (filter (is_told config home) rs)) ≡ chosen t config home rs
+    by o is =
+        sym (ap (λ b. chosen_by b (first_of (filter (is_reached t config home) (filter (is_told config home) rs))) (first_of (filter (is_told config home) rs))) on
+        ∙ ap (λ r. chosen_by true r (first_of (filter (is_told config home) rs))) is)
+
+    pub by_reached : (r : HeldRoute) → first_of (filter (is_reached t config home) (filter (is_told config home) rs)) ≡ Some r →
+        Some r ≡ chosen t config home rs
+    by_reached r is = by (Some r) is
+
+    pub by_told : first_of (filter (is_reached t config home) (filter (is_told config home) rs)) ≡ None →
+        first_of (filter (is_told config home) rs) ≡ chosen t config home rs
+    by_told is = by None is

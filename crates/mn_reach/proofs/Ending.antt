@@ -2,11 +2,11 @@
 use Rattle.std.proofs.Common.{ℕ, ◌≡◌, ◌-◌, ◌<◌, ◌≤◌, ◌⊎◌, inl, inr, Bool, true, false, cond, List, [], ◌∷◌, map, length, get_or, take, refl, arith, sym, ◌∙◌}
 use Rattle.std.proofs.Common.{ap}
 use Rattle.std.proofs.Common.{Option, Some, None}
-use Rattle.std.specs.Prelude.{nat_lt, unwrap_or}
+use Rattle.std.specs.Prelude.{is_some, nat_lt, unwrap_or}
 use Rattle.std.specs.List.{list_all}
 use Rattle.std.specs.Option.{option_and_then}
 use Rattle.std.proofs.lemmas.List.{length-map, get_or-map, take-map}
-use Rattle.mn_base.proofs.Bools.{not_less}
+use Rattle.mn_base.proofs.Bools.{clash, not_less}
 use Rattle.mn_base.specs.declared.numbers.NodeNo.{NodeNo}
 use Rattle.mn_drops.specs.declared.drops.Rule.TheVariants as rule
 use Rattle.mn_wiring.specs.Wiring.{Wiring, View}
@@ -60,9 +60,9 @@ numbered_again (n ∷ ns) = ap (λ xs. n ∷ xs) (numbered_again ns)
 module _ (home ttl : ℕ) (route : HeldRoute) (found : Option (List ℕ)) (is : IsPath home found) (path : List NodeNo)
     (put : path ≡ map numbered (unwrap_or found [])) where
   -- none was found
-  pub no_path : path ≡ [] → Falls rule.NoLsp home (home ∷ []) ≡ ends_over home ttl route found
+  pub no_path : path ≡ [] → found ≡ None
   no_path empty = elim is [
-    | inl e ↦ sym (ap (ends_over home ttl route) e)
+    | inl e ↦ e
     | inr p ↦ let q : map numbered (home ∷ p.0) ≡ [] = sym (ap (λ o. map numbered (unwrap_or o [])) p.1) ∙ sym put ∙ empty in absurd (filled home p.0 q)
   ]
     where
@@ -77,3 +77,14 @@ module _ (home ttl : ℕ) (route : HeldRoute) (found : Option (List ℕ)) (is : 
         ap (λ ns. ends_along route ttl ns) (ap numbers_of (put ∙ ap (λ o. map numbered (unwrap_or o [])) p.1) ∙ numbered_again (home ∷ p.0))
         ∙ sym (ap (ends_over home ttl route) p.1)
   ]
+
+  pub some_path : (length path ≡ 0 → ⊥) → is_some found ≡ true
+  some_path filled = elim is [
+    | inl e ↦ absurd (filled (ap (λ xs. length xs) (put ∙ ap (λ o. map numbered (unwrap_or o [])) e)))
+    | inr p ↦ ap (λ (o : Option (List ℕ)). is_some o) p.1
+  ]
+
+-- where none leads there, packets fall at once
+pub not_reached : (home ttl : ℕ) (route : HeldRoute) (o : Option (List ℕ)) → is_some o ≡ false → Falls rule.NoLsp home (home ∷ []) ≡ ends_over home ttl route o
+not_reached home ttl route None e = refl
+not_reached home ttl route (Some nodes) e = absurd (clash e)

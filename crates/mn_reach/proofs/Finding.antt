@@ -32,8 +32,8 @@ use Rattle.mn_way.specs.Switched as switched
 use Rattle.mn_way.specs.Switched.{Switched, IsOver}
 use Rattle.mn_reach.specs.declared.plan.Candidate.{Candidate}
 use Rattle.mn_reach.specs.declared.plan.Prospect.{Prospect}
-use Rattle.mn_reach.specs.Plans.{IsOf, IsFor, IsPlaced, all_up, held_in, links_towards, numbers_of, no_pair, no_prospect}
-use Rattle.mn_reach.specs.Finding.{IsFresh, AreFound}
+use Rattle.mn_reach.specs.Plans.{IsOf, IsFor, IsPlaced, all_up, held_in, links_towards, numbers_of, no_pair, no_prospect, pairs_at}
+use Rattle.mn_reach.specs.Finding.{IsFresh, AreFound, AreByHome, AreByLink}
 use Rattle.mn_reach.proofs.Left.{edge_below}
 
 -- 1. The edges
@@ -232,10 +232,20 @@ edges_there t es e = λ k d h.
     edge_below t (get_or es k d).0 (subst (λ xs. In xs (get_or es k d).0) e
     (map_in (λ (n : NodeNo). n.0) es (get_or es k d) (in_contained es (get_or es k d) (Contains-get_or es k d h))))
 
-pub is_planned : (t : Network) (ways : Switched) (pairs : List Pair) (prospects : List Prospect) → IsLawful t → IsFresh t ways
+pub is_planned : (t : Network) (ways : Switched) (pairs : List Pair) (prospects : List Prospect) (by_link by_home : List (List ℕ)) (links : ℕ) →
+    IsLawful t → IsFresh t ways
     → All (λ (pair : Pair). pair.site.0 < length t.sites) pairs → AreFound t pairs (length pairs) prospects
-    → IsOf t (record { nodes = ways.nodes; links = ways.ends; edges = ways.edges; pairs = pairs; prospects = prospects })
-is_planned t ways pairs prospects lawful fresh sites found = record {
+    → AreByLink links prospects (length prospects) by_link → AreByHome t pairs (length pairs) by_home
+    → IsOf t (record {
+      nodes = ways.nodes;
+      links = ways.ends;
+      edges = ways.edges;
+      pairs = pairs;
+      prospects = prospects;
+      by_link = by_link;
+      by_home = by_home;
+    })
+is_planned t ways pairs prospects by_link by_home links lawful fresh sites found linked homed = record {
   lawful = lawful;
   nodes = fresh.nodes;
   links = fresh.ends;
@@ -243,4 +253,13 @@ is_planned t ways pairs prospects lawful fresh sites found = record {
   each = found.each;
   sites = sites;
   planned = λ k h. subst (λ es. IsFor t es (get_or pairs k no_pair) (get_or prospects k no_prospect)) (sym fresh.edges) (found.at k h);
+  listed = record {
+    links = λ k l h i.
+        let prospect = get_or prospects k no_prospect in
+        let link = in_map (λ (x : LinkNo). x.0) prospect.links l (in_contained (map (λ (x : LinkNo). x.0) prospect.links) l
+        (subst (λ xs. Contains xs l) (sym (found.at k h).links) i)) in
+        subst (λ n. Contains (pairs_at by_link n) k) link.2
+        (linked.at k link.0 (subst (λ n. k < n) (sym found.each) h) (contained_in prospect.links link.0 link.1));
+    homes = homed.at;
+  };
 }

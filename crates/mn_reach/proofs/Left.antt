@@ -48,9 +48,17 @@ pub record Agrees (r : Reaching) (ways : Switched) : Type 0 where
   pub up_each : length r.up ≡ length r.plan.links
   pub ldp_each : length r.ldp ≡ length r.plan.links
 
-abbrev pub seen : Switched → List Pair → List Prospect → List Bool → List Bool → List (NodeNo × NodeNo) → Bool → Reaching
-seen ways pairs prospects up ldp ended ends = record {
-  plan = record { nodes = ways.nodes; links = ways.ends; edges = ways.edges; pairs = pairs; prospects = prospects };
+abbrev pub seen : Switched → List Pair → List Prospect → List (List ℕ) → List (List ℕ) → List Bool → List Bool → List (NodeNo × NodeNo) → Bool → Reaching
+seen ways pairs prospects by_link by_home up ldp ended ends = record {
+  plan = record {
+    nodes = ways.nodes;
+    links = ways.ends;
+    edges = ways.edges;
+    pairs = pairs;
+    prospects = prospects;
+    by_link = by_link;
+    by_home = by_home;
+  };
   up = up;
   ldp = ldp;
   ended = ended;
@@ -58,10 +66,10 @@ seen ways pairs prospects up ldp ended ends = record {
   failed = ways.failed;
 }
 
-pub agrees : (r : Reaching) (ways : Switched) (pairs : List Pair) (prospects : List Prospect) (up ldp : List Bool) (ended : List (NodeNo × NodeNo))
-    (ends : Bool)
-    → r ≡ seen ways pairs prospects up ldp ended ends → IsKept ways up ldp → Agrees r ways
-agrees r ways pairs prospects up ldp ended ends e kept = subst (λ s. Agrees s ways) (sym e) (record {
+pub agrees : (r : Reaching) (ways : Switched) (pairs : List Pair) (prospects : List Prospect) (by_link by_home : List (List ℕ)) (up ldp : List Bool)
+    (ended : List (NodeNo × NodeNo)) (ends : Bool)
+    → r ≡ seen ways pairs prospects by_link by_home up ldp ended ends → IsKept ways up ldp → Agrees r ways
+agrees r ways pairs prospects by_link by_home up ldp ended ends e kept = subst (λ s. Agrees s ways) (sym e) (record {
   nodes = refl;
   ends = refl;
   edges = refl;

@@ -4,3 +4,5 @@ pub mod Choosing
 pub mod Ending
 pub mod Staying
 pub mod Finding
+pub mod Listing
+pub mod Marking

@@ -1,6 +1,6 @@
 -- What is found once: by pair, the routes for its address in order of preference, and the links on the ways to their edges.
 use Rattle.std.specs.Prelude.{ℕ, ◌≡◌, ◌<◌, true, All, List, [], map, length, replicate, slice_index_or, unwrap_or}
-use Rattle.std.specs.List.{flat_map}
+use Rattle.std.specs.List.{Contains, flat_map}
 use Rattle.mn_base.specs.declared.numbers.NodeNo.{NodeNo}
 use Rattle.mn_wiring.specs.Wiring.{View}
 use Rattle.mn_wiring.specs.declared.links.LinkEnds.{LinkEnds}
@@ -43,13 +43,15 @@ links_between topology home candidates = flat_map (links_towards topology home) 
 
 -- 3. What is found of a topology and pairs
 
--- the network, its edges, and by pair what was found
+-- the network, its edges, by pair what was found, and the pairs that what fails may touch: by link, and by node
 pub record Plan : Type 0 where
   pub nodes : ℕ
   pub links : List LinkEnds
   pub edges : List ℕ
   pub pairs : List Pair
   pub prospects : List Prospect
+  pub by_link : List (List ℕ)
+  pub by_home : List (List ℕ)
 
 abbrev pub no_pair : Pair
 no_pair = record { site = record { 0 = 0 }; prefix = record { address = 0; length = 0 }; address = 0 }
@@ -75,6 +77,20 @@ pub record IsFor (topology : Network) (edges : List ℕ) (pair : Pair) (prospect
   pub placed : All (IsPlaced edges) prospect.candidates
   pub links : map (λ l. l.0) prospect.links ≡ links_between topology (home_of topology pair.site.0) prospect.candidates
 
+-- the edge of a pair's site
+abbrev pub home_at : Network → Plan → ℕ → ℕ
+home_at topology plan k = home_of topology (pair_at plan k).site.0
+
+-- those of one place
+abbrev pub pairs_at : List (List ℕ) → ℕ → List ℕ
+pairs_at lists at = slice_index_or lists at []
+
+-- each pair is among those of each link on the ways from its edge to its candidates', and among those of its edge
+pub record AreListed (topology : Network) (plan : Plan) : Type 0 where
+  pub links : (k l : ℕ) → k < length plan.pairs →
+      Contains (links_between topology (home_at topology plan k) (prospect_at plan k).candidates) l → Contains (pairs_at plan.by_link l) k
+  pub homes : (k : ℕ) → k < length plan.pairs → Contains (pairs_at plan.by_home (home_at topology plan k)) k
+
 -- the plan is one for this topology
 pub record IsOf (topology : Network) (plan : Plan) : Type 0 where
   pub lawful : IsLawful topology
@@ -84,3 +100,4 @@ pub record IsOf (topology : Network) (plan : Plan) : Type 0 where
   pub each : length plan.prospects ≡ length plan.pairs
   pub sites : All (λ pair. pair.site.0 < length topology.sites) plan.pairs
   pub planned : (k : ℕ) → k < length plan.pairs → IsFor topology plan.edges (pair_at plan k) (prospect_at plan k)
+  pub listed : AreListed topology plan

@@ -1,9 +1,10 @@
-//! Which candidate is chosen, and what becomes of packets.
-ghost use Rattle.std.specs.Prelude.{◌≡◌, ◌<◌, ◌≤◌, ◌&&◌, [], All, length, map, filter, false, Some, IfSome, OnOk, option_map};
+//! Which candidate is chosen, and what becomes of packets: where next hops resolve, they go by the first that is reached, if one is; else
+//! by the first of which the edge knows.
+ghost use Rattle.std.specs.Prelude.{◌≡◌, ◌<◌, ◌≤◌, ◌&&◌, [], All, length, map, filter, true, false, Some, None, IfOk, IfSome, OnOk, option_map};
 ghost use Rattle.std.specs.List.{list_any};
 ghost use Rattle.mn_topo.specs.Network.{Network};
-ghost use Rattle.mn_ledger.specs.Held.{first_of};
-ghost use Rattle.mn_reach_laws.specs.Candidates.{is_told, chosen};
+ghost use Rattle.mn_ledger.specs.Held.{HeldRoute, first_of};
+ghost use Rattle.mn_reach_laws.specs.Candidates.{is_told};
 ghost use Rattle.mn_reach_laws.specs.Fates.{is_reached, ends_towards};
 ghost use Rattle.mn_failure_laws.specs.Failures.{config_under, is_session_off};
 ghost use Rattle.mn_failure_laws.specs.Fates.{fate_under};
@@ -54,17 +55,6 @@ impl Reach {
                 && (!self.ends || self.ways.is_joined(home, candidate.place))
     }
 
-    /// Whether a label switched path leads to the candidate's edge.
-    fn is_reached(&self, home: NodeNo, candidate: Candidate) -> bool
-        requires sound { self.now.failed ≡ false }
-        requires here { home.0 < self.now.plan.nodes }
-        requires placed { IsPlaced self.now.plan.edges candidate }
-        ensures { (topology : Network) → IsOf topology self.now.plan → result ≡ is_reached topology (config_under topology (failure_of self.now)) home.0 (held_in candidate) }
-    {
-        a_label_path_is_the_configurations();
-        self.ways.length(home, candidate.place).is_some()
-    }
-
     /// The first of the candidates of which the edge knows.
     fn first_told(&self, home: NodeNo, candidates: &[Candidate]) -> Option<Candidate>
         requires sound { self.now.failed ≡ false }
@@ -82,39 +72,66 @@ impl Reach {
         None
     }
 
-    /// The first of these that is reached.
-    fn first_reached(&self, home: NodeNo, candidates: &[Candidate]) -> Option<Candidate>
+    /// Puts what becomes of packets that go by a candidate, if a label switched path leads to its edge, and answers whether one does.
+    fn put_if_reached(
+        &self,
+        home: NodeNo,
+        candidate: Candidate,
+        ttl: u32,
+        into: &mut Verdict,
+    ) -> Result<bool, AllocError>
         requires sound { self.now.failed ≡ false }
         requires here { home.0 < self.now.plan.nodes }
-        requires placed { All (IsPlaced self.now.plan.edges) candidates.now }
-        ensures first { (topology : Network) → IsOf topology self.now.plan → option_map held_in result
-            ≡ first_of (filter (is_reached topology (config_under topology (failure_of self.now)) home.0)
-            (filter (is_told (config_under topology (failure_of self.now)) home.0) (map held_in candidates.now))) }
-        ensures placed { IfSome result (IsPlaced self.now.plan.edges) }
+        requires placed { IsPlaced self.now.plan.edges candidate }
+        requires least { 2 ≤ ttl }
+        requires most { ttl ≤ 255 }
+        requires empty { into.old.path.items ≡ [] }
+        ensures reached { (topology : Network) → IsOf topology self.now.plan →
+            IfOk result (λ reached. reached ≡ is_reached topology (config_under topology (failure_of self.now)) home.0 (held_in candidate)) }
+        ensures fate { (topology : Network) → IsOf topology self.now.plan → IfOk result (λ reached. reached ≡ true → fate_as into.new
+            ≡ ends_towards topology (config_under topology (failure_of self.now)) home.0 ttl (Some (held_in candidate))) }
+        ensures empty { IfOk result (λ reached. reached ≡ false → into.new.path.items ≡ []) }
     {
-        for candidate in candidates {
-            if self.is_told(home, *candidate) && self.is_reached(home, *candidate) {
-                return Some(*candidate);
-            }
+        a_label_path_is_the_configurations();
+        self.ways.put_path(home, candidate.place, &mut into.path)?;
+        if into.path.is_empty() {
+            return Ok(false);
         }
-        None
+        into.end_along(candidate.route.site, ttl);
+        Ok(true)
     }
 
-    /// The candidate by which packets go: where next hops resolve, the first that is reached, if one is; else the first of which the edge knows.
-    fn chosen(&self, resolve: bool, home: NodeNo, candidates: &[Candidate]) -> Option<Candidate>
+    /// Puts what becomes of packets that go by the first of these that is reached, and answers whether one is.
+    fn put_first_reached(
+        &self,
+        home: NodeNo,
+        candidates: &[Candidate],
+        ttl: u32,
+        into: &mut Verdict,
+    ) -> Result<bool, AllocError>
         requires sound { self.now.failed ≡ false }
         requires here { home.0 < self.now.plan.nodes }
         requires placed { All (IsPlaced self.now.plan.edges) candidates.now }
-        ensures chosen { (topology : Network) → IsOf topology self.now.plan → resolve ≡ topology.resolve → option_map held_in result
-            ≡ chosen topology (config_under topology (failure_of self.now)) home.0 (map held_in candidates.now) }
-        ensures placed { IfSome result (IsPlaced self.now.plan.edges) }
+        requires least { 2 ≤ ttl }
+        requires most { ttl ≤ 255 }
+        requires empty { into.old.path.items ≡ [] }
+        ensures some { (topology : Network) → IsOf topology self.now.plan → IfOk result (λ found. found ≡ true → (route : HeldRoute) ×
+            (first_of (filter (is_reached topology (config_under topology (failure_of self.now)) home.0)
+            (filter (is_told (config_under topology (failure_of self.now)) home.0) (map held_in candidates.now))) ≡ Some route) ×
+            (fate_as into.new ≡ ends_towards topology (config_under topology (failure_of self.now)) home.0 ttl (Some route))) }
+        ensures none { (topology : Network) → IsOf topology self.now.plan → IfOk result (λ found. found ≡ false →
+            first_of (filter (is_reached topology (config_under topology (failure_of self.now)) home.0)
+            (filter (is_told (config_under topology (failure_of self.now)) home.0) (map held_in candidates.now))) ≡ None) }
+        ensures empty { IfOk result (λ found. found ≡ false → into.new.path.items ≡ []) }
     {
-        if resolve {
-            if let Some(candidate) = self.first_reached(home, candidates) {
-                return Some(candidate);
+        for candidate in candidates {
+            if self.is_told(home, *candidate) {
+                if self.put_if_reached(home, *candidate, ttl, into)? {
+                    return Ok(true);
+                }
             }
         }
-        self.first_told(home, candidates)
+        Ok(false)
     }
 
     /// What becomes of packets that go by a candidate.
@@ -134,13 +151,34 @@ impl Reach {
         ensures { (topology : Network) → IsOf topology self.now.plan → OnOk result (fate_as into.new
             ≡ ends_towards topology (config_under topology (failure_of self.now)) home.0 ttl (Some (held_in candidate))) }
     {
-        a_label_path_is_the_configurations();
-        self.ways.put_path(home, candidate.place, &mut into.path)?;
-        if into.path.is_empty() {
-            return into.fall(Rule::NoLsp, home);
+        if self.put_if_reached(home, candidate, ttl, into)? {
+            return Ok(());
         }
-        into.end_along(candidate.route.site, ttl);
-        Ok(())
+        into.fall(Rule::NoLsp, home)
+    }
+
+    /// Puts what becomes of packets that go by the first candidate of which the edge knows.
+    fn put_told(
+        &self,
+        home: NodeNo,
+        candidates: &[Candidate],
+        ttl: u32,
+        into: &mut Verdict,
+    ) -> Result<(), AllocError>
+        requires sound { self.now.failed ≡ false }
+        requires here { home.0 < self.now.plan.nodes }
+        requires placed { All (IsPlaced self.now.plan.edges) candidates.now }
+        requires least { 2 ≤ ttl }
+        requires most { ttl ≤ 255 }
+        requires empty { into.old.path.items ≡ [] }
+        ensures { (topology : Network) → IsOf topology self.now.plan → OnOk result (fate_as into.new
+            ≡ ends_towards topology (config_under topology (failure_of self.now)) home.0 ttl
+            (first_of (filter (is_told (config_under topology (failure_of self.now)) home.0) (map held_in candidates.now)))) }
+    {
+        match self.first_told(home, candidates) {
+            Some(candidate) => self.fate_by(home, candidate, ttl, into),
+            None => into.fall(Rule::NoRoute, home),
+        }
     }
 
     /// What becomes of a pair's packets that are sent with this time to live.
@@ -162,9 +200,12 @@ impl Reach {
         let home = topology.home_of(self.pairs[pair].site);
         let candidates = self.prospects[pair].candidates.as_slice();
         into.path.clear();
-        match self.chosen(topology.resolve(), home, candidates) {
-            Some(candidate) => self.fate_by(home, candidate, ttl, into),
-            None => into.fall(Rule::NoRoute, home),
+        if !topology.resolve() {
+            return self.put_told(home, candidates, ttl, into);
         }
+        if self.put_first_reached(home, candidates, ttl, into)? {
+            return Ok(());
+        }
+        self.put_told(home, candidates, ttl, into)
     }
 }

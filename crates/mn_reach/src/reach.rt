@@ -4,12 +4,14 @@ ghost use Rattle.mn_reach.specs.Plans.{IsOf};
 ghost use Rattle.mn_reach.specs.Reaching.{at_first};
 
 use crate::edges::edges_of;
+use crate::listed::{pairs_by_home, pairs_by_link};
 use crate::plan::Prospect;
 use crate::prospects::prospects_of;
-use mn_base::{LinkNo, NodeNo};
+use mn_base::{LinkNo, ListOf, NodeNo};
 use mn_candidates::Pair;
 use mn_topo::Topology;
 use mn_way::Ways;
+use mn_way_laws::the_links_of_a_way_are_there;
 use std::alloc::{AllocError, Global};
 use std::marker::Model;
 
@@ -19,6 +21,9 @@ pub struct Reach {
     pub(crate) ways: Ways,
     pub(crate) pairs: Vec<Pair>,
     pub(crate) prospects: Vec<Prospect>,
+    /// By link the pairs on whose ways it is, and by node those of its sites: no other pair is touched where it fails.
+    pub(crate) by_link: Vec<ListOf<usize>>,
+    pub(crate) by_home: Vec<ListOf<usize>>,
     /// As the ways have them.
     pub(crate) up: Vec<bool>,
     pub(crate) ldp: Vec<bool>,
@@ -33,7 +38,7 @@ impl Model for Reach {
 
     ghost Value = { Reaching };
 
-    ghost view = { λ r. record { plan = record { nodes = r.ways.nodes; links = r.ways.ends; edges = r.ways.edges; pairs = r.pairs.items; prospects = r.prospects.items }; up = r.up.items; ldp = r.ldp.items; ended = r.ended.items; ends = r.ends; failed = r.ways.failed } };
+    ghost view = { λ r. record { plan = record { nodes = r.ways.nodes; links = r.ways.ends; edges = r.ways.edges; pairs = r.pairs.items; prospects = r.prospects.items; by_link = r.by_link.items; by_home = r.by_home.items }; up = r.up.items; ldp = r.ldp.items; ended = r.ended.items; ends = r.ends; failed = r.ways.failed } };
 
     ghost invariant = { λ r. IsKept r.ways r.up.items r.ldp.items };
 }
@@ -47,6 +52,7 @@ impl Reach {
         ensures fresh { IfOk result (λ reach. reach ≡ at_first reach.plan) }
     {
         topology.laws();
+        the_links_of_a_way_are_there();
         let links = topology.links();
         let up = vec![in alloc; true; links.len()]?;
         let ldp = vec![in alloc; true; links.len()]?;
@@ -54,10 +60,14 @@ impl Reach {
         let nodes = topology.nodes().len() as u32;
         let ways = Ways::new(alloc, nodes, links, edges.as_slice())?;
         let prospects = prospects_of(alloc, topology, &ways, edges.as_slice(), pairs.as_slice())?;
+        let by_link = pairs_by_link(alloc, links.len(), prospects.as_slice())?;
+        let by_home = pairs_by_home(alloc, topology, pairs.as_slice())?;
         Ok(Reach {
             ways,
             pairs,
             prospects,
+            by_link,
+            by_home,
             up,
             ldp,
             ended: Vec::new(alloc),

@@ -1,5 +1,5 @@
 //! Pairs whose packets need nothing that failed.
-ghost use Rattle.std.specs.Prelude.{ℕ, ◌≡◌, ◌<◌, length, not, true};
+ghost use Rattle.std.specs.Prelude.{ℕ, ◌≡◌, ◌<◌, ◌&&◌, length, not, true};
 ghost use Rattle.std.specs.List.{list_all};
 ghost use Rattle.mn_topo.specs.Homes.{home_of};
 ghost use Rattle.mn_failure_laws.specs.Failures.{is_session_off};
@@ -14,14 +14,21 @@ use mn_base::{LinkNo, NodeNo, SiteNo};
 use mn_topo::Topology;
 use mn_way_laws::a_path_that_is_spared_stays;
 
-/// Whether the switch of the link is on.
-fn is_on(switches: &[bool], link: LinkNo) -> bool
-    ensures { result ≡ is_up switches.now link.0 }
+/// Whether the switch of the link of this number is on.
+fn is_on(switches: &[bool], link: usize) -> bool
+    ensures { result ≡ is_up switches.now link }
 {
-    match switches.get(usize::from(link.0)) {
+    match switches.get(link) {
         Some(on) => *on,
         None => false,
     }
+}
+
+/// Whether the link of this number is up, with LDP.
+pub(crate) fn is_whole(up: &[bool], ldp: &[bool], link: usize) -> bool
+    ensures { result ≡ (is_up up.now link && is_up ldp.now link) }
+{
+    is_on(up, link) && is_on(ldp, link)
 }
 
 impl Reach {
@@ -31,7 +38,7 @@ impl Reach {
     {
         links
             .iter()
-            .all(|link| is_on(&self.up, *link) && is_on(&self.ldp, *link))
+            .all(|link| is_whole(&self.up, &self.ldp, usize::from(link.0)))
     }
 
     /// Whether no session of an edge with those of the candidates was ended: each is looked at.

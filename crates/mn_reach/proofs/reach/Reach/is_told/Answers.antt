@@ -9,7 +9,7 @@ pub returns-else-not-self : goal.returns-else-not-self
 returns-else-not-self c = λ t of.
     let ways = c.self.inside.ways in
     let now = c.args.self.now in
-    let same = agrees now ways _ _ _ _ _ _ (sym c.self.view_is) c.self.invariant in
+    let same = agrees now ways _ _ _ _ _ _ _ _ (sym c.self.view_is) c.self.invariant in
     told_joined t now of ways same c.args.home.0 c.requires.here c.args.candidate c.requires.placed c.is_ended.result c.is_joined.result
     (other_test _ _ c.if-edge-home.false) c.is_ended.ensures c.if-not-is_ended.true (sym (ap (λ (r : Reaching). r.ends) c.self.view_is) ∙ c.if-not-self.false)
     (c.is_joined.ensures (wiring_of t) (over t now of ways same))
