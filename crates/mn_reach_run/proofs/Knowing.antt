@@ -16,6 +16,7 @@ use Rattle.mn_failures.specs.declared.command.Part.{Part}
 use Rattle.mn_reach.specs.declared.verdict.Verdict.{Verdict}
 use Rattle.mn_reach.specs.Plans.{Plan, IsOf, no_pair, pair_at}
 use Rattle.mn_reach.specs.Reaching.{Reaching, failure_of, nothing_gone}
+use Rattle.mn_reach.specs.Touched.{AreMarked}
 use Rattle.mn_reach.specs.Verdicts.{fate_as}
 use Rattle.mn_reach_run.specs.declared.found.Found.{Found}
 use Rattle.mn_reach_run.specs.declared.change.Change.{Change}
@@ -163,6 +164,15 @@ by_losses topology settings count line parts is =
     else (failure_text topology count line parts ++ codes "\n") ++ flat_map (change_at topology settings count parts) (pairs_of topology)) is)
 
 -- 7. What a failure changes for a pair
+
+-- it has no mark
+pub unmarked_stays : (topology : Network) (found : Found) → IsReady topology found.reach → AreMarked topology found.reach found.touched.items → (k ttl : ℕ)
+    (mark : Bool) → k < length (pairs_of topology) → mark ≡ get_or found.touched.items k mark → mark ≡ false →
+    fate_under topology (failure_of found.reach) (pair_at found.reach.plan k).site.0 ttl (pair_at found.reach.plan k).address
+    ≡ fate_under topology (nothing_gone found.reach.ends) (pair_at found.reach.plan k).site.0 ttl (pair_at found.reach.plan k).address
+unmarked_stays topology found ready marked k ttl mark below is off =
+    let there : k < length found.reach.plan.pairs = subst (λ (ps : List Pair). k < length ps) (sym ready.pairs) below in
+    marked.stays k ttl there (get_or_default found.touched.items k false mark (subst (λ n. k < n) (sym marked.each) there) ∙ sym is ∙ off)
 
 module _ (topology : Network) (settings : Settings) (parts : List Part) (found : Found) (known : IsKnown topology settings parts found)
     (alike : (failure other : Failure) (s ttl address : ℕ) → IsLawful topology → AreAlike topology failure other → s < length topology.sites →

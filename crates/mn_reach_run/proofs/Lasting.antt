@@ -57,7 +57,7 @@ no_failures topology stage = by stage.is_told
 -- 2. A line
 
 module _ (topology : Network) (manner : Manner) (line : FailureLine) where
-  -- it says how is told
+  -- it says how failures are reported
   pub setting_played : (now : Now) → is_setting line.command ≡ true →
       Plays topology (λ number. tasks_of_line topology (stage_of manner number) line) now now (Ok tt)
   setting_played now is =
@@ -123,7 +123,7 @@ module _ (topology : Network) (manner : Manner) (line : FailureLine) where
       by command.Counts = refl
       by (command.Ttl ttl) = refl
 
--- 3. How is told behind a line
+-- 3. How failures are reported behind a line
 
 pub settings_kept : (settings : Settings) (told : FailureCommand) → is_setting told ≡ false → settings_after settings told ≡ settings
 settings_kept settings (command.Fail parts) is = refl

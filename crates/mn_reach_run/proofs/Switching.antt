@@ -248,15 +248,29 @@ or_false_is : (b : Bool) → (b || false) ≡ true → b ≡ true
 or_false_is true is = refl
 or_false_is false is = is
 
+not_less_itself : (a b : ℕ) → a < b → a ≡ b → ⊥
+not_less_itself a b below is = omega (arith, below, is)
+
 -- two different links
+module _ (topology : Network) (first last : ℕ) (less : first < last) where
+  other_down : (l : ℕ) → is_down topology (link_down last ∷ []) l ≡ true → (first == l) ≡ false
+  other_down l is =
+      other_test first l (λ (e : first ≡ l). absurd (not_less_itself first last less (e ∙ sym (same_numbers last l (or_false_is (last == l) is)))))
+
 pub links_apart : (topology : Network) (first second : ℕ) → first < second → AreApart topology (link_down first ∷ []) (link_down second ∷ [])
 links_apart topology first second less = record {
-  up = λ l is.
-      let at : second ≡ l = same_numbers second l (or_false_is (second == l) is) in
-      ap (λ b. b || false) (other_test first l (λ (e : first ≡ l). absurd (not_less_itself first second less (e ∙ sym at))));
+  up = λ l is. ap (λ b. b || false) (other_down topology first second less l is);
   ldp = λ l is. refl;
   sessions = λ one other. refl;
 }
-  where
-    not_less_itself : (a b : ℕ) → a < b → a ≡ b → ⊥
-    not_less_itself a b below is = omega (arith, below, is)
+
+-- and a third one
+pub two_apart : (topology : Network) (first second third : ℕ) → first < third → second < third →
+    AreApart topology (link_down first ∷ link_down second ∷ []) (link_down third ∷ [])
+two_apart topology first second third one two = record {
+  up = λ l is.
+      ap (λ b. b || ((second == l) || false)) (other_down topology first third one l is)
+      ∙ ap (λ b. b || false) (other_down topology second third two l is);
+  ldp = λ l is. refl;
+  sessions = λ one other. refl;
+}

@@ -21,7 +21,7 @@ use Rattle.mn_reach_run.specs.Lines.{pair_line, change_line, failure_text, chang
 abbrev pub first_settings : Settings
 first_settings = record { ttl = 64; counts = false; ends = false }
 
--- the command says how is told from there on; else it stands for failures
+-- the command says how failures are reported from there on; else it stands for failures
 abbrev pub is_setting : FailureCommand → Bool
 is_setting (command.Fail parts) = false
 is_setting (command.Each each) = false
@@ -110,7 +110,7 @@ abbrev pub numbered : Settings → ℕ → ℕ → List (List Part) → List Tas
 numbered settings number line [] = []
 numbered settings number line (parts ∷ failures) = Under settings (number + 1) line parts ∷ numbered settings (number + 1) line failures
 
--- how is told, whether all pairs were told so with nothing failed, and how many failures there were
+-- how failures are reported, whether all pairs were told so with nothing failed, and how many failures there were
 pub record Stage : Type 0 where
   pub settings : Settings
   pub is_told : Bool

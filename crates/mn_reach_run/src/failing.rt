@@ -44,7 +44,7 @@ fn set_if_end(
 }
 
 /// How many links there are: at most 1,024.
-fn link_count(topology: &Topology) -> u16
+pub(crate) fn link_count(topology: &Topology) -> u16
     ensures { result ≡ length topology.now.links }
 {
     topology.laws();

@@ -3,6 +3,7 @@ ghost use Rattle.std.specs.Prelude.{◌≡◌, ◌<◌, ◌≤◌, ℕ, List, []
 ghost use Rattle.mn_candidates.specs.Pairs.{pairs_of};
 ghost use Rattle.mn_failures.specs.declared.command.Part.{Part};
 ghost use Rattle.mn_reach.specs.Plans.{pair_at};
+ghost use Rattle.mn_reach.specs.Touched.{AreMarked};
 ghost use Rattle.mn_reach.specs.Verdicts.{fate_as};
 ghost use Rattle.mn_reach_run.specs.Fates.{fate_of, change_of};
 ghost use Rattle.mn_reach_run.specs.Lines.{change_line};
@@ -22,6 +23,8 @@ pub struct Found {
     pub reach: Reach,
     /// What becomes of each with nothing failed.
     pub whole: Vec<Verdict>,
+    /// By pair whether what failed may touch it.
+    pub touched: Vec<bool>,
 }
 
 /// What becomes of a pair with nothing failed.
@@ -76,6 +79,7 @@ pub(crate) fn change_of(
 ) -> Result<Change, AllocError>
     requires ready { IsReady topology.now found.now.reach }
     requires sound { found.now.reach.failed ≡ false }
+    requires marked { AreMarked topology.now found.now.reach found.now.touched.items }
     requires each { length found.now.whole.items ≡ length (pairs_of topology.now) }
     requires pair { pair < length (pairs_of topology.now) }
     requires least { 2 ≤ settings.ttl }
@@ -87,6 +91,9 @@ pub(crate) fn change_of(
         ≡ change_at topology.now settings number parts (pair_at found.now.reach.plan pair)) }
 {
     alike_failures_have_the_same_fates();
+    if !found.touched[pair] {
+        return Ok(Change::Nothing);
+    }
     if found.reach.is_spared(topology, pair) {
         return Ok(Change::Nothing);
     }

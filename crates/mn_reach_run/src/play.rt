@@ -23,7 +23,7 @@ use mn_tables::put_pieces;
 use mn_topo::Topology;
 use std::alloc::{AllocError, Global};
 
-/// How is told, and whether all pairs were told so with nothing failed.
+/// How failures are reported, and whether all pairs were reported so with nothing failed.
 #[derive(Clone, Copy)]
 pub struct Manner {
     pub settings: Settings,
@@ -101,7 +101,7 @@ fn play_line<O: Sink>(
     play_failures(player, at, &line.command, out, page)
 }
 
-/// How is told behind a line.
+/// How failures are reported behind a line.
 fn manner_after(manner: Manner, line: &FailureLine) -> Manner
     ensures { result ≡ manner_after manner line.now }
 {
@@ -179,6 +179,7 @@ fn new_player(alloc: Global, topology: &Topology, pairs: Vec<Pair>) -> Result<Pl
         found: Found {
             reach,
             whole: Vec::new(alloc),
+            touched: Vec::new(alloc),
         },
         draft: Draft {
             line: Vec::new(alloc),

@@ -1,10 +1,10 @@
-//! How is told.
+//! How failures are reported.
 ghost use Rattle.std.specs.Prelude.{◌≡◌};
 ghost use Rattle.mn_reach_run.specs.Report.{first_settings, is_setting, settings_after};
 
 use mn_failures::FailureCommand;
 
-/// How is told from a line on.
+/// How failures are reported from a line on.
 #[derive(Clone, Copy)]
 pub struct Settings {
     /// The TTL with which packets are sent, 2 to 255.
@@ -43,7 +43,7 @@ impl Settings {
     }
 }
 
-/// Whether a command says how is told from there on; else it stands for failures.
+/// Whether a command says how failures are reported from there on; else it stands for failures.
 pub(crate) fn is_setting(command: &FailureCommand) -> bool
     ensures { result ≡ is_setting command.now }
 {

@@ -8,7 +8,7 @@ ghost use Rattle.mn_failures.specs.Meaning.{part_fits, command_fits};
 ghost use Rattle.mn_reach_run.specs.Playing.{AreApart, IsKnown, now_at, Sweeps};
 ghost use Rattle.mn_reach_run.specs.Sweeping.{part_of, alone, count_of};
 
-use crate::failing::{fail, mend};
+use crate::failing::{fail, link_count, mend};
 use crate::found::Found;
 use crate::settings::Settings;
 use crate::sums::Sums;
@@ -28,7 +28,7 @@ pub struct Player {
     pub sums: Sums,
 }
 
-/// A line of the file, and how is told there.
+/// A line of the file, and how failures are reported there.
 #[derive(Clone, Copy)]
 pub struct At<'t> {
     pub topology: &'t Topology,
@@ -244,14 +244,6 @@ fn link_down(link: u16) -> Part
     Part::LinkDown(LinkNo(link), Dir::Forth)
 }
 
-/// How many links there are: at most 1,024.
-fn link_count(topology: &Topology) -> u16
-    ensures { result ≡ length topology.now.links }
-{
-    topology.laws();
-    topology.links().len() as u16
-}
-
 /// Plays two links down of which the first is this one, which is down already.
 fn play_seconds<O: Sink>(
     player: &mut Player,
@@ -297,8 +289,8 @@ fn play_two<O: Sink>(
     Ok(())
 }
 
-/// Plays three links down of which the first two are these.
-fn play_third<O: Sink>(
+/// Plays three links down of which the first two are these, which are down already.
+fn play_thirds<O: Sink>(
     player: &mut Player,
     at: At<'_>,
     first: u16,
@@ -308,21 +300,78 @@ fn play_third<O: Sink>(
 ) -> Result<(), DeviceBad>
     requires first { first < length at.topology.now.links }
     requires second { second < length at.topology.now.links }
-    requires known { IsKnown at.topology.now at.settings [] player.old.found }
+    requires behind { first < second }
+    requires known { IsKnown at.topology.now at.settings (link_down first ∷ link_down second ∷ []) player.old.found }
     ensures told { Sweeps at.entry.topology.now at.entry.settings at.entry.line (third_with at.entry.topology.now first second)
         (now_at player.old.sums (standing page.old (O.written out.old) (O.faults out.old)))
         (now_at player.new.sums (standing page.new (O.written out.new) (O.faults out.new))) result }
-    ensures known { OnOk result (IsKnown at.entry.topology.now at.entry.settings [] player.new.found) }
+    ensures known { OnOk result (IsKnown at.entry.topology.now at.entry.settings (link_down first ∷ link_down second ∷ []) player.new.found) }
 {
     let links = link_count(at.topology);
     for third in second + 1..links {
-        let parts = [link_down(first), link_down(second), link_down(third)];
-        play_one(player, at, &parts, out, page)?;
+        let one = link_down(first);
+        let two = link_down(second);
+        let three = link_down(third);
+        play_with(
+            player,
+            at,
+            &[one, two],
+            &[three],
+            &[one, two, three],
+            out,
+            page,
+        )?;
     }
     Ok(())
 }
 
-/// Plays three links down of which the first is this one.
+/// Plays three links down of which the first two are these. The first is down already, and the second goes down once for all of them.
+fn play_middle<O: Sink>(
+    player: &mut Player,
+    at: At<'_>,
+    first: u16,
+    second: u16,
+    out: &mut O,
+    page: &mut Page,
+) -> Result<(), DeviceBad>
+    requires first { first < length at.topology.now.links }
+    requires second { second < length at.topology.now.links }
+    requires behind { first < second }
+    requires known { IsKnown at.topology.now at.settings (link_down first ∷ []) player.old.found }
+    ensures told { Sweeps at.entry.topology.now at.entry.settings at.entry.line (third_with at.entry.topology.now first second)
+        (now_at player.old.sums (standing page.old (O.written out.old) (O.faults out.old)))
+        (now_at player.new.sums (standing page.new (O.written out.new) (O.faults out.new))) result }
+    ensures known { OnOk result (IsKnown at.entry.topology.now at.entry.settings (link_down first ∷ []) player.new.found) }
+{
+    fail(&mut player.found.reach, at.topology, &[link_down(second)])?;
+    play_thirds(player, at, first, second, out, page)?;
+    mend(&mut player.found.reach, at.topology, &[link_down(second)])?;
+    Ok(())
+}
+
+/// Plays three links down of which the first is this one, which is down already.
+fn play_middles<O: Sink>(
+    player: &mut Player,
+    at: At<'_>,
+    first: u16,
+    out: &mut O,
+    page: &mut Page,
+) -> Result<(), DeviceBad>
+    requires there { first < length at.topology.now.links }
+    requires known { IsKnown at.topology.now at.settings (link_down first ∷ []) player.old.found }
+    ensures told { Sweeps at.entry.topology.now at.entry.settings at.entry.line (three_with at.entry.topology.now first)
+        (now_at player.old.sums (standing page.old (O.written out.old) (O.faults out.old)))
+        (now_at player.new.sums (standing page.new (O.written out.new) (O.faults out.new))) result }
+    ensures known { OnOk result (IsKnown at.entry.topology.now at.entry.settings (link_down first ∷ []) player.new.found) }
+{
+    let links = link_count(at.topology);
+    for second in first + 1..links {
+        play_middle(player, at, first, second, out, page)?;
+    }
+    Ok(())
+}
+
+/// Plays three links down of which the first is this one. It goes down once for all of them.
 fn play_three<O: Sink>(
     player: &mut Player,
     at: At<'_>,
@@ -337,10 +386,9 @@ fn play_three<O: Sink>(
         (now_at player.new.sums (standing page.new (O.written out.new) (O.faults out.new))) result }
     ensures known { OnOk result (IsKnown at.entry.topology.now at.entry.settings [] player.new.found) }
 {
-    let links = link_count(at.topology);
-    for second in first + 1..links {
-        play_third(player, at, first, second, out, page)?;
-    }
+    fail(&mut player.found.reach, at.topology, &[link_down(first)])?;
+    play_middles(player, at, first, out, page)?;
+    mend(&mut player.found.reach, at.topology, &[link_down(first)])?;
     Ok(())
 }
 

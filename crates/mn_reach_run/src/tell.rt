@@ -7,6 +7,7 @@ ghost use Rattle.mn_candidates.specs.Pairs.{pairs_of};
 ghost use Rattle.mn_failures.specs.declared.command.Part.{Part};
 ghost use Rattle.mn_failures.specs.Meaning.{part_fits};
 ghost use Rattle.mn_reach.specs.Plans.{pair_at};
+ghost use Rattle.mn_reach.specs.Touched.{AreMarked};
 ghost use Rattle.mn_reach.specs.Verdicts.{fate_as};
 ghost use Rattle.mn_reach_run.specs.Fates.{change_of};
 ghost use Rattle.mn_reach_run.specs.Lines.{pair_line, change_line, profile_line};
@@ -250,6 +251,7 @@ fn try_pair<O: Sink>(
 ) -> Result<Change, DeviceBad>
     requires ready { IsReady topology.now found.now.reach }
     requires sound { found.now.reach.failed ≡ false }
+    requires marked { AreMarked topology.now found.now.reach found.now.touched.items }
     requires each { length found.now.whole.items ≡ length (pairs_of topology.now) }
     requires pair { pair < length (pairs_of topology.now) }
     requires least { 2 ≤ settings.ttl }
@@ -288,6 +290,7 @@ fn tell_changes<O: Sink>(
 ) -> Result<Changes, DeviceBad>
     requires ready { IsReady topology.now found.now.reach }
     requires sound { found.now.reach.failed ≡ false }
+    requires marked { AreMarked topology.now found.now.reach found.now.touched.items }
     requires each { length found.now.whole.items ≡ length (pairs_of topology.now) }
     requires least { 2 ≤ settings.ttl }
     requires most { settings.ttl ≤ 255 }
@@ -352,6 +355,7 @@ fn tell_failed<O: Sink>(
 ) -> Result<Changes, DeviceBad>
     requires fit { list_all (part_fits topology.now) failing.parts.now ≡ true }
     requires known { IsKnown topology.now settings failing.parts.now found.now }
+    requires marked { AreMarked topology.now found.now.reach found.now.touched.items }
     ensures told { (count : ℕ) → failing.entry.number ≡ u64_saturate count → Tells (under_text topology.now settings count failing.entry.line failing.entry.parts.now)
         (standing page.old (O.written out.old) (O.faults out.old)) (standing page.new (O.written out.new) (O.faults out.new)) result }
     ensures counted { IfOk result (AreCounted topology.now settings failing.entry.parts.now (pairs_of topology.now)) }
@@ -386,6 +390,7 @@ pub(crate) fn tell_failure<O: Sink>(
     ensures known { OnOk result (IsKnown topology.now settings failing.entry.front.now found.new) }
 {
     fail(&mut found.reach, topology, failing.more)?;
+    found.reach.mark_touched(&mut found.touched)?;
     let changes = tell_failed(out, page, draft, topology, found, settings, failing)?;
     mend(&mut found.reach, topology, failing.more)?;
     Ok(changes)

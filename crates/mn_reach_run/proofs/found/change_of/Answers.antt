@@ -1,6 +1,22 @@
 use Rattle.mn_reach.specs.Verdicts.{fate_as}
-use Rattle.mn_reach_run.proofs.Knowing.{spared_nothing, spared_line, found_change, found_line}
+use Rattle.mn_reach_run.proofs.Knowing.{unmarked_stays, spared_nothing, spared_line, found_change, found_line}
 use Rattle.mn_reach_run.proofs.found.change_of.Goals as goal
+
+pub returns-then-not-index-clause-change : goal.returns-then-not-index-clause-change
+returns-then-not-index-clause-change c = λ parts known.
+    spared_nothing c.args.topology.now c.args.settings parts c.args.found.now known (c.alike_failures_have_the_same_fates.ensures c.args.topology.now)
+    c.args.pair c.requires.pair
+    (unmarked_stays c.args.topology.now c.args.found.now c.requires.ready c.requires.marked c.args.pair c.args.settings.ttl c.index.result.now c.requires.pair
+    c.index.ensures c.if-not-index.true)
+
+pub returns-then-not-index-clause-line : goal.returns-then-not-index-clause-line
+returns-then-not-index-clause-line c = λ parts known number.
+    spared_line c.args.topology.now c.args.settings parts c.args.found.now known (c.alike_failures_have_the_same_fates.ensures c.args.topology.now) c.args.pair
+    c.requires.pair
+    (spared_nothing c.args.topology.now c.args.settings parts c.args.found.now known (c.alike_failures_have_the_same_fates.ensures c.args.topology.now)
+    c.args.pair c.requires.pair
+    (unmarked_stays c.args.topology.now c.args.found.now c.requires.ready c.requires.marked c.args.pair c.args.settings.ttl c.index.result.now c.requires.pair
+    c.index.ensures c.if-not-index.true)) number (fate_as c.args.verdict.now)
 
 pub returns-then-is_spared-clause-change : goal.returns-then-is_spared-clause-change
 returns-then-is_spared-clause-change c = λ parts known.
@@ -19,9 +35,9 @@ returns-then-is_spared-clause-line c = λ parts known number.
 pub returns-clause-change : goal.returns-clause-change
 returns-clause-change c = λ parts known.
     found_change c.args.topology.now c.args.settings parts c.args.found.now known (c.alike_failures_have_the_same_fates.ensures c.args.topology.now) c.args.pair
-    c.requires.pair c.fate.new.into c.index.result.now c.change_between.result c.in_ok-fate.ensures c.index.ensures c.change_between.ensures
+    c.requires.pair c.fate.new.into c.index-2.result.now c.change_between.result c.in_ok-fate.ensures c.index-2.ensures c.change_between.ensures
 
 pub returns-clause-line : goal.returns-clause-line
 returns-clause-line c = λ parts known number.
     found_line c.args.topology.now c.args.settings parts c.args.found.now known (c.alike_failures_have_the_same_fates.ensures c.args.topology.now) c.args.pair
-    c.requires.pair c.fate.new.into c.index.result.now c.change_between.result c.in_ok-fate.ensures c.index.ensures c.change_between.ensures number
+    c.requires.pair c.fate.new.into c.index-2.result.now c.change_between.result c.in_ok-fate.ensures c.index-2.ensures c.change_between.ensures number

@@ -3,12 +3,15 @@ use Rattle.mn_edge.specs.declared.device.DeviceBad.TheVariants.{NoMemory}
 use Rattle.mn_tables.proofs.Telling.{tells_want}
 use Rattle.mn_reach_run.specs.Playing.{HaveFailed}
 use Rattle.mn_reach_run.proofs.Playing.{tells_out, want_behind, told_of}
-use Rattle.mn_reach_run.proofs.Knowing.{known_so}
+use Rattle.mn_reach_run.proofs.Knowing.{known_so, ready_so}
 use Rattle.mn_reach_run.proofs.Switching.{failed_too, mended_too}
 use Rattle.mn_reach_run.proofs.tell.tell_failure.Goals as goal
 
 pub returns-in_err-fail-clause-told : goal.returns-in_err-fail-clause-told
 returns-in_err-fail-clause-told g c = λ count is. tells_out _ _ _ NoMemory _ c.from_residual.ensures (tells_want _ _)
+
+pub returns-in_err-mark_touched-clause-told : goal.returns-in_err-mark_touched-clause-told
+returns-in_err-mark_touched-clause-told g c = λ count is. tells_out _ _ _ NoMemory _ c.from_residual-in_err-mark_touched.ensures (tells_want _ _)
 
 pub returns-in_err-mend-clause-told : goal.returns-in_err-mend-clause-told
 returns-in_err-mend-clause-told g c = λ count is.
@@ -22,6 +25,11 @@ tell_failed-requires-clause-known g c =
     (subst (λ ps. HaveFailed c.args.topology.now c.args.settings.ends ps c.fail.new.reach) (sym c.requires.parts)
     (failed_too c.args.topology.now c.args.settings.ends c.args.failing.front.now c.args.failing.more.now c.args.found.now.reach c.fail.new.reach
     c.requires.known.failed c.in_ok-fail.ensures.failed))
+
+pub tell_failed-requires-clause-marked : goal.tell_failed-requires-clause-marked
+tell_failed-requires-clause-marked g c =
+    c.in_ok-mark_touched.ensures c.args.topology.now
+    (ready_so c.args.topology.now c.args.found.now.reach c.fail.new.reach c.requires.known.ready c.in_ok-fail.ensures.plan).of
 
 pub returns-clause-known : goal.returns-clause-known
 returns-clause-known g c =

@@ -1,14 +1,14 @@
-use Rattle.std.proofs.Common.{◌+◌, ◌-◌, take, [], length}
+use Rattle.std.proofs.Common.{◌+◌, ◌-◌, take, [], ◌∷◌, length}
 use Rattle.std.specs.List.{flat_map, range_with_len}
 use Rattle.std.specs.Prelude.{Ok}
 use Rattle.mn_tables.specs.Telling.{standing}
-use Rattle.mn_failures.specs.Failures.{third_with}
+use Rattle.mn_failures.specs.Failures.{link_down, third_with}
 use Rattle.mn_reach_run.specs.Playing.{IsKnown, now_at, Sweeps}
-use Rattle.mn_reach_run.proofs.sweep.play_three.Given as goal
+use Rattle.mn_reach_run.proofs.sweep.play_middles.Given as goal
 
 abbrev pub invariant-loop-second : goal.invariant-loop-second
 invariant-loop-second g l = record {
-  known : IsKnown l.at.topology.now l.at.settings [] l.player.found;
+  known : IsKnown l.at.topology.now l.at.settings (link_down l.first ∷ []) l.player.found;
   told : Sweeps l.at.topology.now l.at.settings l.at.line (flat_map (third_with l.at.topology.now l.first)
       (take (l.second - (l.first + 1)) (range_with_len (l.first + 1) (length l.at.topology.now.links - (l.first + 1)))))
       (now_at l.fn.player.sums (standing l.fn.page (g.O.Sink.written l.fn.out) (g.O.Sink.faults l.fn.out)))

@@ -4,11 +4,11 @@ use Rattle.std.specs.Prelude.{Ok}
 use Rattle.mn_tables.specs.Telling.{standing}
 use Rattle.mn_failures.specs.Failures.{link_down}
 use Rattle.mn_reach_run.specs.Playing.{IsKnown, now_at, Sweeps}
-use Rattle.mn_reach_run.proofs.sweep.play_third.Given as goal
+use Rattle.mn_reach_run.proofs.sweep.play_thirds.Given as goal
 
 abbrev pub invariant-loop-third : goal.invariant-loop-third
 invariant-loop-third g l = record {
-  known : IsKnown l.at.topology.now l.at.settings [] l.player.found;
+  known : IsKnown l.at.topology.now l.at.settings (link_down l.first ∷ link_down l.second ∷ []) l.player.found;
   told : Sweeps l.at.topology.now l.at.settings l.at.line (flat_map (λ n. (link_down l.first ∷ link_down l.second ∷ link_down n ∷ []) ∷ [])
       (take (l.third - (l.second + 1)) (range_with_len (l.second + 1) (length l.at.topology.now.links - (l.second + 1)))))
       (now_at l.fn.player.sums (standing l.fn.page (g.O.Sink.written l.fn.out) (g.O.Sink.faults l.fn.out)))
