@@ -281,8 +281,7 @@ class Join(unittest.TestCase):
     def test_limits(self):
         big = self.file("big", bytes(1_048_577))
         for place, name in ((0, "topology"), (1, "topology"), (2, "joints")):
-            what = f"{big}: more than 1048576 bytes" if name == "joints" else "more than 1048576 bytes of a topology"
-            told = (9, f"too large {name} bytes\n", f"mplsnet: {what}\n")
+            told = (9, f"too large {name} bytes\n", f"mplsnet: {big}: more than 1048576 bytes\n")
             self.assertEqual(told, run("join", *JOINS[:place], big, *JOINS[place + 1 :], self.out))
 
 

@@ -14,7 +14,7 @@ use Rattle.mn_topo_toml.specs.declared.refusal.TopoRule.{TopoRule}
 use Rattle.mn_topo_toml.specs.declared.refusal.Place.{Place}
 use Rattle.mn_topo.specs.Network.{Network}
 use Rattle.mn_topo_toml.specs.Topology.{topology_of}
-use Rattle.mn_answer.specs.declared.outcome.Limit.TheVariants.{TopologyBytes, ScriptBytes, ScriptLines, CaptureBytes, CaptureRecords, JointsBytes}
+use Rattle.mn_answer.specs.declared.outcome.Limit.TheVariants.{TopologyBytes, ScriptBytes, ScriptLines, CaptureBytes, CaptureRecords, JointsBytes, SecondBytes}
 use Rattle.mn_answer.specs.declared.outcome.Outcome.{Outcome}
 use Rattle.mn_answer.specs.declared.outcome.Outcome.TheVariants.{NoMemory, BadTopology, BadScript, BadCapture, BadJoints, BadSecond, TooLarge}
 use Rattle.mn_answer.specs.Refusals.{refusal_line}
@@ -72,6 +72,12 @@ abbrev pub with_script_of : {S : Type 0} → (List ℕ → Result S (ScriptRule 
 with_script_of read None next = None
 with_script_of read (Some bytes) next = with_script_of_bytes read bytes next
 
+-- the limit that a script passes, if it does
+abbrev pub script_limit : List ℕ → Option Outcome
+script_limit bytes =
+    if nat_lt most_script_bytes (length bytes) then Some (TooLarge ScriptBytes most_script_bytes) else
+    if nat_lt most_script_lines (length (lines bytes)) then Some (TooLarge ScriptLines most_script_lines) else None
+
 -- so does a script in a language of lines
 abbrev pub with_lines_of_bytes : {L : Type 0} → Says L → List ℕ → (List L → Option Answer) → Option Answer
 with_lines_of_bytes says bytes next = with_script_of_bytes (lines_of says 1) bytes next
@@ -106,14 +112,14 @@ abbrev pub with_capture : Option (List ℕ) → (List (List ℕ) → Option Answ
 with_capture None next = None
 with_capture (Some bytes) next = with_capture_bytes bytes next
 
--- the second topology of two goes on, or is refused by rule and place as the second; its limit is that of a topology
+-- the second topology of two goes on, or is refused as the second, by rule and place; it may have as many bytes as the first
 abbrev pub if_second_lawful : Result Network (TopoRule × Place) → (Network → Option Answer) → Option Answer
 if_second_lawful (Ok topology) next = next topology
 if_second_lawful (Err refused) next = Some (refusal_of (BadSecond refused.0 refused.1))
 
 abbrev pub with_second_bytes : List ℕ → (Network → Option Answer) → Option Answer
 with_second_bytes bytes next =
-    if nat_lt most_topology_bytes (length bytes) then Some (refusal_of (TooLarge TopologyBytes most_topology_bytes)) else if_second_lawful
+    if nat_lt most_topology_bytes (length bytes) then Some (refusal_of (TooLarge SecondBytes most_topology_bytes)) else if_second_lawful
     (topology_of bytes) next
 
 abbrev pub with_second : Option (List ℕ) → (Network → Option Answer) → Option Answer

@@ -1,17 +1,20 @@
 -- What reading an input tells.
-use Rattle.std.specs.Prelude.{◌≡◌, ◌≢◌, ◌≤◌, ℕ, Bool, true, List, All, length, Option, Some, option_map, Result, Ok, Err, Vec, ⊤}
+use Rattle.std.specs.Prelude.{◌≡◌, ◌≢◌, ◌≤◌, ℕ, Bool, true, List, All, length, Option, Some, None, option_map, Result, Ok, Err, Vec, alloc_error, ⊤}
+use Rattle.std.specs.declared.alloc.AllocError.{AllocError}
 use Rattle.std.specs.declared.alloc.Global.{Global}
 use Rattle.mn_base.specs.Limits.{most_script_lines}
 use Rattle.mn_capture.specs.Packets.{CaptureView, packets_in}
 use Rattle.mn_join_script.specs.Joints.{SitePair, joints_of, AreSites, AreApart}
 use Rattle.mn_pcap.specs.Reading as pcap
 use Rattle.mn_script.specs.Reading.{Says, lines_of}
+use Rattle.mn_script.specs.declared.refusal.ScriptBad.{ScriptBad}
+use Rattle.mn_script.specs.declared.refusal.ScriptBad.TheVariants.{Refused, NoMemory}
 use Rattle.mn_topo.specs.Network.{Network}
 use Rattle.mn_topo_toml.specs.Topology.{topology_of}
 use Rattle.mn_answer.specs.declared.outcome.Limit.TheVariants.{Steps}
 use Rattle.mn_answer.specs.declared.outcome.Outcome.{Outcome}
 use Rattle.mn_answer.specs.declared.outcome.Outcome.TheVariants.{Usage, BadTopology, BadScript, BadCapture, BadJoints, BadSecond, TooLarge}
-use Rattle.mn_answer.specs.Answer.{Answer, refusal_of, with_topology, with_lines_of, with_capture, with_second, with_joints}
+use Rattle.mn_answer.specs.Answer.{Answer, refusal_of, script_limit, with_topology, with_lines_of, with_capture, with_second, with_joints}
 
 -- an outcome that refuses the words or an input
 abbrev pub IsRefusal : Outcome → Type 0
@@ -48,7 +51,23 @@ TopologyIs input (Ok topology) =
     (option_map topology_of input ≡ Some (Ok topology)) × ((next : Network → Option Answer) → with_topology input next ≡ next topology)
 TopologyIs input (Err outcome) = (next : Network → Option Answer) → with_topology input next ≡ Some (refusal_of outcome)
 
--- the same of a script in a language of lines
+-- the bytes of a script are those of its file, or the limit that they pass refuses them
+abbrev pub ScriptBytesAre : Option (List ℕ) → Result (Vec ℕ Global) Outcome → Type 0
+ScriptBytesAre input (Ok bytes) = input ≡ Some bytes.items
+ScriptBytesAre input (Err outcome) = (bytes : List ℕ) × (input ≡ Some bytes) × (script_limit bytes ≡ Some outcome)
+
+-- they pass none, also where the shelf tells no content
+abbrev pub PassNoLimit : Result (Vec ℕ Global) Outcome → Type 0
+PassNoLimit (Ok bytes) = script_limit bytes.items ≡ None
+PassNoLimit (Err outcome) = ⊤
+
+-- what the reader of a script answered: the script, its refusal, or that memory ran out
+abbrev pub script_read : {T : Type 0} → Result T ScriptBad → Result (Result T Outcome) AllocError
+script_read (Ok script) = Ok (Ok script)
+script_read (Err (Refused rule line)) = Ok (Err (BadScript rule line))
+script_read (Err NoMemory) = Err alloc_error
+
+-- what follows a script in a language of lines follows this one, or its refusal is the answer
 abbrev pub LinesAre : {L : Type 0} → Says L → Option (List ℕ) → Result (Vec L Global) Outcome → Type 0
 LinesAre {L} says input (Ok script) =
     (option_map (lines_of says 1) input ≡ Some (Ok script.items))

@@ -14,7 +14,7 @@ use Rattle.mn_join_script.specs.declared.refusal.JointsRule.{JointsRule}
 use Rattle.mn_join_script.specs.declared.refusal.JointsRule.TheVariants as joints
 use Rattle.mn_lines.specs.Lines.{text}
 use Rattle.mn_answer.specs.declared.outcome.Limit.{Limit}
-use Rattle.mn_answer.specs.declared.outcome.Limit.TheVariants.{TopologyBytes, ScriptBytes, ScriptLines, CaptureBytes, CaptureRecords, Steps, JointsBytes, Pairs}
+use Rattle.mn_answer.specs.declared.outcome.Limit.TheVariants.{TopologyBytes, ScriptBytes, ScriptLines, CaptureBytes, CaptureRecords, Steps, JointsBytes, Pairs, SecondBytes}
 use Rattle.mn_answer.specs.declared.outcome.Outcome.{Outcome}
 use Rattle.mn_answer.specs.declared.outcome.Outcome.TheVariants.{Usage, BadTopology, BadScript, BadCapture, BadJoints, BadSecond, TooLarge}
 
@@ -69,7 +69,7 @@ joints_rule_name joints.WrongCount = codes "J1 WrongCount"
 joints_rule_name joints.NoSuchName = codes "J2 NoSuchName"
 joints_rule_name joints.TwiceJoined = codes "J3 TwiceJoined"
 
--- the line of an input that passes a limit
+-- the line of an input that passes a limit; it says of either topology of two the same
 abbrev pub limit_line : Limit → List ℕ
 limit_line TopologyBytes = codes "too large topology bytes\n"
 limit_line ScriptBytes = codes "too large script bytes\n"
@@ -79,6 +79,7 @@ limit_line CaptureRecords = codes "too large capture records\n"
 limit_line Steps = codes "too large steps\n"
 limit_line JointsBytes = codes "too large joints bytes\n"
 limit_line Pairs = codes "too large pairs\n"
+limit_line SecondBytes = codes "too large topology bytes\n"
 
 -- the line of an outcome that refuses
 abbrev pub refusal_line : Outcome → List ℕ

@@ -3,17 +3,18 @@ ghost use Rattle.std.specs.Prelude.{◌≡◌, IfOk};
 ghost use Rattle.std.specs.Option.{ForSome};
 ghost use Rattle.mn_edge.specs.Faults.{CountedUnless};
 ghost use Rattle.mn_edge.specs.Files.{Absent, file};
-ghost use Rattle.mn_answer.specs.Inputs.{IsSound, TopologyIs, LinesAre, LinesFit, CaptureIs, CaptureOf, SecondIs, JointsAre, JointsFit};
+ghost use Rattle.mn_answer.specs.Inputs.{IsSound, TopologyIs, ScriptBytesAre, PassNoLimit, LinesAre, LinesFit, CaptureIs, CaptureOf, SecondIs, JointsAre, JointsFit};
 
 use crate::outcome::{Limit, Outcome};
 use crate::parse::{
     MOST_CAPTURE_BYTES, MOST_CAPTURE_RECORDS, MOST_JOINTS_BYTES, MOST_SCRIPT_BYTES,
-    MOST_TOPOLOGY_BYTES, parse_joints, parse_lines, parse_second, parse_topology, too_large,
+    MOST_TOPOLOGY_BYTES, parse_joints, parse_second, parse_topology, script_limit, script_read,
+    too_large,
 };
 use mn_base::SiteNo;
 use mn_capture::{Capture, Scanned, scan};
 use mn_edge::{Content, DeviceBad, Shelf, read_all};
-use mn_script::Language;
+use mn_script::{Language, read_lines};
 use mn_topo::Topology;
 use std::alloc::Global;
 
@@ -39,6 +40,29 @@ pub fn load_topology<S: Shelf>(
     }
 }
 
+/// Reads the bytes of the script of this name, or its refusal by a limit that it passes.
+pub fn load_script_bytes<S: Shelf>(
+    alloc: Global,
+    name: &str,
+    shelf: &mut S,
+) -> Result<Result<Vec<u8>, Outcome>, DeviceBad>
+    ensures answer { IfOk result (λ s. ForSome (S.files shelf.old) (λ files. ScriptBytesAre (file files name.now) s)) }
+    ensures fits { IfOk result PassNoLimit }
+    ensures sound { IfOk result IsSound }
+    ensures same { S.files shelf.new ≡ S.files shelf.old }
+    ensures reads { CountedUnless (Absent (S.files shelf.old) name.now)
+        (S.read_faults shelf.old) (S.read_faults shelf.new) result }
+    ensures writes { S.write_faults shelf.new ≡ S.write_faults shelf.old }
+{
+    match read_all(alloc, shelf, name, MOST_SCRIPT_BYTES)? {
+        Content::TooLarge => Ok(Err(too_large(Limit::ScriptBytes, MOST_SCRIPT_BYTES))),
+        Content::Whole(bytes) => match script_limit(&bytes) {
+            Some(outcome) => Ok(Err(outcome)),
+            None => Ok(Ok(bytes)),
+        },
+    }
+}
+
 /// Reads the script of this name in a language of lines, or its refusal.
 pub fn load_lines<L: Language, S: Shelf>(
     alloc: Global,
@@ -54,12 +78,9 @@ pub fn load_lines<L: Language, S: Shelf>(
         (S.read_faults shelf.old) (S.read_faults shelf.new) result }
     ensures writes { S.write_faults shelf.new ≡ S.write_faults shelf.old }
 {
-    match read_all(alloc, shelf, name, MOST_SCRIPT_BYTES)? {
-        Content::TooLarge => Ok(Err(too_large(Limit::ScriptBytes, MOST_SCRIPT_BYTES))),
-        Content::Whole(bytes) => match parse_lines(alloc, language, &bytes) {
-            Ok(found) => Ok(found),
-            Err(_) => Err(DeviceBad::NoMemory),
-        },
+    match load_script_bytes(alloc, name, shelf)? {
+        Ok(bytes) => Ok(script_read(read_lines(alloc, language, 1, &bytes))?),
+        Err(outcome) => Ok(Err(outcome)),
     }
 }
 
@@ -99,7 +120,7 @@ pub fn load_second<S: Shelf>(
     ensures writes { S.write_faults shelf.new ≡ S.write_faults shelf.old }
 {
     match read_all(alloc, shelf, name, MOST_TOPOLOGY_BYTES)? {
-        Content::TooLarge => Ok(Err(too_large(Limit::TopologyBytes, MOST_TOPOLOGY_BYTES))),
+        Content::TooLarge => Ok(Err(too_large(Limit::SecondBytes, MOST_TOPOLOGY_BYTES))),
         Content::Whole(bytes) => match parse_second(alloc, &bytes) {
             Ok(found) => Ok(found),
             Err(_) => Err(DeviceBad::NoMemory),

@@ -25,6 +25,8 @@ pub enum Limit {
     JointsBytes,
     /// 100,000 pairs of a site and another site's prefix.
     Pairs,
+    /// 1 MiB of the second topology of two.
+    SecondBytes,
 }
 
 /// How `command` ends, with the status of the program at each.

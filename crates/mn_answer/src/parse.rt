@@ -1,6 +1,7 @@
 //! Inputs from their bytes, and their limits.
 ghost use Rattle.std.specs.Prelude.{◌≡◌, IfOk, Some};
-ghost use Rattle.mn_answer.specs.Inputs.{IsSound, TopologyIs, LinesAre, LinesFit, SecondIs, JointsAre, JointsFit};
+ghost use Rattle.mn_answer.specs.Answer.{script_limit};
+ghost use Rattle.mn_answer.specs.Inputs.{IsSound, TopologyIs, LinesAre, LinesFit, SecondIs, JointsAre, JointsFit, script_read};
 
 use crate::outcome::{Limit, Outcome};
 use mn_base::{MOST_SCRIPT_LINES, SiteNo};
@@ -14,7 +15,7 @@ use std::alloc::{AllocError, Global};
 pub(crate) const MOST_TOPOLOGY_BYTES: u64 = 1 << 20;
 
 /// The most bytes of a script: 64 MiB.
-pub const MOST_SCRIPT_BYTES: u64 = 1 << 26;
+pub(crate) const MOST_SCRIPT_BYTES: u64 = 1 << 26;
 
 /// The most bytes of a capture: 64 MiB.
 pub const MOST_CAPTURE_BYTES: u64 = 1 << 26;
@@ -47,6 +48,31 @@ pub fn parse_topology(alloc: Global, bytes: &[u8]) -> Result<Result<Topology, Ou
     }
 }
 
+/// The limit that a script passes, if it does: of its bytes, 64 MiB, or else of its lines, 3,000,000.
+pub(crate) fn script_limit(bytes: &[u8]) -> Option<Outcome>
+    ensures { result ≡ script_limit bytes.now }
+{
+    if bytes.len() as u64 > MOST_SCRIPT_BYTES {
+        Some(too_large(Limit::ScriptBytes, MOST_SCRIPT_BYTES))
+    } else if count_lines(bytes) > MOST_SCRIPT_LINES {
+        Some(too_large(Limit::ScriptLines, MOST_SCRIPT_LINES))
+    } else {
+        None
+    }
+}
+
+/// The script that its reader has read, or its refusal by the first rule that it breaks.
+pub fn script_read<T>(read: Result<T, ScriptBad>) -> Result<Result<T, Outcome>, AllocError>
+    ensures read { result ≡ script_read read }
+    ensures sound { IfOk result IsSound }
+{
+    match read {
+        Ok(script) => Ok(Ok(script)),
+        Err(ScriptBad::Refused { rule, line }) => Ok(Err(Outcome::BadScript { rule, line })),
+        Err(ScriptBad::NoMemory) => Err(AllocError),
+    }
+}
+
 /// Reads the bytes of a script in a language of lines, at most 64 MiB and 3,000,000 lines, or its refusal.
 pub fn parse_lines<L: Language>(
     alloc: Global,
@@ -57,16 +83,9 @@ pub fn parse_lines<L: Language>(
     ensures fits { IfOk result (LinesFit (L.fits language.now)) }
     ensures sound { IfOk result IsSound }
 {
-    if bytes.len() as u64 > MOST_SCRIPT_BYTES {
-        return Ok(Err(too_large(Limit::ScriptBytes, MOST_SCRIPT_BYTES)));
-    }
-    if count_lines(bytes) > MOST_SCRIPT_LINES {
-        return Ok(Err(too_large(Limit::ScriptLines, MOST_SCRIPT_LINES)));
-    }
-    match read_lines(alloc, language, 1, bytes) {
-        Ok(lines) => Ok(Ok(lines)),
-        Err(ScriptBad::Refused { rule, line }) => Ok(Err(Outcome::BadScript { rule, line })),
-        Err(ScriptBad::NoMemory) => Err(AllocError),
+    match script_limit(bytes) {
+        Some(outcome) => Ok(Err(outcome)),
+        None => script_read(read_lines(alloc, language, 1, bytes)),
     }
 }
 
@@ -76,7 +95,7 @@ pub fn parse_second(alloc: Global, bytes: &[u8]) -> Result<Result<Topology, Outc
     ensures sound { IfOk result IsSound }
 {
     if bytes.len() as u64 > MOST_TOPOLOGY_BYTES {
-        return Ok(Err(too_large(Limit::TopologyBytes, MOST_TOPOLOGY_BYTES)));
+        return Ok(Err(too_large(Limit::SecondBytes, MOST_TOPOLOGY_BYTES)));
     }
     match read_topology(alloc, bytes) {
         Ok(topology) => Ok(Ok(topology)),

@@ -158,6 +158,7 @@ fn limit_line(which: Limit) -> &'static str
         Limit::Steps => "too large steps\n",
         Limit::JointsBytes => "too large joints bytes\n",
         Limit::Pairs => "too large pairs\n",
+        Limit::SecondBytes => "too large topology bytes\n",
     }
 }
 

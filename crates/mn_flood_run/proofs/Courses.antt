@@ -22,8 +22,8 @@ use Rattle.mn_flood.specs.declared.refusal.FloodBad.TheVariants as bad
 use Rattle.mn_flood.specs.Queue.{way_of}
 use Rattle.mn_flood.specs.Floods.{FloodNow, happened, bad_of, refusal_of}
 use Rattle.mn_flood_run.specs.declared.command.FloodLine.{FloodLine}
-use Rattle.mn_flood_run.specs.declared.play.Played.{Played}
-use Rattle.mn_flood_run.specs.declared.play.Played.TheVariants as played
+use Rattle.mn_answer.specs.declared.played.Played.{Played}
+use Rattle.mn_answer.specs.declared.played.Played.TheVariants as played
 use Rattle.mn_flood_run.specs.Language.{ordered, order_of, orders_of}
 use Rattle.mn_flood_run.specs.Report.{course_of}
 use Rattle.mn_flood_run.specs.Playing.{IsAt, Follows, IsRefusedBy, IsAnswered}
@@ -110,7 +110,7 @@ module _ (run : FloodRun) (old new : FloodNow) (number : ℕ) (event : FloodEven
         record { cause = cause; is = refl; refused = refl },
       )
 
-  by_step : (how : Played) → flood_refusal run.world event ≡ None → new ≡ happened old event → (b : Bool) → (old.done == most_steps) ≡ b →
+  by_step : (how : Played FloodBad) → flood_refusal run.world event ≡ None → new ≡ happened old event → (b : Bool) → (old.done == most_steps) ≡ b →
       how ≡ (if b then played.TooManySteps else played.All) → Follows (tried old.wiring run number event (flood_refusal run.world event)) run number how new
   by_step how none e true is same =
       subst (λ h. Follows (tried old.wiring run number event (flood_refusal run.world event)) run number h new) (sym same)
@@ -119,7 +119,7 @@ module _ (run : FloodRun) (old new : FloodNow) (number : ℕ) (event : FloodEven
       subst (λ h. Follows (tried old.wiring run number event (flood_refusal run.world event)) run number h new) (sym same)
       (done_all none (other_numbers old.done most_steps is) e)
 
-  pub event_follows : (result : Done) (how : Played) → Answered old new event result → IsAnswered old.done result how →
+  pub event_follows : (result : Done) (how : Played FloodBad) → Answered old new event result → IsAnswered old.done result how →
       Follows (tried old.wiring run number event (flood_refusal run.world event)) run number how new
   event_follows result how answered is = by (flood_refusal run.world event) refl result answered is
     where
@@ -137,7 +137,7 @@ module _ (run : FloodRun) (old new : FloodNow) (number : ℕ) (event : FloodEven
           (refused_by cause e stays)
 
 -- a line that does an event
-pub line_follows : (result : Result Played AllocError) (done : Done) (line : FloodLine) (old new : FloodNow) (event : FloodEvent) (steps : ℕ) →
+pub line_follows : (result : Result (Played FloodBad) AllocError) (done : Done) (line : FloodLine) (old new : FloodNow) (event : FloodEvent) (steps : ℕ) →
     ordered line.command ≡ course.Do event →
     Answered old new event done → steps ≡ old.done → IfOk result (λ how. IsAnswered steps done how) →
     IfOk result (λ how. (run : FloodRun) → IsAt run old → Follows (with_line old.wiring run (order_of line)) run line.number how new)
@@ -147,7 +147,7 @@ line_follows (Ok how) done line old new event steps is answered same h = λ run 
     (event_follows run old new line.number event at done how answered (subst (λ n. IsAnswered n done how) same h))
 
 -- a line that drains
-pub drain_follows : (result : Result Played AllocError) (line : FloodLine) (old new : FloodNow) → ordered line.command ≡ course.Drain →
+pub drain_follows : (result : Result (Played FloodBad) AllocError) (line : FloodLine) (old new : FloodNow) → ordered line.command ≡ course.Drain →
     IfOk result (λ how. (run : FloodRun) (number : ℕ) → IsAt run old → Follows (drain_for every_hearing old.wiring run) run number how new) →
     IfOk result (λ how. (run : FloodRun) → IsAt run old → Follows (with_line old.wiring run (order_of line)) run line.number how new)
 drain_follows (Err bad) line old new is h = tt

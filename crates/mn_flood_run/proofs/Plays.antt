@@ -18,9 +18,9 @@ use Rattle.mn_lines.specs.Lines.{refused_line}
 use Rattle.mn_tables.specs.Telling.{Stand, Tells, Told}
 use Rattle.mn_tables.proofs.Telling.{told_more, told_nothing, tells_within, tells_want, tells_as}
 use Rattle.mn_flood_run.specs.declared.command.FloodLine.{FloodLine}
-use Rattle.mn_flood_run.specs.declared.play.Ended.{Ended}
-use Rattle.mn_flood_run.specs.declared.play.Played.{Played}
-use Rattle.mn_flood_run.specs.declared.play.Played.TheVariants as played
+use Rattle.mn_answer.specs.declared.played.Ended.{Ended}
+use Rattle.mn_answer.specs.declared.played.Played.{Played}
+use Rattle.mn_answer.specs.declared.played.Played.TheVariants as played
 use Rattle.mn_flood_run.specs.Language.{order_of, orders_of}
 use Rattle.mn_flood_run.specs.Report.{cause_name, refused_text, report, course_of, trees_text, total_line}
 use Rattle.mn_flood_run.specs.Playing.{IsAt, Follows, IsRefusedBy, bad_name, played_text, played_count, ArePlayed, AreCut, PlaysAll}
@@ -99,7 +99,7 @@ cut_after topology run past more line s t u e is before this =
 
 -- 3. Line by line
 
-pub at_most_one : (how : Played) → played_count how ≤ 1
+pub at_most_one : (how : Played FloodBad) → played_count how ≤ 1
 at_most_one played.All = omega arith
 at_most_one (played.Refused why) = omega arith
 at_most_one played.TooManySteps = omega arith
@@ -161,7 +161,7 @@ module _ (topology : Network) (lines : List FloodLine) (i : ℕ) (s t : Stand) (
     }
 
     -- it was played, and what it puts was put
-    pub played_more : (how : Played) (now : FloodNow) (u : Stand) → (how ≡ played.TooManySteps → ⊥) → Follows after before line.number how now →
+    pub played_more : (how : Played FloodBad) (now : FloodNow) (u : Stand) → (how ≡ played.TooManySteps → ⊥) → Follows after before line.number how now →
         Told (played_text line.number how) t u → ArePlayed topology (take (i + 1) lines) now (refused + played_count how) s u
     played_more played.All now u not f this = all_done now u f this
     played_more (played.Refused why) now u not f this = one_refused now why u f this
@@ -189,7 +189,7 @@ module _ (topology : Network) (lines : List FloodLine) (i : ℕ) (s t : Stand) (
         (ap (λ (r : FloodRun). r.refused) (course_all topology lines i past.at.goes_on) ∙ more.is))
 
     -- what it puts was cut
-    pub played_cut : (how : Played) (now : FloodNow) (u : Stand) (e : DeviceBad) → Follows after before line.number how now →
+    pub played_cut : (how : Played FloodBad) (now : FloodNow) (u : Stand) (e : DeviceBad) → Follows after before line.number how now →
         Tells {T = Unit {0}} (played_text line.number how) t u (Err e) → Tells {T = Unit {0}} (report topology (course_of topology lines)) s u (Err e)
     played_cut played.All now u e f this = nothing_cut u e this
     played_cut (played.Refused why) now u e f this = refusal_cut now why u e f this
@@ -208,12 +208,12 @@ module _ (topology : Network) (lines : List FloodLine) (i : ℕ) (s t : Stand) (
         }
 
 -- what a call of `play_line` tells of the line
-abbrev pub Goes : FloodNow → Wiring → FloodLine → Played → FloodNow → Type 0
+abbrev pub Goes : FloodNow → Wiring → FloodLine → Played FloodBad → FloodNow → Type 0
 Goes old wiring line how now = (run : FloodRun) → IsAt run old → Follows (with_line wiring run (order_of line)) run line.number how now
 
 module _ (topology : Network) (lines : List FloodLine) (i : ℕ) (s t : Stand) (refused : ℕ) (old : FloodNow)
     (past : ArePlayed topology (take i lines) old refused s t)
-    (line : FloodLine) (below : i < length lines) (here : line ≡ get_or lines i line) (wiring : Wiring) (over : wiring ≡ wiring_of topology) (how : Played)
+    (line : FloodLine) (below : i < length lines) (here : line ≡ get_or lines i line) (wiring : Wiring) (over : wiring ≡ wiring_of topology) (how : Played FloodBad)
     (now : FloodNow)
     (goes : Goes old wiring line how now) where
   follows : Follows (with_line (wiring_of topology) (course_of topology (take i lines)) (order_of line)) (course_of topology (take i lines)) line.number how now

@@ -13,10 +13,10 @@ use Rattle.mn_lines.specs.Lines.{refused_line}
 use Rattle.mn_output_laws.specs.Tables.{tree_line}
 use Rattle.mn_tables.specs.Telling.{Stand, Tells, Told}
 use Rattle.mn_flood_run.specs.declared.command.FloodLine.{FloodLine}
-use Rattle.mn_flood_run.specs.declared.play.Ended.{Ended}
-use Rattle.mn_flood_run.specs.declared.play.Ended.TheVariants as ended
-use Rattle.mn_flood_run.specs.declared.play.Played.{Played}
-use Rattle.mn_flood_run.specs.declared.play.Played.TheVariants as played
+use Rattle.mn_answer.specs.declared.played.Ended.{Ended}
+use Rattle.mn_answer.specs.declared.played.Ended.TheVariants as ended
+use Rattle.mn_answer.specs.declared.played.Played.{Played}
+use Rattle.mn_answer.specs.declared.played.Played.TheVariants as played
 use Rattle.mn_flood_run.specs.Report.{report, course_of, refused_text}
 
 -- a flood stands where a run of it has come
@@ -34,13 +34,13 @@ pub record IsRefusedBy (after before : FloodRun) (number : ℕ) (why : FloodBad)
   pub refused : after.refused ≡ before.refused ++ record { line = number; cause = cause } ∷ []
 
 -- after a line: all was done, it was refused, or it met as many steps as there may be
-abbrev pub Follows : FloodRun → FloodRun → ℕ → Played → FloodNow → Type 0
+abbrev pub Follows : FloodRun → FloodRun → ℕ → Played FloodBad → FloodNow → Type 0
 Follows after before number played.All now = IsAt after now × (after.refused ≡ before.refused)
 Follows after before number (played.Refused why) now = IsAt after now × IsRefusedBy after before number why
 Follows after before number played.TooManySteps now = (after.is_stopped ≡ true) × (after.refused ≡ before.refused)
 
 -- how an event went before which so many steps were done, by what the flood answered; out of memory is reported otherwise
-abbrev pub IsAnswered : ℕ → Result (Unit {0}) FloodBad → Played → Type 0
+abbrev pub IsAnswered : ℕ → Result (Unit {0}) FloodBad → Played FloodBad → Type 0
 IsAnswered steps (Ok done) how = how ≡ (if steps == most_steps then played.TooManySteps else played.All)
 IsAnswered steps (Err why) how = (how ≡ played.Refused why) × (why ≢ bad.NoMemory)
 
@@ -52,12 +52,12 @@ bad_name bad.Empty = codes "Empty"
 bad_name bad.NoMemory = codes "NoMemory"
 
 -- what is put of a line, and how many lines that are
-abbrev pub played_text : ℕ → Played → List ℕ
+abbrev pub played_text : ℕ → Played FloodBad → List ℕ
 played_text number played.All = []
 played_text number (played.Refused why) = refused_line number (bad_name why)
 played_text number played.TooManySteps = []
 
-abbrev pub played_count : Played → ℕ
+abbrev pub played_count : Played FloodBad → ℕ
 played_count played.All = 0
 played_count (played.Refused why) = 1
 played_count played.TooManySteps = 0

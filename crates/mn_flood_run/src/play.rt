@@ -6,6 +6,7 @@ ghost use Rattle.mn_flood_run.specs.Playing.{IsAt, Follows, IsAnswered, played_t
 
 use crate::command::{FloodCommand, FloodLine};
 use crate::report::put_refused;
+use mn_answer::{Ended, Played};
 use mn_base::{LinkNo, MOST_STEPS};
 use mn_edge::{DeviceBad, Sink};
 use mn_flood::{Flood, FloodBad};
@@ -14,19 +15,8 @@ use mn_topo::Topology;
 use mn_wiring::Dir;
 use std::alloc::AllocError;
 
-/// How a line went.
-#[derive(Clone, Copy, Debug, PartialEq, Eq)]
-pub(crate) enum Played {
-    /// All that it asked for was done.
-    All,
-    /// It was refused.
-    Refused(FloodBad),
-    /// It met as many steps as there may be, and no line after it is played.
-    TooManySteps,
-}
-
 /// How an event went, before which so many steps were done.
-fn answer_of(steps: u32, done: Result<(), FloodBad>) -> Result<Played, AllocError>
+fn answer_of(steps: u32, done: Result<(), FloodBad>) -> Result<Played<FloodBad>, AllocError>
     ensures { IfOk result (IsAnswered steps done) }
 {
     match done {
@@ -57,7 +47,7 @@ fn hear_way(flood: &mut Flood, link: LinkNo, dir: Dir) -> Result<(), AllocError>
 }
 
 /// Receives the advert that was sent first of all, until none flies.
-fn drain(flood: &mut Flood) -> Result<Played, AllocError>
+fn drain(flood: &mut Flood) -> Result<Played<FloodBad>, AllocError>
     requires works { flood.old.failed ≡ false }
     requires few { flood.old.done ≤ most_steps }
     ensures drained { IfOk result (λ played. (run : FloodRun) (number : _) → IsAt run flood.old → Follows (drain_for every_hearing flood.old.wiring run) run number played flood.new) }
@@ -77,7 +67,11 @@ fn drain(flood: &mut Flood) -> Result<Played, AllocError>
 }
 
 /// Plays a line. An `Err` means out of memory.
-fn play_line(flood: &mut Flood, topology: &Topology, line: FloodLine) -> Result<Played, AllocError>
+fn play_line(
+    flood: &mut Flood,
+    topology: &Topology,
+    line: FloodLine,
+) -> Result<Played<FloodBad>, AllocError>
     requires fits { command_fits topology.now line.command ≡ true }
     requires over { flood.old.wiring ≡ wiring_of topology.now }
     requires works { flood.old.failed ≡ false }
@@ -93,21 +87,12 @@ fn play_line(flood: &mut Flood, topology: &Topology, line: FloodLine) -> Result<
     }
 }
 
-/// How the lines of a script went.
-#[derive(Clone, Copy, Debug, PartialEq, Eq)]
-pub(crate) enum Ended {
-    /// All were played, of which so many were refused.
-    All { refused: u32 },
-    /// One met as many steps as there may be, and no line after it was played.
-    TooManySteps,
-}
-
 /// Puts the line of a script's line that was refused, and answers how many lines it put.
 fn put_if_refused<O: Sink>(
     out: &mut O,
     page: &mut Page,
     number: u32,
-    played: Played,
+    played: Played<FloodBad>,
 ) -> Result<u32, DeviceBad>
     ensures told { Tells (played_text number played)
         (standing page.old (O.written out.old) (O.faults out.old)) (standing page.new (O.written out.new) (O.faults out.new)) result }

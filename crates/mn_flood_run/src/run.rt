@@ -12,9 +12,9 @@ use crate::language::FloodLines;
 use crate::laws::{
     each_drain_of_a_script_is_bounded, where_none_flies_the_printed_trees_are_those_of_the_links,
 };
-use crate::play::{Ended, play};
+use crate::play::play;
 use crate::report::{put_total, put_trees};
-use mn_answer::{Limit, Outcome, load_lines, load_topology, refuse, too_large};
+use mn_answer::{Ended, Limit, Outcome, load_lines, load_topology, refuse, too_large};
 use mn_base::MOST_STEPS;
 use mn_edge::{DeviceBad, Shelf, Sink};
 use mn_flood::Flood;
@@ -22,8 +22,8 @@ use mn_lines::Page;
 use mn_topo::Topology;
 use std::alloc::Global;
 
-/// Plays lines, and puts the report on a page.
-fn put_report<O: Sink>(
+/// Plays the lines of a script, and puts their report on a page.
+fn play_on_page<O: Sink>(
     alloc: Global,
     topology: &Topology,
     lines: &[FloodLine],
@@ -50,8 +50,8 @@ fn put_report<O: Sink>(
     }
 }
 
-/// Plays lines, and puts the report.
-fn put_all<O: Sink>(
+/// Plays the lines of a script, and puts their report.
+fn play_script<O: Sink>(
     alloc: Global,
     topology: &Topology,
     lines: &[FloodLine],
@@ -67,7 +67,7 @@ fn put_all<O: Sink>(
     ensures outcome { IfOk result (λ outcome. outcome ≡ outcome_of (course_of topology.now lines.now)) }
 {
     let mut page = Page::new(alloc)?;
-    let outcome = put_report(alloc, topology, lines, out, &mut page)?;
+    let outcome = play_on_page(alloc, topology, lines, out, &mut page)?;
     page.end(out)?;
     Ok(outcome)
 }
@@ -86,7 +86,7 @@ fn flood_lines<O: Sink>(
     ensures cause { SinkCausedBy (O.faults out.old) (O.faults out.new) result }
     ensures usage { result ≢ Outcome.Usage }
 {
-    match put_all(alloc, topology, lines, out) {
+    match play_script(alloc, topology, lines, out) {
         Ok(outcome) => outcome,
         Err(DeviceBad::Failed) => Outcome::WriteFault,
         Err(DeviceBad::NoMemory) => Outcome::NoMemory,

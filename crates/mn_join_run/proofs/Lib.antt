@@ -9,6 +9,7 @@ mod Legs
 mod Sent
 mod Promise
 mod Told
+mod Loading
 mod Played
 mod Runs
 mod Rows

@@ -14,6 +14,7 @@ use Rattle.mn_join_script.specs.declared.line.JoinLine.{JoinLine}
 use Rattle.mn_join_script.specs.Language.{join_says}
 use Rattle.mn_join_run.specs.Course.{JoinRun, run_of}
 use Rattle.mn_join_run.specs.Report.{refused_texts, report, exits_file}
+use Rattle.mn_join_run.specs.declared.load.JoinNames.{JoinNames}
 
 -- the file of what comes out at sites that aren't joined
 abbrev pub exits_name : List ℕ → List ℕ
@@ -58,3 +59,8 @@ with_first folder files second joints script capture first =
 abbrev pub join_answer : List ℕ → List ℕ → List ℕ → List ℕ → List ℕ → List ℕ → Files → Option Answer
 join_answer first second joints script capture folder files =
     with_topology (file files first) (with_first folder files second joints script capture)
+
+-- of inputs and a folder by these names
+abbrev pub answer_for : JoinNames → Files → Option Answer
+answer_for names files =
+    join_answer names.first.now names.second.now names.joints.now names.script.now names.capture.now names.folder.now files

@@ -2,6 +2,7 @@ pub mod Prelude
 pub mod Outside
 pub mod Playing
 pub mod Answer
+pub mod Loading
 pub mod Promise
 pub mod Ending
 pub mod Headline

@@ -18,8 +18,13 @@ use Rattle.mn_join.specs.Pairs.{PairNow, PairStands}
 use Rattle.mn_join_script.specs.declared.line.JoinLine.{JoinLine}
 use Rattle.mn_join_run.specs.Course.{JoinRun, packet_for, with_packet, run_from, run_of}
 use Rattle.mn_join_run.specs.Report.{refused_texts, exits_file}
-use Rattle.mn_join_run.specs.Outside.{Outside, Start, Stands, IsCut}
+use Rattle.mn_join_run.specs.Outside.{Outside, outside, Start, Stands, IsCut}
 use Rattle.mn_join_run.specs.declared.desk.Desk.{Desk}
+use Rattle.mn_join_run.specs.declared.lines.Run.{Run}
+
+-- what stands outside of a run part way
+abbrev pub outside_of : Run → Option (List ℕ) → Option Files → Outside
+outside_of now written files = outside now.desk.page written now.file.held files
 
 -- the packet that a line names is that of the capture, where its file is told and none of those that are written
 abbrev pub IsPacket : Option Files → List (List ℕ) → CaptureView → Command → Option (List ℕ) → Type 0

@@ -21,7 +21,7 @@
 //! - `desk`: what is kept for the report
 //! - `lines`: the lines, one after another
 //! - `run`: the whole of a run
-//! - `script`: the script from its file
+//! - `load`: the inputs from their files
 //! - `command`: the whole command, over a shelf of files and a sink
 //! - `specs/Course`: what a script does, line by line; `specs/Report`: the report, and the file of what came out
 //! - `ends`: the end of a packet, and how many ended how; `sites`: where packets were sent into each network
@@ -34,10 +34,11 @@ mod ends;
 mod exits;
 mod fetch;
 mod lines;
+mod load;
 mod report;
 mod run;
-mod script;
 mod sites;
 
 pub use command::join;
+pub use load::JoinNames;
 pub use mn_perform::{Ended, Fault, MemoryCapture, perform, tally};

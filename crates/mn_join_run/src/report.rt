@@ -215,26 +215,33 @@ fn put_sent<O: Sink>(out: &mut O, page: &mut Page, number: u32, sent: Sent) -> R
     )
 }
 
-/// Puts the line of the packet of a number, from 0, which this injection sent.
+/// The packet of a number, from 0, and what sent it.
+#[derive(Clone, Copy)]
+struct SentPacket {
+    number: u32,
+    sent: Sent,
+}
+
+/// Puts the line of a packet.
 fn put_packet<O: Sink>(
     out: &mut O,
     page: &mut Page,
     pair: &Pair,
     sites: &Sites,
-    packet: u32,
-    sent: Sent,
+    packet: SentPacket,
 ) -> Result<(), DeviceBad>
     requires joined { IsJoined pair.now }
-    requires there { packet < length pair.now.travels }
-    requires few { packet + 1 < 2 ^ 32 }
+    requires there { packet.number < length pair.now.travels }
+    requires few { packet.number + 1 < 2 ^ 32 }
     ensures { (pairing : Pairing) (both : Both) → PairStands pairing pair.now both → AreOf sites.now both →
-        Tells (packet_line pairing both (packet + 1) (sending_of sent) (travel both packet))
+        Tells (packet_line pairing both (packet.number + 1) (sending_of packet.sent) (travel both packet.number))
         (standing page.old (O.written out.old) (O.faults out.old)) (standing page.new (O.written out.new) (O.faults out.new)) result }
 {
-    put_sent(out, page, packet + 1, sent)?;
-    put_legs(out, page, pair, sites, pair.legs(packet))?;
+    let SentPacket { number, sent } = packet;
+    put_sent(out, page, number + 1, sent)?;
+    put_legs(out, page, pair, sites, pair.legs(number))?;
     page.put(out, b" ")?;
-    put_end(out, page, pair, end_of(pair, packet))
+    put_end(out, page, pair, end_of(pair, number))
 }
 
 /// What sent the packet of a number, from 0; past the last there is none, and line 0 stands for it.
@@ -265,7 +272,16 @@ fn put_packets<O: Sink>(
         (standing page.old (O.written out.old) (O.faults out.old)) (standing page.new (O.written out.new) (O.faults out.new)) result }
 {
     for packet in 0..pair.packets() {
-        put_packet(out, page, pair, sites, packet, sent_at(sent, packet))?;
+        put_packet(
+            out,
+            page,
+            pair,
+            sites,
+            SentPacket {
+                number: packet,
+                sent: sent_at(sent, packet),
+            },
+        )?;
     }
     Ok(())
 }

@@ -1,25 +1,24 @@
 //! A whole run: the lines of a script on two joined networks, with the file of what comes out and the report.
 ghost use Rattle.std.specs.Prelude.{◌≡◌, ◌≢◌, None, Some, true, false, All, Ok, OnOk};
 ghost use Rattle.std.specs.Option.{ForSome};
-ghost use Rattle.mn_join_run.specs.Prelude.{Counted, Absent, file, Framed, Lacking, Answers, CausedBy, packets_in, Pairing, at_first, pairing_of, AreSites, AreApart, PairStands, Blamed, is_inside, standing, Tells, line_fits};
+ghost use Rattle.mn_join_run.specs.Prelude.{Counted, Absent, file, Framed, Lacking, Answers, CausedBy, packets_in, Pairing, at_first, pairing_of, PairStands, Blamed, is_inside, standing, Tells, line_fits};
 ghost use Rattle.mn_join_run.specs.Course.{JoinRun, run_of};
 ghost use Rattle.mn_join_run.specs.Answer.{join_done};
-ghost use Rattle.mn_join_run.specs.Outside.{Start, outside};
-ghost use Rattle.mn_join_run.specs.Playing.{Went};
+ghost use Rattle.mn_join_run.specs.Loading.{AreFit};
+ghost use Rattle.mn_join_run.specs.Outside.{Start};
+ghost use Rattle.mn_join_run.specs.Playing.{outside_of, Went};
 ghost use Rattle.mn_join_run.specs.Ending.{AreAtFirst, IsEnded, HasEnded, last_text, outcome_by, AreLawfulIfDone, RunEnds, start_in};
 
 use crate::desk::Desk;
 use crate::exits::ExitsFile;
-use crate::lines::do_lines;
+use crate::lines::{Run, Script};
+use crate::load::Inputs;
 use crate::report::put_ended;
 use mn_answer::{Limit, Outcome, too_large};
-use mn_base::{MOST_STEPS, SiteNo};
-use mn_capture::Capture;
+use mn_base::MOST_STEPS;
 use mn_edge::{DeviceBad, Shelf, Sink};
 use mn_join::Pair;
-use mn_join_script::JoinLine;
 use mn_perform::{Ended, Fault};
-use mn_topo::Topology;
 use std::alloc::Global;
 
 /// Puts the end of the report.
@@ -44,66 +43,54 @@ fn put_last<O: Sink>(
 /// Ends the file, and then the report.
 fn finish<S: Shelf, O: Sink>(
     alloc: Global,
-    pair: &Pair,
+    run: &mut Run,
     how: Ended,
     shelf: &mut S,
     out: &mut O,
-    file: &mut ExitsFile,
-    desk: &mut Desk,
 ) -> Result<Ended, Fault>
-    requires ended { IsEnded how pair.now }
+    requires ended { IsEnded how run.old.pair }
     ensures same { OnOk result (result ≡ Ok how) }
-    ensures went { (pairing : Pairing) (start : Start) (run : JoinRun) → start.names ≡ file.old.names → Framed start.names start.base (S.files shelf.old) →
-        Went pairing start run pair.now desk.old (outside desk.old.page (O.written out.old) file.old.held (S.files shelf.old)) (Ok how) →
-        RunEnds pairing start run (S.files shelf.new) (O.written out.new) result }
-    ensures cause { Blamed ⊥ (Lacking file.old.names (S.files shelf.old))
+    ensures went { (pairing : Pairing) (start : Start) (course : JoinRun) → start.names ≡ run.old.file.names →
+        Framed start.names start.base (S.files shelf.old) →
+        Went pairing start course run.old.pair run.old.desk (outside_of run.old (O.written out.old) (S.files shelf.old)) (Ok how) →
+        RunEnds pairing start course (S.files shelf.new) (O.written out.new) result }
+    ensures cause { Blamed ⊥ (Lacking run.old.file.names (S.files shelf.old))
         (S.read_faults shelf.old, S.write_faults shelf.old, O.faults out.old)
         (S.read_faults shelf.new, S.write_faults shelf.new, O.faults out.new) result }
 {
-    file.end(shelf)?;
-    put_last(alloc, pair, how, out, desk)?;
-    desk.page.end(out)?;
+    run.file.end(shelf)?;
+    put_last(alloc, &run.pair, how, out, &mut run.desk)?;
+    run.desk.page.end(out)?;
     Ok(how)
 }
 
-/// Plays the lines of a script on two joined networks, over the packets of a capture. Writes what comes out into the folder,
-/// and puts the report.
+/// Plays a script on two joined networks. Writes what comes out into its folder, and puts the report.
 fn perform<S: Shelf, O: Sink>(
     alloc: Global,
+    pair: Pair,
+    script: &Script<'_>,
     shelf: &mut S,
     out: &mut O,
-    pair: Pair,
-    lines: &[JoinLine],
-    capture: &Capture,
-    folder: &str,
 ) -> Result<Ended, Fault>
     requires start { AreAtFirst pair }
-    requires fit { All (λ line. line_fits pair.first.net.topology pair.second.net.topology line ≡ true) lines.now }
-    requires apart { is_inside capture.now.name folder.now ≡ false }
+    requires fit { All (λ line. line_fits pair.first.net.topology pair.second.net.topology line ≡ true) script.now.lines.now }
+    requires apart { is_inside script.now.capture.now.name script.now.folder.now ≡ false }
     ensures ends { (pairing : Pairing) → PairStands pairing pair at_first → pair.stopped ≡ None →
-        ForSome (S.files shelf.old) (λ m. ForSome (file m capture.now.name) (λ bytes.
-        RunEnds pairing (start_in folder.now (S.files shelf.old) (O.written out.old)) (run_of pairing (packets_in capture.now bytes) lines.now) (S.files shelf.new) (O.written out.new) result)) }
-    ensures cause { Blamed (Absent (S.files shelf.old) capture.now.name) ⊥
+        ForSome (S.files shelf.old) (λ m. ForSome (file m script.now.capture.now.name) (λ bytes.
+        RunEnds pairing (start_in script.now.folder.now (S.files shelf.old) (O.written out.old))
+        (run_of pairing (packets_in script.now.capture.now bytes) script.now.lines.now) (S.files shelf.new) (O.written out.new) result)) }
+    ensures cause { Blamed (Absent (S.files shelf.old) script.now.capture.now.name) ⊥
         (S.read_faults shelf.old, S.write_faults shelf.old, O.faults out.old)
         (S.read_faults shelf.new, S.write_faults shelf.new, O.faults out.new) result }
 {
-    let mut file = ExitsFile::open(alloc, shelf, folder)?;
-    let Ok(mut desk) = Desk::new(alloc) else {
+    let file = ExitsFile::open(alloc, shelf, script.folder)?;
+    let Ok(desk) = Desk::new(alloc) else {
         return Err(Fault::NoMemory);
     };
-    let mut pair = pair;
+    let mut run = Run { pair, file, desk };
     let mut buffer = Vec::new(alloc);
-    let how = do_lines(
-        &mut pair,
-        lines,
-        shelf,
-        out,
-        &mut file,
-        capture,
-        &mut desk,
-        &mut buffer,
-    )?;
-    finish(alloc, &pair, how, shelf, out, &mut file, &mut desk)
+    let how = run.do_lines(script, &mut buffer, shelf, out)?;
+    finish(alloc, &mut run, how, shelf, out)
 }
 
 /// How a call ends that played a script.
@@ -119,33 +106,41 @@ fn outcome_by(ended: Result<Ended, Fault>) -> Outcome
     }
 }
 
-/// Plays a script on two networks of these topologies, joined so, and ends the call.
+/// Joins two networks and plays a script on them, by the inputs that were read, and ends the call.
 pub(crate) fn join_networks<S: Shelf, O: Sink>(
     alloc: Global,
-    first: Topology,
-    second: Topology,
-    joints: &[(SiteNo, SiteNo)],
-    lines: &[JoinLine],
-    capture: &Capture,
+    inputs: Inputs,
     folder: &str,
     shelf: &mut S,
     out: &mut O,
 ) -> Outcome
-    requires sites { AreSites first second joints.now }
-    requires joined { AreApart joints.now }
-    requires fit { All (λ line. line_fits first second line ≡ true) lines.now }
-    requires apart { is_inside capture.now.name folder.now ≡ false }
-    ensures answers { ForSome (S.files shelf.old) (λ m. ForSome (file m capture.now.name) (λ bytes.
-        Answers (Some (join_done folder.now (pairing_of first second joints.now) lines.now (packets_in capture.now bytes))) m (S.files shelf.new) (O.written out.old) (O.written out.new) result)) }
-    ensures lawful { ForSome (S.files shelf.old) (λ m. ForSome (file m capture.now.name) (λ bytes.
-        AreLawfulIfDone (pairing_of first second joints.now) (run_of (pairing_of first second joints.now) (packets_in capture.now bytes) lines.now) result)) }
-    ensures cause { CausedBy (Absent (S.files shelf.old) capture.now.name)
+    requires fit { AreFit inputs }
+    requires apart { is_inside inputs.capture.name folder.now ≡ false }
+    ensures answers { ForSome (S.files shelf.old) (λ m. ForSome (file m inputs.capture.name) (λ bytes.
+        Answers (Some (join_done folder.now (pairing_of inputs.first inputs.second inputs.joints.items) inputs.lines.items (packets_in inputs.capture bytes)))
+        m (S.files shelf.new) (O.written out.old) (O.written out.new) result)) }
+    ensures lawful { ForSome (S.files shelf.old) (λ m. ForSome (file m inputs.capture.name) (λ bytes.
+        AreLawfulIfDone (pairing_of inputs.first inputs.second inputs.joints.items)
+        (run_of (pairing_of inputs.first inputs.second inputs.joints.items) (packets_in inputs.capture bytes) inputs.lines.items) result)) }
+    ensures cause { CausedBy (Absent (S.files shelf.old) inputs.capture.name)
         (S.read_faults shelf.old, S.write_faults shelf.old, O.faults out.old)
         (S.read_faults shelf.new, S.write_faults shelf.new, O.faults out.new) result }
     ensures usage { result ≢ Outcome.Usage }
 {
-    match Pair::new(alloc, first, second, joints) {
-        Ok(pair) => outcome_by(perform(alloc, shelf, out, pair, lines, capture, folder)),
+    let Inputs {
+        first,
+        second,
+        joints,
+        lines,
+        capture,
+    } = inputs;
+    let script = Script {
+        lines: &lines,
+        capture: &capture,
+        folder,
+    };
+    match Pair::new(alloc, first, second, &joints) {
+        Ok(pair) => outcome_by(perform(alloc, pair, &script, shelf, out)),
         Err(_) => Outcome::NoMemory,
     }
 }

@@ -21,8 +21,8 @@ use Rattle.mn_reflect.specs.declared.refusal.ReflectBad.TheVariants as bad
 use Rattle.mn_reflect_run.specs.declared.command.ReflectCommand.{ReflectCommand}
 use Rattle.mn_reflect_run.specs.declared.command.ReflectCommand.TheVariants as command
 use Rattle.mn_reflect_run.specs.declared.command.ReflectLine.{ReflectLine}
-use Rattle.mn_reflect_run.specs.declared.play.Played.{Played}
-use Rattle.mn_reflect_run.specs.declared.play.Played.TheVariants as played
+use Rattle.mn_answer.specs.declared.played.Played.{Played}
+use Rattle.mn_answer.specs.declared.played.Played.TheVariants as played
 use Rattle.mn_reflect_run.specs.Course.{Note, Refusal, Table, ReflectRun, first_run, stepped, tried, unless_stopped, drained_by, drain_for, next_hearing}
 use Rattle.mn_reflect_run.specs.Course.{most_of, asked, after_line, run_from, run_of}
 use Rattle.mn_reflect_run.specs.Language.{command_fits}
@@ -89,7 +89,7 @@ module _ (topology : Network) (reflectors : List ℕ) (run : ReflectRun) (old ne
       IsAt topology reflectors (record run { steps = run.steps ++ done ∷ [] }) new
   one_more h stands = record { stands = stands; goes_on = at.goes_on; few = let n = length-append run.steps (done ∷ []) in omega (arith, n, h) }
 
-  abbrev Goes : ReflectRun → Played → Type 0
+  abbrev Goes : ReflectRun → Played Refused → Type 0
   Goes after how = Follows topology reflectors after run the_line how new
 
   done_full : length run.steps ≡ most_steps → Goes (stepped run done) played.TooManySteps
@@ -100,7 +100,7 @@ module _ (topology : Network) (reflectors : List ℕ) (run : ReflectRun) (old ne
       subst (λ r. Goes r played.All) (sym (room run done (below apart)))
       (record { stands = one_more (below apart) stands; told = sym (append-nil run.notes); shows = tt })
 
-  by_step : (how : Played) → IsRun topology reflectors (run.steps ++ done ∷ []) new → (b : Bool) → (length run.steps == most_steps) ≡ b →
+  by_step : (how : Played Refused) → IsRun topology reflectors (run.steps ++ done ∷ []) new → (b : Bool) → (length run.steps == most_steps) ≡ b →
       how ≡ (if b then played.TooManySteps else played.All) → Goes (stepped run done) how
   by_step how stands true is same = subst (Goes (stepped run done)) (sym same) (done_full (same_numbers (length run.steps) most_steps is))
   by_step how stands false is same = subst (Goes (stepped run done)) (sym same) (done_all (other_numbers (length run.steps) most_steps is) stands)
@@ -112,7 +112,7 @@ module _ (topology : Network) (reflectors : List ℕ) (run : ReflectRun) (old ne
     shows = tt;
   }
 
-  pub step_follows : (result : Done) (how : Played) → Answered topology reflectors run.steps old new done result → IsAnswered (length run.steps) result how →
+  pub step_follows : (result : Done) (how : Played Refused) → Answered topology reflectors run.steps old new done result → IsAnswered (length run.steps) result how →
       Goes (tried run number done (refusal topology (world_of topology reflectors run.steps) done)) how
   step_follows result how answered is = by (refusal topology (world_of topology reflectors run.steps) done) refl result answered is
     where
@@ -130,12 +130,12 @@ module _ (topology : Network) (reflectors : List ℕ) (run : ReflectRun) (old ne
           subst (Goes (tried run number done (Some cause))) (sym told) (refused_by cause both.1)
 
 -- what is asked for is done
-abbrev pub DoesStep : Step → ReflectNow → ReflectNow → Played → Type 0
+abbrev pub DoesStep : Step → ReflectNow → ReflectNow → Played Refused → Type 0
 DoesStep done old new how =
     (topology : Network) (reflectors : List ℕ) (run : ReflectRun) (number : ℕ) → IsAt topology reflectors run old → takes topology reflectors done ≡ true →
     Follows topology reflectors (asked topology reflectors run number (command.Do done)) run (record { number = number; command = command.Do done }) how new
 
-pub step_done : (result : Result Played AllocError) (answer : Done) (old new : ReflectNow) (done : Step) (steps : ℕ) →
+pub step_done : (result : Result (Played Refused) AllocError) (answer : Done) (old new : ReflectNow) (done : Step) (steps : ℕ) →
     ((topology : Network) (reflectors : List ℕ) (before : List Step) → IsRun topology reflectors before old → takes topology reflectors done ≡ true →
     Answered topology reflectors before old new done answer) →
     steps ≡ old.done → IfOk result (λ how. IsAnswered steps answer how) → IfOk result (DoesStep done old new)
@@ -145,7 +145,7 @@ step_done (Ok how) answer old new done steps answered same h = λ topology refle
     (subst (λ n. IsAnswered n answer how) (same ∙ at.stands.stands.1) h)
 
 -- a line that asks for it
-pub line_follows : (result : Result Played AllocError) (line : ReflectLine) (old new : ReflectNow) (done : Step) → line.command ≡ command.Do done →
+pub line_follows : (result : Result (Played Refused) AllocError) (line : ReflectLine) (old new : ReflectNow) (done : Step) → line.command ≡ command.Do done →
     IfOk result (DoesStep done old new) →
     IfOk result (λ how. (topology : Network) (reflectors : List ℕ) (run : ReflectRun) → IsAt topology reflectors run old →
     command_fits topology reflectors line.command ≡ true → Follows topology reflectors (after_line topology reflectors run line) run line how new)
@@ -155,7 +155,7 @@ line_follows (Ok how) line old new done is h = λ topology reflectors run at fit
     (h topology reflectors run line.number at (subst (λ x. command_fits topology reflectors x ≡ true) is fits))
 
 -- a line that drains tells nothing
-pub drain_follows : (topology : Network) (reflectors : List ℕ) (after run : ReflectRun) (number : ℕ) (most : Option ℕ) (how : Played) (now : ReflectNow) →
+pub drain_follows : (topology : Network) (reflectors : List ℕ) (after run : ReflectRun) (number : ℕ) (most : Option ℕ) (how : Played Refused) (now : ReflectNow) →
     IsDrained topology reflectors after run how now → Follows topology reflectors after run (record { number = number; command = command.Drain most }) how now
 drain_follows topology reflectors after run number most played.All now is = record { stands = is.0; told = is.1 ∙ sym (append-nil run.notes); shows = tt }
 drain_follows topology reflectors after run number most (played.Refused why) now is = absurd is
@@ -166,7 +166,7 @@ drain_follows topology reflectors after run number most played.TooManySteps now 
   shows = tt;
 }
 
-pub line_drains : (result : Result Played AllocError) (line : ReflectLine) (old new : ReflectNow) (most : Option ℕ) (turns : ℕ) →
+pub line_drains : (result : Result (Played Refused) AllocError) (line : ReflectLine) (old new : ReflectNow) (most : Option ℕ) (turns : ℕ) →
     line.command ≡ command.Drain most →
     turns ≡ most_of most →
     IfOk result (λ how. (topology : Network) (reflectors : List ℕ) (run : ReflectRun) → IsAt topology reflectors run old →

@@ -23,9 +23,9 @@ use Rattle.mn_reflect.specs.Course.{IsRun}
 use Rattle.mn_reflect_run.specs.declared.command.ReflectCommand.{ReflectCommand}
 use Rattle.mn_reflect_run.specs.declared.command.ReflectCommand.TheVariants as command
 use Rattle.mn_reflect_run.specs.declared.command.ReflectLine.{ReflectLine}
-use Rattle.mn_reflect_run.specs.declared.play.Ended.{Ended}
-use Rattle.mn_reflect_run.specs.declared.play.Played.{Played}
-use Rattle.mn_reflect_run.specs.declared.play.Played.TheVariants as played
+use Rattle.mn_answer.specs.declared.played.Ended.{Ended}
+use Rattle.mn_answer.specs.declared.played.Played.{Played}
+use Rattle.mn_answer.specs.declared.played.Played.TheVariants as played
 use Rattle.mn_reflect_run.specs.Course.{Note, Refusal, Table, ReflectRun, after_line, run_of}
 use Rattle.mn_reflect_run.specs.Language.{command_fits}
 use Rattle.mn_reflect_run.specs.Report.{note_text, is_refusal, refusals, report, total_line}
@@ -93,7 +93,7 @@ cut_after topology reflectors run past these more s t u e is before this =
 
 -- 3. Line by line
 
-pub at_most_one : (how : Played) → refused_in how ≤ 1
+pub at_most_one : (how : Played Refused) → refused_in how ≤ 1
 at_most_one played.All = omega arith
 at_most_one (played.Refused why) = omega arith
 at_most_one played.TooManySteps = omega arith
@@ -109,7 +109,7 @@ filter_both (x ∷ xs) ys = by (is_refusal x) (filter_both xs ys)
     by false e = e
 
 -- a line is refused once at most
-count_by : (steps : List Step) (line : ReflectLine) (how : Played) → refusals (notes_by steps line how) ≡ refused_in how
+count_by : (steps : List Step) (line : ReflectLine) (how : Played Refused) → refusals (notes_by steps line how) ≡ refused_in how
 count_by steps line played.All = by line.command
   where
     by : (wanted : ReflectCommand) → refusals (shown_by steps wanted) ≡ 0
@@ -149,7 +149,7 @@ module _ (topology : Network) (reflectors : List ℕ) (lines : List ReflectLine)
     next : run_of topology reflectors (take (i + 1) lines) ≡ after
     next = course_at topology reflectors lines i line below past.at.goes_on ∙ ap (after_line topology reflectors before) (sym here)
 
-    module _ (how : Played) (now : ReflectNow) (follows : Follows topology reflectors after before line how now) where
+    module _ (how : Played Refused) (now : ReflectNow) (follows : Follows topology reflectors after before line how now) where
       abbrev these : List Note
       these = notes_by before.steps line how
 
@@ -159,7 +159,7 @@ module _ (topology : Network) (reflectors : List ℕ) (lines : List ReflectLine)
       stands : (how ≡ played.TooManySteps → ⊥) → IsAt topology reflectors after now
       stands not = by how follows.stands not
         where
-          by : (h : Played) → StandsAfter topology reflectors after h now → (h ≡ played.TooManySteps → ⊥) → IsAt topology reflectors after now
+          by : (h : Played Refused) → StandsAfter topology reflectors after h now → (h ≡ played.TooManySteps → ⊥) → IsAt topology reflectors after now
           by played.All at n = at
           by (played.Refused why) at n = at
           by played.TooManySteps at n = absurd (n refl)
@@ -231,11 +231,11 @@ this_fits topology reflectors lines i line here below fit =
     subst (λ (l : ReflectLine). command_fits topology reflectors l.command ≡ true) (sym here) (line_fits topology reflectors lines i line below fit)
 
 -- where a line was played the topology is the same still
-pub over_after : (topology : Network) (reflectors : List ℕ) (after run : ReflectRun) (line : ReflectLine) (how : Played) (now : ReflectNow) →
+pub over_after : (topology : Network) (reflectors : List ℕ) (after run : ReflectRun) (line : ReflectLine) (how : Played Refused) (now : ReflectNow) →
     (how ≡ played.TooManySteps → ⊥) → Follows topology reflectors after run line how now → now.topology ≡ topology
 over_after topology reflectors after run line how now not follows = by how follows.stands not
   where
-    by : (h : Played) → StandsAfter topology reflectors after h now → (h ≡ played.TooManySteps → ⊥) → now.topology ≡ topology
+    by : (h : Played Refused) → StandsAfter topology reflectors after h now → (h ≡ played.TooManySteps → ⊥) → now.topology ≡ topology
     by played.All at n = at.stands.stands.0.topology_is
     by (played.Refused why) at n = at.stands.stands.0.topology_is
     by played.TooManySteps at n = absurd (n refl)
@@ -245,7 +245,7 @@ module _ (topology : Network) (reflectors : List ℕ) (steps : List Step) where
   one_note : (note : Note) → note_text topology reflectors note ≡ notes_text topology reflectors (note ∷ [])
   one_note note = sym (append-nil (note_text topology reflectors note))
 
-  pub refusal_told : (line : ReflectLine) (how : Played) (why : Refused) (s t : Stand) (count : ℕ) → how ≡ played.Refused why →
+  pub refusal_told : (line : ReflectLine) (how : Played Refused) (why : Refused) (s t : Stand) (count : ℕ) → how ≡ played.Refused why →
       Told (note_text topology reflectors (Refusal line.number why)) s t →
       Tells {T = ℕ} (notes_text topology reflectors (notes_by steps line how)) s t (Ok count)
   refusal_told line how why s t count is this =
@@ -253,7 +253,7 @@ module _ (topology : Network) (reflectors : List ℕ) (steps : List Step) where
       (tells_ok (notes_text topology reflectors (Refusal line.number why ∷ [])) s t count
       (subst (λ xs. Told xs s t) (one_note (Refusal line.number why)) this))
 
-  pub refusal_cut : (line : ReflectLine) (how : Played) (why : Refused) (s t : Stand) (e : DeviceBad) (r : Result ℕ DeviceBad) → how ≡ played.Refused why →
+  pub refusal_cut : (line : ReflectLine) (how : Played Refused) (why : Refused) (s t : Stand) (e : DeviceBad) (r : Result ℕ DeviceBad) → how ≡ played.Refused why →
       IsErr r × IsErrAnd r (λ y. y ≡ e) → Tells {T = Unit {0}} (note_text topology reflectors (Refusal line.number why)) s t (Err e) →
       Tells {T = ℕ} (notes_text topology reflectors (notes_by steps line how)) s t r
   refusal_cut line how why s t e r is from this =
@@ -261,21 +261,21 @@ module _ (topology : Network) (reflectors : List ℕ) (steps : List Step) where
       (tells_out (notes_text topology reflectors (Refusal line.number why ∷ [])) s t e r from
       (subst (λ xs. Tells {T = Unit {0}} xs s t (Err e)) (one_note (Refusal line.number why)) this))
 
-  pub shown_told : (line : ReflectLine) (how : Played) (s t : Stand) (count : ℕ) → how ≡ played.All →
+  pub shown_told : (line : ReflectLine) (how : Played Refused) (s t : Stand) (count : ℕ) → how ≡ played.All →
       Told (notes_text topology reflectors (shown_by steps line.command)) s t →
       Tells {T = ℕ} (notes_text topology reflectors (notes_by steps line how)) s t (Ok count)
   shown_told line how s t count is this =
       subst (λ h. Tells {T = ℕ} (notes_text topology reflectors (notes_by steps line h)) s t (Ok count)) (sym is)
       (tells_ok (notes_text topology reflectors (shown_by steps line.command)) s t count this)
 
-  pub shown_cut : (line : ReflectLine) (how : Played) (s t : Stand) (e : DeviceBad) (r : Result ℕ DeviceBad) → how ≡ played.All →
+  pub shown_cut : (line : ReflectLine) (how : Played Refused) (s t : Stand) (e : DeviceBad) (r : Result ℕ DeviceBad) → how ≡ played.All →
       IsErr r × IsErrAnd r (λ y. y ≡ e) → Tells {T = Unit {0}} (notes_text topology reflectors (shown_by steps line.command)) s t (Err e) →
       Tells {T = ℕ} (notes_text topology reflectors (notes_by steps line how)) s t r
   shown_cut line how s t e r is from this =
       subst (λ h. Tells {T = ℕ} (notes_text topology reflectors (notes_by steps line h)) s t r) (sym is)
       (tells_out (notes_text topology reflectors (shown_by steps line.command)) s t e r from this)
 
-  pub full_line : (line : ReflectLine) (how : Played) (s : Stand) (count : ℕ) → how ≡ played.TooManySteps →
+  pub full_line : (line : ReflectLine) (how : Played Refused) (s : Stand) (count : ℕ) → how ≡ played.TooManySteps →
       Tells {T = ℕ} (notes_text topology reflectors (notes_by steps line how)) s s (Ok count)
   full_line line how s count is =
       subst (λ h. Tells {T = ℕ} (notes_text topology reflectors (notes_by steps line h)) s s (Ok count)) (sym is) (tells_ok [] s s count (told_nothing s))

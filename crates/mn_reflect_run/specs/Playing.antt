@@ -18,10 +18,10 @@ use Rattle.mn_reflect.specs.declared.refusal.ReflectBad.TheVariants as bad
 use Rattle.mn_reflect_run.specs.declared.command.ReflectCommand.{ReflectCommand}
 use Rattle.mn_reflect_run.specs.declared.command.ReflectCommand.TheVariants as command
 use Rattle.mn_reflect_run.specs.declared.command.ReflectLine.{ReflectLine}
-use Rattle.mn_reflect_run.specs.declared.play.Ended.{Ended}
-use Rattle.mn_reflect_run.specs.declared.play.Ended.TheVariants as ended
-use Rattle.mn_reflect_run.specs.declared.play.Played.{Played}
-use Rattle.mn_reflect_run.specs.declared.play.Played.TheVariants as played
+use Rattle.mn_answer.specs.declared.played.Ended.{Ended}
+use Rattle.mn_answer.specs.declared.played.Ended.TheVariants as ended
+use Rattle.mn_answer.specs.declared.played.Played.{Played}
+use Rattle.mn_answer.specs.declared.played.Played.TheVariants as played
 use Rattle.mn_reflect_run.specs.Language.{command_fits}
 use Rattle.mn_reflect_run.specs.Course.{Note, Refusal, Table, ReflectRun, run_of}
 use Rattle.mn_reflect_run.specs.Report.{note_text, refusals, report}
@@ -45,7 +45,7 @@ cause_of bad.NetFull = cause.NetFull
 cause_of bad.NoMemory = cause.NoMemory
 
 -- how a step went before which so many were done, by what it was answered; out of memory is reported otherwise
-abbrev pub IsAnswered : ℕ → Result (Unit {0}) ReflectBad → Played → Type 0
+abbrev pub IsAnswered : ℕ → Result (Unit {0}) ReflectBad → Played Refused → Type 0
 IsAnswered steps (Ok done) how = how ≡ (if steps == most_steps then played.TooManySteps else played.All)
 IsAnswered steps (Err why) how = (how ≡ played.Refused (cause_of why)) × (why ≢ bad.NoMemory)
 
@@ -54,7 +54,7 @@ abbrev pub shown_by : List Step → ReflectCommand → List Note
 shown_by steps (command.Show vrf) = Table vrf.0 steps ∷ []
 shown_by steps asked = []
 
-abbrev pub notes_by : List Step → ReflectLine → Played → List Note
+abbrev pub notes_by : List Step → ReflectLine → Played Refused → List Note
 notes_by steps line played.All = shown_by steps line.command
 notes_by steps line (played.Refused why) = Refusal line.number why ∷ []
 notes_by steps line played.TooManySteps = []
@@ -95,24 +95,24 @@ ShowsAt topology reflectors steps (command.Show vrf) now = IsRun topology reflec
 ShowsAt topology reflectors steps asked now = ⊤
 
 -- after a line: all was done, it was refused, or it met as many steps as there may be
-abbrev pub StandsAfter : Network → List ℕ → ReflectRun → Played → ReflectNow → Type 0
+abbrev pub StandsAfter : Network → List ℕ → ReflectRun → Played Refused → ReflectNow → Type 0
 StandsAfter topology reflectors after played.All now = IsAt topology reflectors after now
 StandsAfter topology reflectors after (played.Refused why) now = IsAt topology reflectors after now
 StandsAfter topology reflectors after played.TooManySteps now = after.is_stopped ≡ true
 
-pub record Follows (topology : Network) (reflectors : List ℕ) (after before : ReflectRun) (line : ReflectLine) (how : Played) (now : ReflectNow) : Type 0 where
+pub record Follows (topology : Network) (reflectors : List ℕ) (after before : ReflectRun) (line : ReflectLine) (how : Played Refused) (now : ReflectNow) : Type 0 where
   pub stands : StandsAfter topology reflectors after how now
   pub told : after.notes ≡ before.notes ++ notes_by before.steps line how
   pub shows : ShowsAt topology reflectors before.steps line.command now
 
 -- after a drain: it met as many steps as there may be, or not; nothing is reported of it
-abbrev pub IsDrained : Network → List ℕ → ReflectRun → ReflectRun → Played → ReflectNow → Type 0
+abbrev pub IsDrained : Network → List ℕ → ReflectRun → ReflectRun → Played Refused → ReflectNow → Type 0
 IsDrained topology reflectors after before played.All now = IsAt topology reflectors after now × (after.notes ≡ before.notes)
 IsDrained topology reflectors after before (played.Refused why) now = ⊥
 IsDrained topology reflectors after before played.TooManySteps now = (after.is_stopped ≡ true) × (after.notes ≡ before.notes)
 
 -- what was refused of a line
-abbrev pub refused_in : Played → ℕ
+abbrev pub refused_in : Played Refused → ℕ
 refused_in played.All = 0
 refused_in (played.Refused why) = 1
 refused_in played.TooManySteps = 0

@@ -9,26 +9,15 @@ ghost use Rattle.mn_reflect_run.specs.Course.{ReflectRun, asked, after_line, dra
 ghost use Rattle.mn_reflect_run.specs.Playing.{IsAt, MayGoOn, MayPlay, CanHear, IsAnswered, IsDrained, Follows, HasTable, ShowsAt, cause_of, shown_by, notes_by, notes_text, refused_in, PlaysAll};
 
 use crate::command::{ReflectCommand, ReflectLine};
-use crate::report::{put_refusal, put_table};
+use crate::report::{Desk, put_refusal, put_table};
 use crate::script::Script;
+use mn_answer::{Ended, Played};
 use mn_base::MOST_STEPS;
 use mn_edge::{DeviceBad, Sink};
 use mn_ledger::Refused;
-use mn_lines::Page;
 use mn_reflect::{Reflect, ReflectBad};
 use mn_topo::{Step, Topology};
 use std::alloc::AllocError;
-
-/// How a line went.
-#[derive(Clone, Copy, Debug, PartialEq, Eq)]
-pub(crate) enum Played {
-    /// All that it asked for was done.
-    All,
-    /// Its step was refused.
-    Refused(Refused),
-    /// It met as many steps as there may be, and no line after it is played.
-    TooManySteps,
-}
 
 /// A refusal in the ledger's words.
 fn cause_of(bad: ReflectBad) -> Refused
@@ -48,7 +37,7 @@ fn cause_of(bad: ReflectBad) -> Refused
 }
 
 /// How a step went, before which so many were done.
-fn answer_of(steps: u64, done: Result<(), ReflectBad>) -> Result<Played, AllocError>
+fn answer_of(steps: u64, done: Result<(), ReflectBad>) -> Result<Played<Refused>, AllocError>
     ensures { IfOk result (IsAnswered steps done) }
 {
     match done {
@@ -89,7 +78,7 @@ fn most_of(most: Option<u32>) -> u32
 }
 
 /// Receives the message that was sent first of all in flight, at most so often, until none flies.
-fn drain(reflect: &mut Reflect, most: u32) -> Result<Played, AllocError>
+fn drain(reflect: &mut Reflect, most: u32) -> Result<Played<Refused>, AllocError>
     requires { MayGoOn reflect.old }
     ensures { IfOk result (λ how. (topology : Network) (reflectors : List ℕ) (run : ReflectRun) → IsAt topology reflectors run reflect.old →
         IsDrained topology reflectors (drain_for most topology reflectors run) run how reflect.new) }
@@ -107,7 +96,7 @@ fn drain(reflect: &mut Reflect, most: u32) -> Result<Played, AllocError>
 }
 
 /// Does a step that a line asks for.
-fn do_step(reflect: &mut Reflect, done: Step) -> Result<Played, AllocError>
+fn do_step(reflect: &mut Reflect, done: Step) -> Result<Played<Refused>, AllocError>
     requires { MayPlay reflect.old (ReflectCommand.Do done) }
     ensures { IfOk result (λ how. (topology : Network) (reflectors : List ℕ) (run : ReflectRun) (number : ℕ) → IsAt topology reflectors run reflect.old →
         takes topology reflectors done ≡ true →
@@ -118,7 +107,7 @@ fn do_step(reflect: &mut Reflect, done: Step) -> Result<Played, AllocError>
 }
 
 /// Plays a line. An `Err` means out of memory.
-fn play_line(reflect: &mut Reflect, line: ReflectLine) -> Result<Played, AllocError>
+fn play_line(reflect: &mut Reflect, line: ReflectLine) -> Result<Played<Refused>, AllocError>
     requires { MayPlay reflect.old line.command }
     ensures { IfOk result (λ how. (topology : Network) (reflectors : List ℕ) (run : ReflectRun) → IsAt topology reflectors run reflect.old →
         command_fits topology reflectors line.command ≡ true →
@@ -131,20 +120,10 @@ fn play_line(reflect: &mut Reflect, line: ReflectLine) -> Result<Played, AllocEr
     }
 }
 
-/// How the lines of a script went.
-#[derive(Clone, Copy, Debug, PartialEq, Eq)]
-pub(crate) enum Ended {
-    /// All were played, of which so many were refused.
-    All { refused: u32 },
-    /// One met as many steps as there may be, and no line after it was played.
-    TooManySteps,
-}
-
-/// Puts what is reported of a line that was done: its table, where it shows one. `text` is written anew.
+/// Puts what is reported of a line that was done: its table, where it shows one.
 fn put_shown<O: Sink>(
     out: &mut O,
-    page: &mut Page,
-    text: &mut Vec<u8>,
+    desk: &mut Desk,
     topology: &Topology,
     reflect: &Reflect,
     command: ReflectCommand,
@@ -153,38 +132,37 @@ fn put_shown<O: Sink>(
     requires there { HasTable topology.now command }
     ensures { (reflectors : List ℕ) (steps : List StepOf) → ShowsAt topology.now reflectors steps command reflect.now →
         Tells (notes_text topology.now reflectors (shown_by steps command))
-        (standing page.old (O.written out.old) (O.faults out.old)) (standing page.new (O.written out.new) (O.faults out.new)) result }
+        (standing desk.old.page (O.written out.old) (O.faults out.old)) (standing desk.new.page (O.written out.new) (O.faults out.new)) result }
 {
     match command {
-        ReflectCommand::Show(vrf) => put_table(out, page, text, topology, reflect, vrf),
+        ReflectCommand::Show(vrf) => put_table(out, desk, topology, reflect, vrf),
         ReflectCommand::Do(_) | ReflectCommand::Drain(_) => Ok(()),
     }
 }
 
-/// Puts what is reported of a line, and answers how many refused lines that are. `text` is written anew.
+/// Puts what is reported of a line, and answers how many refused lines that are.
 fn put_told<O: Sink>(
     out: &mut O,
-    page: &mut Page,
-    text: &mut Vec<u8>,
+    desk: &mut Desk,
     topology: &Topology,
     reflect: &Reflect,
     line: ReflectLine,
-    played: Played,
+    played: Played<Refused>,
 ) -> Result<u32, DeviceBad>
     requires over { reflect.now.topology ≡ topology.now }
     requires there { HasTable topology.now line.command }
     ensures told { (reflectors : List ℕ) (steps : List StepOf) → ShowsAt topology.now reflectors steps line.command reflect.now →
         Tells (notes_text topology.now reflectors (notes_by steps line played))
-        (standing page.old (O.written out.old) (O.faults out.old)) (standing page.new (O.written out.new) (O.faults out.new)) result }
+        (standing desk.old.page (O.written out.old) (O.faults out.old)) (standing desk.new.page (O.written out.new) (O.faults out.new)) result }
     ensures counted { IfOk result (λ count. count ≡ refused_in played) }
 {
     match played {
         Played::Refused(cause) => {
-            put_refusal(out, page, text, topology, line.number, cause)?;
+            put_refusal(out, desk, topology, line.number, cause)?;
             Ok(1)
         }
         Played::All => {
-            put_shown(out, page, text, topology, reflect, line.command)?;
+            put_shown(out, desk, topology, reflect, line.command)?;
             Ok(0)
         }
         Played::TooManySteps => Ok(0),
@@ -192,20 +170,18 @@ fn put_told<O: Sink>(
 }
 
 /// Plays the lines of a script from the start on, and puts in their order those that are refused and the tables that they show.
-/// `text` is written anew.
 pub(crate) fn play<O: Sink>(
     reflect: &mut Reflect,
     topology: &Topology,
     script: &Script,
     out: &mut O,
-    page: &mut Page,
-    text: &mut Vec<u8>,
+    desk: &mut Desk,
 ) -> Result<Ended, DeviceBad>
     requires start { IsRun topology.now (numbers_of script.now.reflectors) [] reflect.old }
     requires lawful { IsLawfulScript topology.now script.now }
     requires few { length script.now.lines ≤ most_script_lines }
     ensures { PlaysAll topology.now (numbers_of script.now.reflectors) script.now.lines reflect.new
-        (standing page.old (O.written out.old) (O.faults out.old)) (standing page.new (O.written out.new) (O.faults out.new)) result }
+        (standing desk.old.page (O.written out.old) (O.faults out.old)) (standing desk.new.page (O.written out.new) (O.faults out.new)) result }
 {
     let lines = script.lines();
     let mut refused = 0;
@@ -214,7 +190,7 @@ pub(crate) fn play<O: Sink>(
         if let Played::TooManySteps = played {
             return Ok(Ended::TooManySteps);
         }
-        refused += put_told(out, page, text, topology, reflect, *line, played)?;
+        refused += put_told(out, desk, topology, reflect, *line, played)?;
     }
     Ok(Ended::All { refused })
 }

@@ -1,5 +1,5 @@
 //! The lines of the report, put on a page.
-ghost use Rattle.std.specs.Prelude.{◌≡◌, ◌<◌, ℕ, List, Some, length};
+ghost use Rattle.std.specs.Prelude.{◌≡◌, ◌<◌, ℕ, List, [], Some, length, IfOk};
 ghost use Rattle.mn_reflect_run.specs.Prelude.{prefix_text, refused_line, cause_text, standing, Tells, Labels, source_from, world_of, IsRun};
 ghost use Rattle.mn_ledger.specs.Prelude.{Network, HeldRoute, Far};
 ghost use Rattle.mn_topo.specs.declared.steps.Step.{Step as StepOf};
@@ -16,22 +16,41 @@ use mn_tables::{HeldPrefix, NearSite, put_near_route, put_own_route, put_pieces}
 use mn_text::put_prefix;
 use mn_topo::Topology;
 use mn_vrf::Source;
+use std::alloc::{AllocError, Global};
 
-/// Puts the line of a script's line that was refused. `text` is written anew.
+/// What waits to be put.
+#[derive(Drop)]
+pub(crate) struct Desk {
+    pub page: Page,
+    /// A line, or a part of it, as it is written.
+    pub text: Vec<u8>,
+}
+
+impl Desk {
+    pub fn new(alloc: Global) -> Result<Desk, AllocError>
+        ensures { IfOk result (λ desk. desk.page ≡ []) }
+    {
+        Ok(Desk {
+            page: Page::new(alloc)?,
+            text: Vec::new(alloc),
+        })
+    }
+}
+
+/// Puts the line of a script's line that was refused.
 pub(crate) fn put_refusal<O: Sink>(
     out: &mut O,
-    page: &mut Page,
-    text: &mut Vec<u8>,
+    desk: &mut Desk,
     topology: &Topology,
     number: u32,
     cause: Refused,
 ) -> Result<(), DeviceBad>
     ensures { Tells (refused_line number (cause_text topology.now.site_names cause))
-        (standing page.old (O.written out.old) (O.faults out.old)) (standing page.new (O.written out.new) (O.faults out.new)) result }
+        (standing desk.old.page (O.written out.old) (O.faults out.old)) (standing desk.new.page (O.written out.new) (O.faults out.new)) result }
 {
-    text.clear();
-    write_refusal(text, topology, number, cause)?;
-    put_pieces(out, page, &[text.as_slice()])
+    desk.text.clear();
+    write_refusal(&mut desk.text, topology, number, cause)?;
+    put_pieces(out, &mut desk.page, &[desk.text.as_slice()])
 }
 
 /// Puts the line of a route that another edge advertised, by the label that it gave. The prefix comes as its text.
@@ -91,31 +110,35 @@ fn put_from<O: Sink>(
     }
 }
 
-/// Puts the line of the best route of a prefix. `text` is written anew.
+/// Puts the line of the best route of a prefix: the prefix, and where the route comes from.
 fn put_route<O: Sink>(
     out: &mut O,
-    page: &mut Page,
-    text: &mut Vec<u8>,
+    desk: &mut Desk,
     topology: &Topology,
     vrf: VrfNo,
-    prefix: Prefix,
-    source: Source,
+    found: (Prefix, Source),
 ) -> Result<(), DeviceBad>
     requires { vrf.0 < length topology.now.vrfs }
-    ensures { (labels : Labels) (route : HeldRoute) → prefix ≡ route.prefix → source ≡ source_from labels route.edge route.site route.attachment route.source →
+    ensures { (labels : Labels) (route : HeldRoute) → found.0 ≡ route.prefix → found.1 ≡ source_from labels route.edge route.site route.attachment route.source →
         Tells (route_line topology.now labels vrf.0 (Some route))
-        (standing page.old (O.written out.old) (O.faults out.old)) (standing page.new (O.written out.new) (O.faults out.new)) result }
+        (standing desk.old.page (O.written out.old) (O.faults out.old)) (standing desk.new.page (O.written out.new) (O.faults out.new)) result }
 {
-    text.clear();
-    put_prefix(text, prefix)?;
-    put_from(out, page, topology, vrf, text.as_slice(), source)
+    desk.text.clear();
+    put_prefix(&mut desk.text, found.0)?;
+    put_from(
+        out,
+        &mut desk.page,
+        topology,
+        vrf,
+        desk.text.as_slice(),
+        found.1,
+    )
 }
 
-/// Puts the lines of the best routes of all prefixes that a VRF holds, in order. `text` is written anew.
+/// Puts the lines of the best routes of all prefixes that a VRF holds, in order.
 pub(crate) fn put_table<O: Sink>(
     out: &mut O,
-    page: &mut Page,
-    text: &mut Vec<u8>,
+    desk: &mut Desk,
     topology: &Topology,
     reflect: &Reflect,
     vrf: VrfNo,
@@ -124,14 +147,14 @@ pub(crate) fn put_table<O: Sink>(
     requires vrf { vrf.0 < length topology.now.vrfs }
     ensures { (reflectors : List ℕ) (steps : List StepOf) → IsRun topology.now reflectors steps reflect.now →
         Tells (table_text topology.now reflectors steps vrf.0)
-        (standing page.old (O.written out.old) (O.faults out.old)) (standing page.new (O.written out.new) (O.faults out.new)) result }
+        (standing desk.old.page (O.written out.old) (O.faults out.old)) (standing desk.new.page (O.written out.new) (O.faults out.new)) result }
 {
     let mut route = reflect.held(vrf, 0);
     for _ in 0..u32::MAX {
         match route {
             None => return Ok(()),
             Some(found) => {
-                put_route(out, page, text, topology, vrf, found.0, found.1)?;
+                put_route(out, desk, topology, vrf, (found.0, found.1))?;
                 route = reflect.held_after(vrf, found.0);
             }
         }

@@ -10,48 +10,47 @@ ghost use Rattle.mn_reflect_run.specs.Answer.{outcome_of, reflect_done, reflect_
 use crate::laws::{
     each_drain_of_a_script_is_bounded, where_none_flies_the_printed_tables_are_those_of_the_mesh,
 };
-use crate::play::{Ended, play};
-use crate::report::put_total;
+use crate::play::play;
+use crate::report::{Desk, put_total};
 use crate::script::{Script, read_script};
-use mn_answer::{Limit, MOST_SCRIPT_BYTES, Outcome, load_topology, refuse, too_large};
-use mn_base::{MOST_SCRIPT_LINES, MOST_STEPS};
-use mn_edge::{Content, DeviceBad, Shelf, Sink, read_all};
-use mn_lines::Page;
+use mn_answer::{
+    Ended, Limit, Outcome, load_script_bytes, load_topology, refuse, script_read, too_large,
+};
+use mn_base::MOST_STEPS;
+use mn_edge::{DeviceBad, Shelf, Sink};
 use mn_reflect::Reflect;
-use mn_script::{ScriptBad, count_lines};
 use mn_topo::Topology;
-use std::alloc::{AllocError, Global};
+use std::alloc::Global;
 
-/// Plays lines, and puts the report on a page.
-fn put_report<O: Sink>(
+/// Plays a script, and puts its report on a page.
+fn play_on_page<O: Sink>(
     alloc: Global,
     topology: &Topology,
     script: &Script,
     out: &mut O,
-    page: &mut Page,
+    desk: &mut Desk,
 ) -> Result<Outcome, DeviceBad>
     requires lawful { IsLawfulScript topology.now script.now }
     requires few { length script.now.lines ≤ most_script_lines }
     ensures told { Tells (report topology.now (numbers_of script.now.reflectors) (course_of topology.now script.now))
-        (standing page.old (O.written out.old) (O.faults out.old)) (standing page.new (O.written out.new) (O.faults out.new)) result }
+        (standing desk.old.page (O.written out.old) (O.faults out.old)) (standing desk.new.page (O.written out.new) (O.faults out.new)) result }
     ensures outcome { IfOk result (λ outcome. outcome ≡ outcome_of (course_of topology.now script.now)) }
 {
-    let mut text = Vec::new(alloc);
     let mut reflect = Reflect::new(alloc, topology, script.reflectors())?;
-    match play(&mut reflect, topology, script, out, page, &mut text)? {
+    match play(&mut reflect, topology, script, out, desk)? {
         Ended::All { refused } => {
-            put_total(out, page, &reflect, refused)?;
+            put_total(out, &mut desk.page, &reflect, refused)?;
             Ok(Outcome::Done)
         }
         Ended::TooManySteps => {
-            page.put(out, b"too large steps\n")?;
+            desk.page.put(out, b"too large steps\n")?;
             Ok(too_large(Limit::Steps, u64::from(MOST_STEPS)))
         }
     }
 }
 
-/// Plays lines, and puts the report.
-fn put_all<O: Sink>(
+/// Plays a script, and puts its report.
+fn play_script<O: Sink>(
     alloc: Global,
     topology: &Topology,
     script: &Script,
@@ -66,9 +65,9 @@ fn put_all<O: Sink>(
     ensures cause { Counted (O.faults out.old) (O.faults out.new) result }
     ensures outcome { IfOk result (λ outcome. outcome ≡ outcome_of (course_of topology.now script.now)) }
 {
-    let mut page = Page::new(alloc)?;
-    let outcome = put_report(alloc, topology, script, out, &mut page)?;
-    page.end(out)?;
+    let mut desk = Desk::new(alloc)?;
+    let outcome = play_on_page(alloc, topology, script, out, &mut desk)?;
+    desk.page.end(out)?;
     Ok(outcome)
 }
 
@@ -86,33 +85,10 @@ fn reflect_lines<O: Sink>(
     ensures cause { SinkCausedBy (O.faults out.old) (O.faults out.new) result }
     ensures usage { result ≢ Outcome.Usage }
 {
-    match put_all(alloc, topology, script, out) {
+    match play_script(alloc, topology, script, out) {
         Ok(outcome) => outcome,
         Err(DeviceBad::Failed) => Outcome::WriteFault,
         Err(DeviceBad::NoMemory) => Outcome::NoMemory,
-    }
-}
-
-/// Reads the bytes of a script, at most 64 MiB and 3,000,000 lines, or its refusal.
-fn parse_script(
-    alloc: Global,
-    topology: &Topology,
-    bytes: &[u8],
-) -> Result<Result<Script, Outcome>, AllocError>
-    ensures answer { IfOk result (ScriptIs topology.now (Some bytes.now)) }
-    ensures fits { IfOk result (ScriptFits topology.now) }
-    ensures sound { IfOk result IsSound }
-{
-    if bytes.len() as u64 > MOST_SCRIPT_BYTES {
-        return Ok(Err(too_large(Limit::ScriptBytes, MOST_SCRIPT_BYTES)));
-    }
-    if count_lines(bytes) > MOST_SCRIPT_LINES {
-        return Ok(Err(too_large(Limit::ScriptLines, MOST_SCRIPT_LINES)));
-    }
-    match read_script(alloc, topology, bytes) {
-        Ok(script) => Ok(Ok(script)),
-        Err(ScriptBad::Refused { rule, line }) => Ok(Err(Outcome::BadScript { rule, line })),
-        Err(ScriptBad::NoMemory) => Err(AllocError),
     }
 }
 
@@ -131,12 +107,9 @@ fn load_script<S: Shelf>(
         (S.read_faults shelf.old) (S.read_faults shelf.new) result }
     ensures writes { S.write_faults shelf.new ≡ S.write_faults shelf.old }
 {
-    match read_all(alloc, shelf, name, MOST_SCRIPT_BYTES)? {
-        Content::TooLarge => Ok(Err(too_large(Limit::ScriptBytes, MOST_SCRIPT_BYTES))),
-        Content::Whole(bytes) => match parse_script(alloc, topology, &bytes) {
-            Ok(found) => Ok(found),
-            Err(_) => Err(DeviceBad::NoMemory),
-        },
+    match load_script_bytes(alloc, name, shelf)? {
+        Ok(bytes) => Ok(script_read(read_script(alloc, topology, &bytes))?),
+        Err(outcome) => Ok(Err(outcome)),
     }
 }
 

@@ -14,7 +14,7 @@ use crate::words::{Job, failures_name, parse_job, word};
 use mn_answer::{Limit, Outcome, load_topology, put_line, refuse};
 use mn_base::MOST_STEPS;
 use mn_edge::{DeviceBad, Shelf, Sink};
-use mn_join_run::{Ended, Fault, perform};
+use mn_join_run::{Ended, Fault, JoinNames, perform};
 use mn_topo::Topology;
 use std::alloc::Global;
 
@@ -246,17 +246,15 @@ fn join<S: Shelf, O: Sink>(alloc: Global, words: &[String], shelf: &mut S, out: 
         (S.read_faults shelf.new, S.write_faults shelf.new, O.faults out.new) result }
     ensures usage { result ≢ Outcome.Usage }
 {
-    mn_join_run::join(
-        alloc,
-        word(words, 1),
-        word(words, 2),
-        word(words, 3),
-        word(words, 4),
-        word(words, 5),
-        word(words, 6),
-        shelf,
-        out,
-    )
+    let names = JoinNames {
+        first: word(words, 1),
+        second: word(words, 2),
+        joints: word(words, 3),
+        script: word(words, 4),
+        capture: word(words, 5),
+        folder: word(words, 6),
+    };
+    mn_join_run::join(alloc, &names, shelf, out)
 }
 
 /// Tells what becomes of each pair at rest, by the words `reach TOPOLOGY [FAILURES]`.

@@ -102,33 +102,32 @@ fn outcome_of_put(put: Result<(), DeviceBad>) -> Outcome
     }
 }
 
-/// What passed a limit: the place of the word that names it, none where it may be either of two topologies, and what there may
-/// be of it.
-fn limited(is_joined: bool, which: Limit) -> (Option<usize>, &'static str) {
+/// What passed a limit: the place of the word that names it, and what there may be of it.
+fn limited(is_joined: bool, which: Limit) -> (usize, &'static str) {
     let (script, capture) = if is_joined { (4, 5) } else { (2, 3) };
     match which {
-        Limit::TopologyBytes if is_joined => (None, "bytes of a topology"),
-        Limit::TopologyBytes => (Some(1), "bytes"),
-        Limit::JointsBytes => (Some(3), "bytes"),
-        Limit::ScriptBytes => (Some(script), "bytes"),
-        Limit::ScriptLines => (Some(script), "lines"),
-        Limit::CaptureBytes => (Some(capture), "bytes"),
-        Limit::CaptureRecords => (Some(capture), "records"),
-        Limit::Steps => (Some(script), "steps of a run"),
-        Limit::Pairs => (Some(1), "pairs"),
+        Limit::TopologyBytes => (1, "bytes"),
+        Limit::SecondBytes => (2, "bytes"),
+        Limit::JointsBytes => (3, "bytes"),
+        Limit::ScriptBytes => (script, "bytes"),
+        Limit::ScriptLines => (script, "lines"),
+        Limit::CaptureBytes => (capture, "bytes"),
+        Limit::CaptureRecords => (capture, "records"),
+        Limit::Steps => (script, "steps of a run"),
+        Limit::Pairs => (1, "pairs"),
     }
 }
 
 /// The word at the place, if there is one.
-fn word_at(words: &[String], place: Option<usize>) -> Option<&str> {
-    match words.get(place?) {
+fn word_at(words: &[String], place: usize) -> Option<&str> {
+    match words.get(place) {
         Some(word) => Some(word.as_str()),
         None => None,
     }
 }
 
 fn tell_limit(rt: &HostRuntime, words: &[String], which: Limit, limit: u64) -> io::Result<()> {
-    let is_joined = word_at(words, Some(0)) == Some("join");
+    let is_joined = word_at(words, 0) == Some("join");
     let (place, what) = limited(is_joined, which);
     match word_at(words, place) {
         Some(name) => eprintln!(rt; "mplsnet: {name}: more than {limit} {what}"),

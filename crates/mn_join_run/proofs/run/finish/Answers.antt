@@ -17,11 +17,11 @@ returns-in_err-end-clause-went g c = λ pairing start run names framed went.
     let stands = stood pairing start run _ _ _ c.args.how went in
     let why = err_from_is_err_and c.from_residual.result c.from_residual.ensures.1 in
     subst (RunEnds pairing start run (g.S.Shelf.files c.end.new.shelf) (g.O.Sink.written c.args.out.now)) (sym why.1)
-    (file_fails pairing start run c.args.desk.now.page (g.O.Sink.written c.args.out.now) c.args.file.now.held (g.S.Shelf.files c.args.shelf.now)
+    (file_fails pairing start run c.args.run.now.desk.page (g.O.Sink.written c.args.out.now) c.args.run.now.file.held (g.S.Shelf.files c.args.shelf.now)
     (g.S.Shelf.files c.end.new.shelf) stands why.0 (no_read_of _ why.0 why.2)
     (framed_both start.names start.base (g.S.Shelf.files c.args.shelf.now) (g.S.Shelf.files c.end.new.shelf) framed
     (subst (λ n. Framed n (g.S.Shelf.files c.args.shelf.now) (g.S.Shelf.files c.end.new.shelf)) (sym names) c.in_err-end.ensures.framed))
-    (subst (λ n. (bytes : List ℕ) → Holding n bytes c.args.file.now.held (g.S.Shelf.files c.args.shelf.now) →
+    (subst (λ n. (bytes : List ℕ) → Holding n bytes c.args.run.now.file.held (g.S.Shelf.files c.args.shelf.now) →
     Beginning n bytes (g.S.Shelf.files c.end.new.shelf))
     (sym names) c.in_err-end.ensures.part))
 
@@ -30,10 +30,10 @@ returns-in_err-put_last-clause-went g c = λ pairing start run names framed went
     let stands = stood pairing start run _ _ _ c.args.how went in
     let why = err_from_is_err_and c.from_residual-in_err-put_last.result c.from_residual-in_err-put_last.ensures.1 in
     let whole = subst (λ n. (bytes : List ℕ) (m : Files) → Framed n (Some m) (g.S.Shelf.files c.args.shelf.now) →
-    Holding n bytes c.args.file.now.held (g.S.Shelf.files c.args.shelf.now) → g.S.Shelf.files c.end.new.shelf ≡ Some (laid (named n (λ _. bytes)) m))
+    Holding n bytes c.args.run.now.file.held (g.S.Shelf.files c.args.shelf.now) → g.S.Shelf.files c.end.new.shelf ≡ Some (laid (named n (λ _. bytes)) m))
     (sym names) c.in_ok-end.ensures.whole in
     subst (RunEnds pairing start run (g.S.Shelf.files c.end.new.shelf) (g.O.Sink.written c.put_last.new.out)) (sym why.1)
-    (text_fails pairing start run c.args.desk.now.page (g.O.Sink.written c.args.out.now) c.args.file.now.held (g.S.Shelf.files c.args.shelf.now)
+    (text_fails pairing start run c.args.run.now.desk.page (g.O.Sink.written c.args.out.now) c.args.run.now.file.held (g.S.Shelf.files c.args.shelf.now)
     (g.S.Shelf.files c.end.new.shelf) stands why.0 (no_read_of _ why.0 why.2) (g.O.Sink.written c.put_last.new.out)
     (λ m is. whole (exits_file run.exits) m (subst (λ b. Framed start.names b (g.S.Shelf.files c.args.shelf.now)) is framed) (stands.file m is))
     (λ before is. report_part pairing run before _ _ _ (stands.text before is)
@@ -44,10 +44,10 @@ returns-in_err-end-2-clause-went g c = λ pairing start run names framed went.
     let stands = stood pairing start run _ _ _ c.args.how went in
     let why = err_from_is_err_and c.from_residual-in_err-end-2.result c.from_residual-in_err-end-2.ensures.1 in
     let whole = subst (λ n. (bytes : List ℕ) (m : Files) → Framed n (Some m) (g.S.Shelf.files c.args.shelf.now) →
-    Holding n bytes c.args.file.now.held (g.S.Shelf.files c.args.shelf.now) → g.S.Shelf.files c.end.new.shelf ≡ Some (laid (named n (λ _. bytes)) m))
+    Holding n bytes c.args.run.now.file.held (g.S.Shelf.files c.args.shelf.now) → g.S.Shelf.files c.end.new.shelf ≡ Some (laid (named n (λ _. bytes)) m))
     (sym names) c.in_ok-end.ensures.whole in
     subst (RunEnds pairing start run (g.S.Shelf.files c.end.new.shelf) (g.O.Sink.written c.end-2.new.out)) (sym why.1)
-    (text_fails pairing start run c.args.desk.now.page (g.O.Sink.written c.args.out.now) c.args.file.now.held (g.S.Shelf.files c.args.shelf.now)
+    (text_fails pairing start run c.args.run.now.desk.page (g.O.Sink.written c.args.out.now) c.args.run.now.file.held (g.S.Shelf.files c.args.shelf.now)
     (g.S.Shelf.files c.end.new.shelf) stands why.0 (no_read_of _ why.0 why.2) (g.O.Sink.written c.end-2.new.out)
     (λ m is. whole (exits_file run.exits) m (subst (λ b. Framed start.names b (g.S.Shelf.files c.args.shelf.now)) is framed) (stands.file m is))
     (λ before is. report_cut pairing run before _ _ _ _ _ (stands.text before is)
@@ -57,9 +57,9 @@ pub returns-clause-went : goal.returns-clause-went
 returns-clause-went g c = λ pairing start run names framed went.
     let stands = stood pairing start run _ _ _ c.args.how went in
     let whole = subst (λ n. (bytes : List ℕ) (m : Files) → Framed n (Some m) (g.S.Shelf.files c.args.shelf.now) →
-    Holding n bytes c.args.file.now.held (g.S.Shelf.files c.args.shelf.now) → g.S.Shelf.files c.end.new.shelf ≡ Some (laid (named n (λ _. bytes)) m))
+    Holding n bytes c.args.run.now.file.held (g.S.Shelf.files c.args.shelf.now) → g.S.Shelf.files c.end.new.shelf ≡ Some (laid (named n (λ _. bytes)) m))
     (sym names) c.in_ok-end.ensures.whole in
-    all_ends pairing start run c.args.desk.now.page (g.O.Sink.written c.args.out.now) c.args.file.now.held (g.S.Shelf.files c.args.shelf.now)
+    all_ends pairing start run c.args.run.now.desk.page (g.O.Sink.written c.args.out.now) c.args.run.now.file.held (g.S.Shelf.files c.args.shelf.now)
     (g.S.Shelf.files c.end.new.shelf) stands c.args.how (ends_as pairing start run _ _ _ c.args.how went)
     (ended_lawful pairing start run _ _ _ c.args.how went) (g.O.Sink.written c.end-2.new.out)
     (λ m is. whole (exits_file run.exits) m (subst (λ b. Framed start.names b (g.S.Shelf.files c.args.shelf.now)) is framed) (stands.file m is))

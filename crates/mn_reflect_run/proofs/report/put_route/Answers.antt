@@ -9,5 +9,5 @@ returns-in_err-put_prefix g c = λ labels route is_prefix is_source. tells_err _
 
 pub returns : goal.returns
 returns g c = λ labels route is_prefix is_source. c.put_from.ensures labels route
-    (c.as_slice.ensures.value ∙ c.in_ok-put_prefix.ensures.ok ∙ ap (λ xs. xs ++ prefix_text c.args.prefix) c.clear.ensures.items
+    (c.as_slice.ensures.value ∙ c.in_ok-put_prefix.ensures.ok ∙ ap (λ xs. xs ++ prefix_text c.args.found.0) c.clear.ensures.items
     ∙ ap prefix_text is_prefix) is_source

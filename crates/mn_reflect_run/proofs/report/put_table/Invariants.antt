@@ -20,7 +20,7 @@ invariant-loop g l = record {
       Told (flat_map (line_at l.topology (labels_of l.topology steps) l.vrf.0
       (held l.topology reflectors (world_of l.topology reflectors steps) (edge_of l.topology l.vrf.0) l.vrf.0))
       (take l.counter (prefixes_of (held l.topology reflectors (world_of l.topology reflectors steps) (edge_of l.topology l.vrf.0) l.vrf.0))))
-      (standing l.fn.page (g.O.Sink.written l.fn.out) (g.O.Sink.faults l.fn.out)) (standing l.page (g.O.Sink.written l.out) (g.O.Sink.faults l.out));
+      (standing l.fn.desk.page (g.O.Sink.written l.fn.out) (g.O.Sink.faults l.fn.out)) (standing l.desk.page (g.O.Sink.written l.out) (g.O.Sink.faults l.out));
   next : (reflectors : List ℕ) (steps : List Step) → IsRun l.topology reflectors steps l.reflect →
       l.route ≡ option_map (as_held (labels_of l.topology steps))
       (held_at (held l.topology reflectors (world_of l.topology reflectors steps) (edge_of l.topology l.vrf.0) l.vrf.0) l.counter);

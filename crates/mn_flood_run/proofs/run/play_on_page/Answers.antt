@@ -2,7 +2,7 @@ use Rattle.mn_edge.specs.declared.device.DeviceBad.TheVariants.{NoMemory}
 use Rattle.mn_tables.proofs.Telling.{tells_want}
 use Rattle.mn_flood_run.specs.Report.{report, course_of}
 use Rattle.mn_flood_run.proofs.Plays.{tells_out, tells_ok, told_of, trees_cut, total_cut, all_told, full_told, full_cut}
-use Rattle.mn_flood_run.proofs.run.put_report.Goals as goal
+use Rattle.mn_flood_run.proofs.run.play_on_page.Goals as goal
 
 pub returns-in_err-flood-clause-told : goal.returns-in_err-flood-clause-told
 returns-in_err-flood-clause-told g c =

@@ -3,7 +3,7 @@ use Rattle.mn_tables.proofs.Telling.{tells_want}
 use Rattle.mn_reflect_telling.specs.Mentions.{numbers_of}
 use Rattle.mn_reflect_run.specs.Report.{report, course_of}
 use Rattle.mn_reflect_run.proofs.Plays.{tells_out, tells_ok, told_of, total_cut, all_told, full_told, full_cut}
-use Rattle.mn_reflect_run.proofs.run.put_report.Goals as goal
+use Rattle.mn_reflect_run.proofs.run.play_on_page.Goals as goal
 
 pub returns-in_err-reflect-clause-told : goal.returns-in_err-reflect-clause-told
 returns-in_err-reflect-clause-told g c =

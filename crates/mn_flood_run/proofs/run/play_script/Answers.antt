@@ -1,6 +1,6 @@
 use Rattle.mn_flood_run.specs.Report.{report, course_of}
 use Rattle.mn_answer.proofs.Putting.{all_put, part_if_err, part_if_end_errs}
-use Rattle.mn_flood_run.proofs.run.put_all.Goals as goal
+use Rattle.mn_flood_run.proofs.run.play_script.Goals as goal
 
 pub returns-in_err-outcome-clause-part : goal.returns-in_err-outcome-clause-part
 returns-in_err-outcome-clause-part g c =

@@ -12,27 +12,27 @@ use Rattle.mn_join_run.specs.Playing.{ending_of, IsNoted}
 use Rattle.mn_join_run.specs.declared.desk.Desk.{Desk}
 use Rattle.mn_join_run.proofs.Noting.{stands_out, cut_out, cut_noted, stood_noted, refused_on, refused_cut}
 use Rattle.mn_join_run.proofs.Played.{noted_cut}
-use Rattle.mn_join_run.proofs.lines.note.Goals as goal
+use Rattle.mn_join_run.proofs.lines.Run.note.Goals as goal
 
 pub returns-in_err-put_exits-clause-noted : goal.returns-in_err-put_exits-clause-noted
 returns-in_err-put_exits-clause-noted g c = λ pairing start run course names topology exits sendings stands.
-    noted_cut start (after_course pairing run c.args.line.now course (ending_of c.args.played)) c.args.desk.now
-    (outside c.args.desk.now.page (g.O.Sink.written c.args.out.now) c.put_exits.new.self.held (g.S.Shelf.files c.put_exits.new.shelf)) c.from_residual.result _
+    noted_cut start (after_course pairing run c.args.line.now course (ending_of c.args.played)) c.args.self.now.desk
+    (outside c.args.self.now.desk.page (g.O.Sink.written c.args.out.now) c.put_exits.new.self.held (g.S.Shelf.files c.put_exits.new.shelf)) c.from_residual.result _
     c.from_residual.ensures.1
     (cut_noted pairing start run c.args.line.now course (ending_of c.args.played)
-    (outside c.args.desk.now.page (g.O.Sink.written c.args.out.now) c.put_exits.new.self.held (g.S.Shelf.files c.put_exits.new.shelf))
-    (cut_out start run course c.args.pair.now.exits exits c.args.desk.now.page (g.O.Sink.written c.args.out.now) c.args.file.now.held
+    (outside c.args.self.now.desk.page (g.O.Sink.written c.args.out.now) c.put_exits.new.self.held (g.S.Shelf.files c.put_exits.new.shelf))
+    (cut_out start run course c.args.self.now.pair.exits exits c.args.self.now.desk.page (g.O.Sink.written c.args.out.now) c.args.self.now.file.held
     c.put_exits.new.self.held (g.S.Shelf.files c.args.shelf.now) (g.S.Shelf.files c.put_exits.new.shelf) stands
-    c.args.desk.now.page c.put_exits.new.self.held
-    (subst (λ n. (bytes : List ℕ) → Holding n bytes c.args.file.now.held (g.S.Shelf.files c.args.shelf.now) →
-    Beginning n (bytes ++ flat_map exit_record c.args.pair.now.exits) (g.S.Shelf.files c.put_exits.new.shelf)) (sym names) c.in_err-put_exits.ensures.part)))
+    c.args.self.now.desk.page c.put_exits.new.self.held
+    (subst (λ n. (bytes : List ℕ) → Holding n bytes c.args.self.now.file.held (g.S.Shelf.files c.args.shelf.now) →
+    Beginning n (bytes ++ flat_map exit_record c.args.self.now.pair.exits) (g.S.Shelf.files c.put_exits.new.shelf)) (sym names) c.in_err-put_exits.ensures.part)))
 
 pub returns-in_err-send-in-All-clause-noted : goal.returns-in_err-send-in-All-clause-noted
 returns-in_err-send-in-All-clause-noted g c = λ pairing start run course names topology exits sendings stands.
-    let mid = stands_out start run course c.args.pair.now.exits exits c.args.desk.now.page (g.O.Sink.written c.args.out.now) c.args.file.now.held
+    let mid = stands_out start run course c.args.self.now.pair.exits exits c.args.self.now.desk.page (g.O.Sink.written c.args.out.now) c.args.self.now.file.held
     c.put_exits.new.self.held (g.S.Shelf.files c.args.shelf.now) (g.S.Shelf.files c.put_exits.new.shelf) stands
-    (subst (λ n. (bytes : List ℕ) → Holding n bytes c.args.file.now.held (g.S.Shelf.files c.args.shelf.now) →
-    Holding n (bytes ++ flat_map exit_record c.args.pair.now.exits) c.put_exits.new.self.held (g.S.Shelf.files c.put_exits.new.shelf))
+    (subst (λ n. (bytes : List ℕ) → Holding n bytes c.args.self.now.file.held (g.S.Shelf.files c.args.shelf.now) →
+    Holding n (bytes ++ flat_map exit_record c.args.self.now.pair.exits) c.put_exits.new.self.held (g.S.Shelf.files c.put_exits.new.shelf))
     (sym names) c.in_ok-put_exits.ensures.grown) in
     noted_cut start (after_course pairing run c.args.line.now course (ending_of c.args.played)) c.send.new.self
     (outside c.send.new.self.page (g.O.Sink.written c.args.out.now) c.put_exits.new.self.held (g.S.Shelf.files c.put_exits.new.shelf))
@@ -45,10 +45,10 @@ returns-in_err-send-in-All-clause-noted g c = λ pairing start run course names 
 
 pub returns-in_ok-send-in-All-clause-noted : goal.returns-in_ok-send-in-All-clause-noted
 returns-in_ok-send-in-All-clause-noted g c = λ pairing start run course names topology exits sendings stands.
-    let mid = stands_out start run course c.args.pair.now.exits exits c.args.desk.now.page (g.O.Sink.written c.args.out.now) c.args.file.now.held
+    let mid = stands_out start run course c.args.self.now.pair.exits exits c.args.self.now.desk.page (g.O.Sink.written c.args.out.now) c.args.self.now.file.held
     c.put_exits.new.self.held (g.S.Shelf.files c.args.shelf.now) (g.S.Shelf.files c.put_exits.new.shelf) stands
-    (subst (λ n. (bytes : List ℕ) → Holding n bytes c.args.file.now.held (g.S.Shelf.files c.args.shelf.now) →
-    Holding n (bytes ++ flat_map exit_record c.args.pair.now.exits) c.put_exits.new.self.held (g.S.Shelf.files c.put_exits.new.shelf))
+    (subst (λ n. (bytes : List ℕ) → Holding n bytes c.args.self.now.file.held (g.S.Shelf.files c.args.shelf.now) →
+    Holding n (bytes ++ flat_map exit_record c.args.self.now.pair.exits) c.put_exits.new.self.held (g.S.Shelf.files c.put_exits.new.shelf))
     (sym names) c.in_ok-put_exits.ensures.grown) in
     subst (λ p. IsNoted {T = Unit {0}} start (after_course pairing run c.args.line.now course (ending_of p)) c.send.new.self
     (outside c.send.new.self.page (g.O.Sink.written c.args.out.now) c.put_exits.new.self.held (g.S.Shelf.files c.put_exits.new.shelf)) (Ok tt))
@@ -61,39 +61,39 @@ returns-in_ok-send-in-All-clause-noted g c = λ pairing start run course names t
 
 pub returns-in_err-put_refused-in-Refused-clause-noted : goal.returns-in_err-put_refused-in-Refused-clause-noted
 returns-in_err-put_refused-in-Refused-clause-noted g c = λ pairing start run course names topology exits sendings stands.
-    let mid = stands_out start run course c.args.pair.now.exits exits c.args.desk.now.page (g.O.Sink.written c.args.out.now) c.args.file.now.held
+    let mid = stands_out start run course c.args.self.now.pair.exits exits c.args.self.now.desk.page (g.O.Sink.written c.args.out.now) c.args.self.now.file.held
     c.put_exits.new.self.held (g.S.Shelf.files c.args.shelf.now) (g.S.Shelf.files c.put_exits.new.shelf) stands
-    (subst (λ n. (bytes : List ℕ) → Holding n bytes c.args.file.now.held (g.S.Shelf.files c.args.shelf.now) →
-    Holding n (bytes ++ flat_map exit_record c.args.pair.now.exits) c.put_exits.new.self.held (g.S.Shelf.files c.put_exits.new.shelf))
+    (subst (λ n. (bytes : List ℕ) → Holding n bytes c.args.self.now.file.held (g.S.Shelf.files c.args.shelf.now) →
+    Holding n (bytes ++ flat_map exit_record c.args.self.now.pair.exits) c.put_exits.new.self.held (g.S.Shelf.files c.put_exits.new.shelf))
     (sym names) c.in_ok-put_exits.ensures.grown) in
     let now = outside c.put_refused.new.page (g.O.Sink.written c.put_refused.new.out) c.put_exits.new.self.held (g.S.Shelf.files c.put_exits.new.shelf) in
     let cause = cause_text (network pairing c.args.line.now.which).site_names c.in-Refused.why in
     noted_cut start (after_course pairing run c.args.line.now course (ending_of c.args.played))
-    (record { page = c.put_refused.new.page; line = c.put_refused.new.line; sent = c.args.desk.now.sent }) now
+    (record { page = c.put_refused.new.page; line = c.put_refused.new.line; sent = c.args.self.now.desk.sent }) now
     c.from_residual-in_err-put_refused-in-Refused.result _ c.from_residual-in_err-put_refused-in-Refused.ensures.1
     (subst (λ p. IsCut start (refused_texts (after_course pairing run c.args.line.now course (ending_of p)))
     (exits_file (after_course pairing run c.args.line.now course (ending_of p)).exits) now) (sym c.in-Refused.is)
-    (refused_cut start (goes_on run course) c.args.line.now.number cause c.args.desk.now.page c.put_refused.new.page (g.O.Sink.written c.args.out.now)
+    (refused_cut start (goes_on run course) c.args.line.now.number cause c.args.self.now.desk.page c.put_refused.new.page (g.O.Sink.written c.args.out.now)
     (g.O.Sink.written c.put_refused.new.out) c.put_exits.new.self.held c.put_exits.new.self.held (g.S.Shelf.files c.put_exits.new.shelf)
-    (subst (λ (t : Network). PutsPart (refused_line c.args.line.now.number (cause_text t.site_names c.in-Refused.why)) c.args.desk.now.page
+    (subst (λ (t : Network). PutsPart (refused_line c.args.line.now.number (cause_text t.site_names c.in-Refused.why)) c.args.self.now.desk.page
     (g.O.Sink.written c.args.out.now) (g.O.Sink.written c.put_refused.new.out)) (c.topology-topology.ensures ∙ ap (λ n. n.topology) c.net.ensures ∙ topology)
     c.in_err-put_refused-in-Refused.ensures.part) mid))
 
 pub returns-in_ok-put_refused-in-Refused-clause-noted : goal.returns-in_ok-put_refused-in-Refused-clause-noted
 returns-in_ok-put_refused-in-Refused-clause-noted g c = λ pairing start run course names topology exits sendings stands.
-    let mid = stands_out start run course c.args.pair.now.exits exits c.args.desk.now.page (g.O.Sink.written c.args.out.now) c.args.file.now.held
+    let mid = stands_out start run course c.args.self.now.pair.exits exits c.args.self.now.desk.page (g.O.Sink.written c.args.out.now) c.args.self.now.file.held
     c.put_exits.new.self.held (g.S.Shelf.files c.args.shelf.now) (g.S.Shelf.files c.put_exits.new.shelf) stands
-    (subst (λ n. (bytes : List ℕ) → Holding n bytes c.args.file.now.held (g.S.Shelf.files c.args.shelf.now) →
-    Holding n (bytes ++ flat_map exit_record c.args.pair.now.exits) c.put_exits.new.self.held (g.S.Shelf.files c.put_exits.new.shelf))
+    (subst (λ n. (bytes : List ℕ) → Holding n bytes c.args.self.now.file.held (g.S.Shelf.files c.args.shelf.now) →
+    Holding n (bytes ++ flat_map exit_record c.args.self.now.pair.exits) c.put_exits.new.self.held (g.S.Shelf.files c.put_exits.new.shelf))
     (sym names) c.in_ok-put_exits.ensures.grown) in
     let now = outside c.put_refused.new.page (g.O.Sink.written c.put_refused.new.out) c.put_exits.new.self.held (g.S.Shelf.files c.put_exits.new.shelf) in
     let cause = cause_text (network pairing c.args.line.now.which).site_names c.in-Refused.why in
-    let desk : Desk = record { page = c.put_refused.new.page; line = c.put_refused.new.line; sent = c.args.desk.now.sent } in
+    let desk : Desk = record { page = c.put_refused.new.page; line = c.put_refused.new.line; sent = c.args.self.now.desk.sent } in
     subst (λ p. IsNoted {T = Unit {0}} start (after_course pairing run c.args.line.now course (ending_of p)) desk now (Ok tt)) (sym c.in-Refused.is) (
       sendings,
-      refused_on start (goes_on run course) c.args.line.now.number cause c.args.desk.now.page c.put_refused.new.page (g.O.Sink.written c.args.out.now)
+      refused_on start (goes_on run course) c.args.line.now.number cause c.args.self.now.desk.page c.put_refused.new.page (g.O.Sink.written c.args.out.now)
           (g.O.Sink.written c.put_refused.new.out) c.put_exits.new.self.held (g.S.Shelf.files c.put_exits.new.shelf)
-          (subst (λ (t : Network). Puts (refused_line c.args.line.now.number (cause_text t.site_names c.in-Refused.why)) c.args.desk.now.page
+          (subst (λ (t : Network). Puts (refused_line c.args.line.now.number (cause_text t.site_names c.in-Refused.why)) c.args.self.now.desk.page
           c.put_refused.new.page (g.O.Sink.written c.args.out.now) (g.O.Sink.written c.put_refused.new.out))
           (c.topology-topology.ensures ∙ ap (λ n. n.topology) c.net.ensures ∙ topology) c.in_ok-put_refused-in-Refused.ensures.put) mid,
     )
