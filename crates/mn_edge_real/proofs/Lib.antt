@@ -1,1 +1,4 @@
 mod Writing
+mod Putting
+mod Refusing
+mod Places

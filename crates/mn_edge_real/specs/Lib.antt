@@ -1,3 +1,5 @@
 pub mod Reached
 pub mod Sinks
 pub mod Ends
+pub mod Failures
+pub mod Opened

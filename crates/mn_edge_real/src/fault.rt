@@ -3,6 +3,7 @@ ghost use Rattle.std.specs.Prelude.{◌≡◌, ◌↔◌, Err, Some};
 ghost use Rattle.std.specs.IoError.{error_kind};
 ghost use Rattle.mn_edge.specs.Faults.{Counted};
 ghost use Rattle.mn_edge.specs.declared.device.DeviceBad.TheVariants.{NoMemory};
+ghost use Rattle.mn_edge_real.specs.Failures.{Blames};
 
 use mn_edge::DeviceBad;
 use std::alloc::Global;
@@ -39,7 +40,10 @@ pub struct Failure {
 }
 
 impl Failure {
-    pub(crate) fn new(alloc: Global, call: Call, name: &str, error: Error) -> Failure {
+    pub(crate) fn new(alloc: Global, call: Call, name: &str, error: Error) -> Failure
+        ensures what { Blames call name.now result }
+        ensures why { result.error ≡ error }
+    {
         let name = match String::from_str(alloc, name) {
             Ok(name) => name,
             Err(_) => String::new(alloc),

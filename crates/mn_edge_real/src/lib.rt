@@ -11,14 +11,18 @@
 //! that the same read, asked for again and again, calls the system once.
 #![tactic(auto)]
 
+mod disk; // what a disk is asked, and the system's
 mod fault; // which failures count, and what is kept of the last one
 mod last_read; // what the last read gave
+mod mem_disk; // a disk in memory
 mod open_files; // the files that are open
 mod reads; // what reads gave
 mod shelf; // files by name
 mod sink; // a stream of bytes
 mod told; // how far files were told of
 
+pub use disk::{Disk, HostDisk, Mode};
 pub use fault::{Call, Failure};
-pub use shelf::HostShelf;
+pub use mem_disk::{MemDisk, MemFile};
+pub use shelf::{DiskShelf, HostShelf};
 pub use sink::HostSink;

@@ -1,5 +1,5 @@
 //! What reads gave.
-ghost use Rattle.std.specs.Prelude.{◌≡◌, ◌+◌, ◌-◌, ◌^◌, ◌<◌, ◌≤◌, ℕ, List, length, max, min, IsTrue, OnOk};
+ghost use Rattle.std.specs.Prelude.{◌≡◌, ◌+◌, ◌-◌, ◌^◌, ◌<◌, ◌≤◌, ℕ, List, [], length, max, min, string_bytes, IsTrue, OnOk};
 ghost use Rattle.mn_edge_real.specs.Reached.{IsTold, end_told};
 
 use crate::last_read::LastRead;
@@ -18,7 +18,8 @@ pub(crate) struct Reads {
 impl Reads {
     /// Nothing was read.
     pub(crate) fn new(alloc: Global) -> Reads
-        ensures { (name : List ℕ) → end_told result.told name ≡ 0 }
+        ensures told { (name : List ℕ) → end_told result.told name ≡ 0 }
+        ensures last { result.last.bytes.items ≡ [] }
     {
         Reads {
             alloc,
@@ -30,6 +31,9 @@ impl Reads {
     /// Fills the buffer by what the last read gave, where it was the same, and answers whether it did.
     pub(crate) fn repeat(&self, name: &str, at: u64, buf: &mut [u8]) -> bool
         ensures some { IsTrue result → 0 < length buf.new }
+        ensures bytes { IsTrue result → buf.new ≡ self.now.last.bytes.items }
+        ensures place { IsTrue result → self.now.last.at ≡ at }
+        ensures file { IsTrue result → string_bytes self.now.last.name ≡ name.now }
         ensures reached { IsTrue result → min (at + length buf.new) (2 ^ 64 - 1) ≤ end_told self.now.told name.now }
     {
         self.last.fill(name, at, buf)
@@ -50,7 +54,9 @@ impl Reads {
         count: usize,
         buf: &[u8],
     ) -> Result<(), AllocError>
-        ensures { OnOk result (end_told self.new.told name.now ≡ max (end_told self.old.told name.now) (min (at + count) (2 ^ 64 - 1))) }
+        ensures told { OnOk result (end_told self.new.told name.now ≡ max (end_told self.old.told name.now) (min (at + count) (2 ^ 64 - 1))) }
+        ensures last { 0 < length self.new.last.bytes.items → (self.new.last.bytes.items ≡ buf.now) × (length buf.now ≡ count)
+            × (self.new.last.at ≡ at) × (string_bytes self.new.last.name ≡ name.now) }
     {
         self.last.forget();
         self.told.reach(name, at.saturating_add(count as u64))?;
@@ -62,7 +68,8 @@ impl Reads {
 
     /// Nothing is known of the file any more.
     pub(crate) fn forget(&mut self, name: &str)
-        ensures { end_told self.new.told name.now ≡ 0 }
+        ensures told { end_told self.new.told name.now ≡ 0 }
+        ensures last { self.new.last.bytes.items ≡ [] }
     {
         self.last.forget();
         self.told.forget(name);

@@ -1,36 +1,58 @@
 //! Files by name.
-ghost use Rattle.std.specs.Prelude.{◌≡◌, ◌+◌, ◌^◌, ◌-◌, ◌≤◌, ◌<◌, [], None, Some, max, min, length, refl, IfOk, OnOk, OnErr};
+ghost use Rattle.std.specs.Prelude.{◌≡◌, ◌+◌, ◌^◌, ◌-◌, ◌≤◌, ◌<◌, [], None, Some, max, min, length, refl, option_copied, IfOk, IsSomeAnd, OnOk, OnErr};
 ghost use Rattle.std.specs.Option.{ForSome};
 ghost use Rattle.std.specs.Result.{result_err};
 ghost use Rattle.mn_edge.specs.Faults.{Counted, CountedUnless};
-ghost use Rattle.mn_edge.specs.Files.{Absent, Fetched, MayBegin, with_file};
-ghost use Rattle.mn_edge_real.specs.Ends.{end_of, untold};
+ghost use Rattle.mn_edge.specs.Files.{Absent, Fetched, Grows, MayBegin, MayGrow, with_file};
+ghost use Rattle.mn_edge_real.specs.Failures.{Blames};
+ghost use Rattle.mn_edge_real.specs.Ends.{end_of};
+ghost use Rattle.mn_edge_real.specs.Reached.{IsKept};
 
+use crate::disk::{Disk, HostDisk};
 use crate::fault::{Call, Failure, counted};
 use crate::open_files::OpenFiles;
 use crate::reads::Reads;
 use mn_edge::{DeviceBad, Shelf};
+use std::alloc::Global;
 use std::io;
 use std::io::{Error, ErrorKind};
 
-/// Files by name, at most 64 of them open at a time. It tells nothing of them.
+/// Files by name on a disk, at most 64 of them open at a time. It tells of them what the disk tells.
 #[derive(Drop)]
-pub struct HostShelf<'a> {
-    rt: &'a HostRuntime,
-    files: OpenFiles<'a>,
+pub struct DiskShelf<D: Disk + Drop> {
+    alloc: Global,
+    opened: OpenFiles<D>,
     reads: Reads,
     failure: Option<Failure>,
     read_faults: u64,
     write_faults: u64,
     refusal: Option<DeviceBad>,
+    pub ghost kept: { IsKept (D.files opened.disk) reads.last },
 }
 
-impl<'a> HostShelf<'a> {
-    pub fn new(rt: &'a HostRuntime) -> HostShelf<'a> {
-        HostShelf {
-            rt,
-            files: OpenFiles::new(rt),
-            reads: Reads::new(rt.alloc()),
+/// Files by name on the system's disk: nothing is told of them.
+pub type HostShelf<'a> = DiskShelf<HostDisk<'a>>;
+
+impl<'a> DiskShelf<HostDisk<'a>> {
+    pub fn new(rt: &'a HostRuntime) -> DiskShelf<HostDisk<'a>>
+        ensures { result.failure ≡ None }
+    {
+        DiskShelf::over(rt.alloc(), HostDisk { rt })
+    }
+}
+
+impl<D: Disk + Drop> DiskShelf<D> {
+    /// A shelf over a disk. Nothing was read of it, and nothing has failed.
+    pub fn over(alloc: Global, disk: D) -> DiskShelf<D>
+        ensures disk { result.opened.disk ≡ disk }
+        ensures failure { result.failure ≡ None }
+        ensures faults { (result.read_faults ≡ 0) × (result.write_faults ≡ 0) }
+        ensures refusal { result.refusal ≡ None }
+    {
+        DiskShelf {
+            alloc,
+            opened: OpenFiles::new(alloc, disk),
+            reads: Reads::new(alloc),
             failure: None,
             read_faults: 0,
             write_faults: 0,
@@ -42,20 +64,25 @@ impl<'a> HostShelf<'a> {
     pub fn open_files(&self) -> usize
         ensures { result ≤ 64 }
     {
-        self.files.len()
+        self.opened.len()
     }
 
     /// The call that failed last.
-    pub fn failure(&self) -> Option<&Failure> {
+    pub fn failure(&self) -> Option<&Failure>
+        ensures { option_copied result ≡ self.now.failure }
+    {
         self.failure.as_ref()
     }
 
     /// Reads, and keeps how far the file was told of. One that ends before that has lost bytes, which is an error. The same
     /// read, asked for again, is answered by what it gave.
     fn read(&mut self, name: &str, at: u64, buf: &mut [u8]) -> io::Result<usize>
-        ensures told { IfOk result (λ n. end_of self.new name.now
-            ≡ max (end_of self.old name.now) (min (at + n) (2 ^ 64 - 1))) }
-        ensures cut { IfOk result (λ n. n ≡ 0 → 0 < length buf.new → end_of self.old name.now ≤ at) }
+        ensures room { IfOk result (λ n. n ≤ length buf.new) }
+        ensures content { IfOk result (λ n. ForSome (D.files self.old.opened.disk) (λ m. Fetched m name.now at n buf.new)) }
+        ensures same { D.files self.new.opened.disk ≡ D.files self.old.opened.disk }
+        ensures told { IfOk result (λ n. end_of self.new.reads name.now
+            ≡ max (end_of self.old.reads name.now) (min (at + n) (2 ^ 64 - 1))) }
+        ensures cut { IfOk result (λ n. n ≡ 0 → 0 < length buf.new → end_of self.old.reads name.now ≤ at) }
         ensures reads { self.new.read_faults ≡ self.old.read_faults }
         ensures writes { self.new.write_faults ≡ self.old.write_faults }
         ensures last { self.new.refusal ≡ self.old.refusal }
@@ -63,7 +90,7 @@ impl<'a> HostShelf<'a> {
         if self.reads.repeat(name, at, buf) {
             return Ok(buf.len());
         }
-        let count = self.files.read_at(name, at, buf)?;
+        let count = self.opened.read_at(name, at, buf)?;
         if count == 0 && !buf.is_empty() && at < self.reads.end(name) {
             return Err(Error::from(ErrorKind::UnexpectedEof));
         }
@@ -72,8 +99,8 @@ impl<'a> HostShelf<'a> {
     }
 }
 
-impl<'a> Shelf for HostShelf<'a> {
-    ghost files = { λ s. None };
+impl<D: Disk + Drop> Shelf for DiskShelf<D> {
+    ghost files = { λ s. D.files s.opened.disk };
 
     ghost read_faults = { λ s. Some s.read_faults };
 
@@ -84,31 +111,26 @@ impl<'a> Shelf for HostShelf<'a> {
     fn fetch(&mut self, name: &str, at: u64, buf: &mut [u8]) -> Result<usize, DeviceBad>
         ensures room { IfOk result (λ n. n ≤ length buf.new) }
         ensures content { IfOk result (λ n.
-            ForSome untold (λ m. Fetched m name.now at n buf.new)) }
-        ensures same { untold ≡ untold }
-        ensures silent { untold ≡ None → untold ≡ None }
-        ensures reads { CountedUnless (Absent untold name.now)
+            ForSome (D.files self.old.opened.disk) (λ m. Fetched m name.now at n buf.new)) }
+        ensures same { D.files self.new.opened.disk ≡ D.files self.old.opened.disk }
+        ensures silent { D.files self.old.opened.disk ≡ None → D.files self.new.opened.disk ≡ None }
+        ensures reads { CountedUnless (Absent (D.files self.old.opened.disk) name.now)
             (Some self.old.read_faults) (Some self.new.read_faults) result }
         ensures writes { Some self.new.write_faults ≡ Some self.old.write_faults }
         ensures last { self.new.refusal ≡ result_err result }
 
-        // What this shelf says besides: a file that was told of further than this isn't at its end here.
-        ensures told { IfOk result (λ n. end_of self.new name.now
-            ≡ max (end_of self.old name.now) (min (at + n) (2 ^ 64 - 1))) }
-        ensures cut { IfOk result (λ n. n ≡ 0 → 0 < length buf.new → end_of self.old name.now ≤ at) }
+        // What this shelf says besides: a file that was told of further than this isn't at its end here, and what failed is kept.
+        ensures told { IfOk result (λ n. end_of self.new.reads name.now
+            ≡ max (end_of self.old.reads name.now) (min (at + n) (2 ^ 64 - 1))) }
+        ensures cut { IfOk result (λ n. n ≡ 0 → 0 < length buf.new → end_of self.old.reads name.now ≤ at) }
+        ensures blamed { OnErr result (IsSomeAnd self.new.failure (Blames Call.Read name.now)) }
     {
-        let room = buf.len();
         self.refusal = None;
         match self.read(name, at, buf) {
-            Ok(count) if count <= room => Ok(count),
-            Ok(_) => {
-                self.read_faults = self.read_faults.saturating_add(1);
-                self.refusal = Some(DeviceBad::Failed);
-                Err(DeviceBad::Failed)
-            }
+            Ok(count) => Ok(count),
             Err(error) => {
                 let bad = counted(&mut self.read_faults, &error);
-                self.failure = Some(Failure::new(self.rt.alloc(), Call::Read, name, error));
+                self.failure = Some(Failure::new(self.alloc, Call::Read, name, error));
                 self.refusal = Some(bad);
                 Err(bad)
             }
@@ -117,37 +139,51 @@ impl<'a> Shelf for HostShelf<'a> {
 
     fn begin(&mut self, name: &str) -> Result<(), DeviceBad>
         ensures made { OnOk result (
-            ForSome untold (λ m. untold ≡ Some (with_file m name.now []))) }
+            ForSome (D.files self.old.opened.disk) (λ m. D.files self.new.opened.disk ≡ Some (with_file m name.now []))) }
         ensures refused { OnErr result (
-            ForSome untold (λ m. MayBegin m name.now untold)) }
-        ensures silent { untold ≡ None → untold ≡ None }
+            ForSome (D.files self.old.opened.disk) (λ m. MayBegin m name.now (D.files self.new.opened.disk))) }
+        ensures silent { D.files self.old.opened.disk ≡ None → D.files self.new.opened.disk ≡ None }
         ensures writes { Counted (Some self.old.write_faults) (Some self.new.write_faults) result }
         ensures reads { Some self.new.read_faults ≡ Some self.old.read_faults }
         ensures last { self.new.refusal ≡ result_err result }
 
-        // What this shelf says besides: the file's end is wherever it now is.
-        ensures told { end_of self.new name.now ≡ 0 }
+        // What this shelf says besides: the file's end is wherever it now is, and what failed is kept.
+        ensures told { end_of self.new.reads name.now ≡ 0 }
+        ensures blamed { OnErr result (IsSomeAnd self.new.failure (Blames Call.Begin name.now)) }
     {
         self.refusal = None;
         self.reads.forget(name);
-        match self.files.begin(name) {
+        match self.opened.begin(name) {
             Ok(()) => Ok(()),
             Err(error) => {
                 let bad = counted(&mut self.write_faults, &error);
-                self.failure = Some(Failure::new(self.rt.alloc(), Call::Begin, name, error));
+                self.failure = Some(Failure::new(self.alloc, Call::Begin, name, error));
                 self.refusal = Some(bad);
                 Err(bad)
             }
         }
     }
 
-    fn append(&mut self, name: &str, piece: &[u8]) -> Result<(), DeviceBad> {
+    fn append(&mut self, name: &str, piece: &[u8]) -> Result<(), DeviceBad>
+        ensures grown { OnOk result (
+            ForSome (D.files self.old.opened.disk) (λ m. Grows m name.now piece.now (D.files self.new.opened.disk))) }
+        ensures refused { OnErr result (
+            ForSome (D.files self.old.opened.disk) (λ m. MayGrow m name.now piece.now (D.files self.new.opened.disk))) }
+        ensures silent { D.files self.old.opened.disk ≡ None → D.files self.new.opened.disk ≡ None }
+        ensures writes { CountedUnless (Absent (D.files self.old.opened.disk) name.now)
+            (Some self.old.write_faults) (Some self.new.write_faults) result }
+        ensures reads { Some self.new.read_faults ≡ Some self.old.read_faults }
+        ensures last { self.new.refusal ≡ result_err result }
+
+        // What this shelf says besides: what failed is kept.
+        ensures blamed { OnErr result (IsSomeAnd self.new.failure (Blames Call.Append name.now)) }
+    {
         self.refusal = None;
-        match self.files.append(name, piece) {
+        match self.opened.append(name, piece) {
             Ok(()) => Ok(()),
             Err(error) => {
                 let bad = counted(&mut self.write_faults, &error);
-                self.failure = Some(Failure::new(self.rt.alloc(), Call::Append, name, error));
+                self.failure = Some(Failure::new(self.alloc, Call::Append, name, error));
                 self.refusal = Some(bad);
                 Err(bad)
             }

@@ -1,5 +1,5 @@
 //! A stream of bytes.
-ghost use Rattle.std.specs.Prelude.{◌≡◌, ◌++◌, ℕ, [], None, Some, take, OnOk, OnErr};
+ghost use Rattle.std.specs.Prelude.{◌≡◌, ◌++◌, ℕ, [], None, Some, take, option_copied, IsSome, OnOk, OnErr};
 ghost use Rattle.std.specs.Option.{ForSome};
 ghost use Rattle.std.specs.Result.{result_err};
 ghost use Rattle.std.specs.Io.KnownBytes.{Keeps};
@@ -33,6 +33,7 @@ impl<W: Write + Drop> Model for HostSink<W> {
       waiting = writer_buffer s.inner;
       faults = s.faults;
       refusal = s.refusal;
+      failure = s.failure;
     } };
 }
 
@@ -43,6 +44,7 @@ impl<W: Write + Drop> HostSink<W> {
           waiting = writer_buffer inner;
           faults = 0;
           refusal = None;
+          failure = None;
         } }
     {
         HostSink {
@@ -54,7 +56,9 @@ impl<W: Write + Drop> HostSink<W> {
     }
 
     /// Why a put or a flush failed last.
-    pub fn failure(&self) -> Option<&Error> {
+    pub fn failure(&self) -> Option<&Error>
+        ensures { option_copied result ≡ self.now.failure }
+    {
         self.failure.as_ref()
     }
 
@@ -64,6 +68,7 @@ impl<W: Write + Drop> HostSink<W> {
         ensures kept { Keeps self.old.written self.new.written }
         ensures cause { Counted (Some self.old.faults) (Some self.new.faults) result }
         ensures last { self.new.refusal ≡ result_err result }
+        ensures why { OnErr result (IsSome self.new.failure) }
     {
         self.refusal = None;
         match self.inner.flush() {
@@ -85,7 +90,17 @@ impl<W: Write + Drop> Sink for HostSink<W> {
 
     ghost refusal = { λ s. s.refusal };
 
-    fn put(&mut self, piece: &[u8]) -> Result<(), DeviceBad> {
+    fn put(&mut self, piece: &[u8]) -> Result<(), DeviceBad>
+        ensures put { OnOk result (
+            ForSome self.old.written (λ t. self.new.written ≡ Some (t ++ piece.now))) }
+        ensures refused { OnErr result (ForSome self.old.written (λ t.
+            (n : ℕ) × (self.new.written ≡ Some (t ++ take n piece.now)))) }
+        ensures cause { Counted (Some self.old.faults) (Some self.new.faults) result }
+        ensures last { self.new.refusal ≡ result_err result }
+
+        // What this sink says besides: the error is kept.
+        ensures why { OnErr result (IsSome self.new.failure) }
+    {
         self.refusal = None;
         match write_whole(&mut self.inner, piece) {
             Ok(()) => Ok(()),
