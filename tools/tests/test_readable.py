@@ -11,11 +11,11 @@ FILES = {
     "crates/mn_low/src/lib.rt": "//! Low.\n//!\n//! - `named`: one\n\nmod named;\nmod other;\nmod third; // three\n",
     "crates/mn_low/src/named.rt": """\
 /// After want of memory nothing is `heard`.
-fn five(a: u8, b: (u8, u8, u8), c: Map<u8, u8>, d: fn(u8, u8) -> u8, e: u8) -> u8 {
+fn five<S: Low, O: Low>(a: u8, b: (u8, u8, u8), c: Map<u8, u8>, d: fn(u8, u8) -> u8, e: u8) -> u8 {
     unreachable!() // failed: bool
 }
 
-fn six(
+pub(crate) fn six<S: Low, O: Low>(
     &mut self, // one, two
     a: u8,
     b: u8,

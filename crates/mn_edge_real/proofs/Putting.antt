@@ -1,5 +1,6 @@
 -- A piece that is put behind a file's bytes part by part, and bytes of files that grow.
-use Rattle.std.proofs.Common.{◌≡◌, ◌⊎◌, ◌≤◌, ◌<◌, ◌+◌, ◌-◌, ℕ, Bool, true, false, cond, List, [], ◌++◌, Option, Some, None, take, drop, length, refl, ap, sym, ◌∙◌, subst, inl, inr, arith, length-drop}
+use Rattle.std.proofs.Common.{◌≡◌, ◌⊎◌, ◌≤◌, ◌<◌, ◌+◌, ◌-◌, ℕ, Bool, true, false, cond, List, [], ◌++◌, Option, Some, None, take, drop, length, refl, ap, sym}
+use Rattle.std.proofs.Common.{◌∙◌, subst, inl, inr, arith, length-drop}
 use Rattle.std.specs.Option.{ForSome}
 use Rattle.std.specs.Prelude.{string_bytes, option_map}
 use Rattle.std.proofs.Math.Seq.{take-add}
@@ -41,7 +42,8 @@ put_more first now new name piece done more so_far grew m is = elim (so_far m is
   | inr g ↦
       let then : Files = with_file m name (g.bytes ++ take done piece) in
       let h : Grows then name (take more (drop done piece)) new = grew then g.grown in
-      let was : h.bytes ≡ g.bytes ++ take done piece = same_some h.bytes (g.bytes ++ take done piece) (sym h.there ∙ file-made m name (g.bytes ++ take done piece)) in
+      let was : h.bytes ≡ g.bytes ++ take done piece = same_some h.bytes (g.bytes ++ take done piece) (sym h.there
+      ∙ file-made m name (g.bytes ++ take done piece)) in
       record {
         bytes = g.bytes;
         there = g.there;
@@ -54,7 +56,8 @@ put_more first now new name piece done more so_far grew m is = elim (so_far m is
     same_some : (a b : List ℕ) → Some a ≡ Some b → a ≡ b
     same_some a b e = cc
 
-pub put_on : (first new : Option Files) (name piece : List ℕ) (done : ℕ) → ForSome first (λ m. Grows m name (take done piece) new) → Put first new name piece done
+pub put_on : (first new : Option Files) (name piece : List ℕ) (done : ℕ) → ForSome first (λ m. Grows m name (take done piece) new) →
+    Put first new name piece done
 put_on first new name piece done grew m is = inr (grew m is)
 
 pub put_same : (first now new : Option Files) (name piece : List ℕ) (done : ℕ) → new ≡ now → Put first now name piece done → Put first new name piece done

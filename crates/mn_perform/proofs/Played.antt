@@ -67,6 +67,15 @@ no_table past (Run ticks) h = refl
 no_table past (Drain most) h = refl
 no_table past Flush h = refl
 
+-- a command that asks for no table
+pub not_shown : (command : Command) → ((table : show.Show) → command ≡ Show table → ⊥) → is_show command ≡ false
+not_shown (Show table) none = absurd (none table refl)
+not_shown (Do s) none = refl
+not_shown (Damage d) none = refl
+not_shown (Run ticks) none = refl
+not_shown (Drain most) none = refl
+not_shown Flush none = refl
+
 -- the ending of a line that was played
 abbrev pub EndsSo : Played → Ending → Type 0
 EndsSo All how = how ≡ ending.All

@@ -165,42 +165,16 @@ impl Output {
         &mut self,
         shelf: &mut S,
         file: u32,
-        tick: u64,
-        front: &[u8],
-        packet: &[u8],
+        seen: &CaptureRecord<'_>,
     ) -> Result<(), DeviceBad>
-        ensures puts { Puts (only_in file (record_of tick (front.now ++ packet.now))) self.old self.new (S.files shelf.old) (S.files shelf.new) result }
+        ensures puts { Puts (only_in file (record_of seen.now.tick (seen.now.front.now ++ seen.now.packet.now))) self.old self.new (S.files shelf.old) (S.files shelf.new) result }
         ensures stays { Stays S.files S.write_faults S.read_faults self.old self.new shelf.old shelf.new result }
     {
-        if packet.len() > MOST_JOINED {
-            self.put_parts(shelf, file, tick, front, packet)
+        if seen.packet.len() > MOST_JOINED {
+            self.put_parts(shelf, file, seen)
         } else {
-            self.put_joined(shelf, file, tick, front, packet)
+            self.put_line(shelf, file, seen)
         }
-    }
-
-    /// The same, as one piece.
-    #[inline(always)]
-    fn put_joined<S: Shelf>(
-        &mut self,
-        shelf: &mut S,
-        file: u32,
-        tick: u64,
-        front: &[u8],
-        packet: &[u8],
-    ) -> Result<(), DeviceBad>
-        ensures puts { Puts (only_in file (record_of tick (front.now ++ packet.now))) self.old self.new (S.files shelf.old) (S.files shelf.new) result }
-        ensures stays { Stays S.files S.write_faults S.read_faults self.old self.new shelf.old shelf.new result }
-    {
-        self.put_line(
-            shelf,
-            file,
-            &CaptureRecord {
-                tick,
-                front,
-                packet,
-            },
-        )
     }
 
     /// The same, in three pieces: none is taken back where there is no room for all of it.
@@ -208,20 +182,15 @@ impl Output {
         &mut self,
         shelf: &mut S,
         file: u32,
-        tick: u64,
-        front: &[u8],
-        packet: &[u8],
+        seen: &CaptureRecord<'_>,
     ) -> Result<(), DeviceBad>
-        ensures puts { Puts (only_in file (record_of tick (front.now ++ packet.now))) self.old self.new (S.files shelf.old) (S.files shelf.new) result }
+        ensures puts { Puts (only_in file (record_of seen.now.tick (seen.now.front.now ++ seen.now.packet.now))) self.old self.new (S.files shelf.old) (S.files shelf.new) result }
         ensures stays { Stays S.files S.write_faults S.read_faults self.old self.new shelf.old shelf.new result }
     {
-        self.put(
-            shelf,
-            file,
-            &record_header(tick, front.len() + packet.len()),
-        )?;
-        self.put(shelf, file, front)?;
-        self.put(shelf, file, packet)
+        let length = seen.front.len() + seen.packet.len();
+        self.put(shelf, file, &record_header(seen.tick, length))?;
+        self.put(shelf, file, seen.front)?;
+        self.put(shelf, file, seen.packet)
     }
 
     /// Appends all that waits.

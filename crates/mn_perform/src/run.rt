@@ -13,7 +13,7 @@ ghost use Rattle.mn_perform.specs.Whole.{ForRun, ForPackets, FilesOf, TextOf, En
 use crate::books::Books;
 use crate::desk::Desk;
 use crate::ended::{Ended, Fault};
-use crate::lines::perform_lines;
+use crate::lines::{Run, perform_lines};
 use mn_capture::Capture;
 use mn_edge::{Shelf, Sink};
 use mn_sched::Net;
@@ -23,70 +23,66 @@ use std::alloc::Global;
 
 /// Ends the files, and then the report.
 fn finish<S: Shelf, O: Sink>(
-    net: &Net,
+    run: &mut Run,
     how: Ended,
     shelf: &mut S,
     out: &mut O,
-    books: &mut Books,
-    desk: &mut Desk,
 ) -> Result<Ended, Fault>
-    requires files { IsFor books.old net.now.topology }
+    requires files { IsFor run.old.books run.old.net.topology }
     ensures same { OnOk result (result ≡ Ok how) }
-    ensures whole { OnOk result ((base : Files) (all : List (List ℕ)) → Framed books.old.names (Some base) (S.files shelf.old) → Stands all net.now books.old (S.files shelf.old) →
-        S.files shelf.new ≡ Some (laid (named books.old.names (whole_at net.now.topology all net.now.journal)) base)) }
-    ensures part { OnErr result ((base : Files) (all : List (List ℕ)) → Framed books.old.names (Some base) (S.files shelf.old) → Stands all net.now books.old (S.files shelf.old) →
-        PartWritten (named books.old.names (whole_at net.now.topology all net.now.journal)) base (S.files shelf.new)) }
-    ensures put { OnOk result ((all : List (List ℕ)) (before notes : List ℕ) → Stands all net.now books.old (S.files shelf.old) → PutOn before notes desk.old.page (O.written out.old) →
-        O.written out.new ≡ Some (before ++ (notes ++ last_text net.now desk.old how (packets_of net.now.topology net.now.journal (inputs_of all net.now.journal))))) }
-    ensures put_part { OnErr result ((all : List (List ℕ)) (before notes : List ℕ) → Stands all net.now books.old (S.files shelf.old) → PutOn before notes desk.old.page (O.written out.old) →
-        PartPut (notes ++ last_text net.now desk.old how (packets_of net.now.topology net.now.journal (inputs_of all net.now.journal))) before (O.written out.new)) }
-    ensures late { OnErr result ((base : Files) (all : List (List ℕ)) (before notes : List ℕ) → Framed books.old.names (Some base) (S.files shelf.old) →
-        Stands all net.now books.old (S.files shelf.old) → PutOn before notes desk.old.page (O.written out.old) →
-        (S.files shelf.new ≡ Some (laid (named books.old.names (whole_at net.now.topology all net.now.journal)) base)) ⊎ PartPut notes before (O.written out.new)) }
+    ensures whole { OnOk result ((base : Files) (all : List (List ℕ)) → Framed run.old.books.names (Some base) (S.files shelf.old) → Stands all run.old.net run.old.books (S.files shelf.old) →
+        S.files shelf.new ≡ Some (laid (named run.old.books.names (whole_at run.old.net.topology all run.old.net.journal)) base)) }
+    ensures part { OnErr result ((base : Files) (all : List (List ℕ)) → Framed run.old.books.names (Some base) (S.files shelf.old) → Stands all run.old.net run.old.books (S.files shelf.old) →
+        PartWritten (named run.old.books.names (whole_at run.old.net.topology all run.old.net.journal)) base (S.files shelf.new)) }
+    ensures put { OnOk result ((all : List (List ℕ)) (before notes : List ℕ) → Stands all run.old.net run.old.books (S.files shelf.old) → PutOn before notes run.old.desk.page (O.written out.old) →
+        O.written out.new ≡ Some (before ++ (notes ++ last_text run.old.net run.old.desk how (packets_of run.old.net.topology run.old.net.journal (inputs_of all run.old.net.journal))))) }
+    ensures put_part { OnErr result ((all : List (List ℕ)) (before notes : List ℕ) → Stands all run.old.net run.old.books (S.files shelf.old) → PutOn before notes run.old.desk.page (O.written out.old) →
+        PartPut (notes ++ last_text run.old.net run.old.desk how (packets_of run.old.net.topology run.old.net.journal (inputs_of all run.old.net.journal))) before (O.written out.new)) }
+    ensures late { OnErr result ((base : Files) (all : List (List ℕ)) (before notes : List ℕ) → Framed run.old.books.names (Some base) (S.files shelf.old) →
+        Stands all run.old.net run.old.books (S.files shelf.old) → PutOn before notes run.old.desk.page (O.written out.old) →
+        (S.files shelf.new ≡ Some (laid (named run.old.books.names (whole_at run.old.net.topology all run.old.net.journal)) base)) ⊎ PartPut notes before (O.written out.new)) }
     ensures unread { result ≢ Err Fault.Read }
-    ensures cause { Blamed ⊥ (Lacking books.old.names (S.files shelf.old))
+    ensures cause { Blamed ⊥ (Lacking run.old.books.names (S.files shelf.old))
         (S.read_faults shelf.old, S.write_faults shelf.old, O.faults out.old)
         (S.read_faults shelf.new, S.write_faults shelf.new, O.faults out.new) result }
 {
-    books.close(shelf, net)?;
-    desk.end(out, net, how)?;
+    run.books.close(shelf, &run.net)?;
+    run.desk.end(out, &run.net, how)?;
     Ok(how)
 }
 
 /// Plays a script on a network at its start, with the files begun and an empty desk.
 fn perform_script<S: Shelf, O: Sink>(
-    net: &mut Net,
+    run: &mut Run,
     lines: &[Line],
     shelf: &mut S,
     out: &mut O,
-    books: &mut Books,
     capture: &Capture,
-    desk: &mut Desk,
 ) -> Result<Ended, Fault>
-    requires fit { AllFit net.old.topology lines.now }
+    requires fit { AllFit run.old.net.topology lines.now }
     requires few { length lines.now ≤ most_script_lines }
-    requires tick { net.old.tick ≡ 0 }
-    requires refused { desk.old.refused ≡ 0 }
-    requires files { IsFor books.old net.old.topology }
-    requires start { ForSome (told_packets (S.files shelf.old) books.old.names capture.now) (λ all.
-        Keeps net.old.topology all (O.written out.old) (start_of (record { clock = 0; entries = [] })) net.old books.old desk.old (S.files shelf.old) (O.written out.old)) }
-    ensures ended { ForSome (told_packets (S.files shelf.old) books.old.names capture.now) (λ all. RunEnds net.old.topology all lines.now result) }
-    ensures files { ForSome (told_packets (S.files shelf.old) books.old.names capture.now) (λ all. (base : Files) → Framed books.old.names (Some base) (S.files shelf.old) →
-        RunFiles net.old.topology all lines.now books.old.names base (S.files shelf.new) result) }
-    ensures text { ForSome (told_packets (S.files shelf.old) books.old.names capture.now) (λ all. ForSome (O.written out.old) (λ before.
-        RunText net.old.topology all lines.now before (O.written out.new) result)) }
-    ensures late { ForSome (told_packets (S.files shelf.old) books.old.names capture.now) (λ all. (base : Files) → Framed books.old.names (Some base) (S.files shelf.old) →
-        ForSome (O.written out.old) (λ before. IsLate net.old.topology all lines.now books.old.names base (S.files shelf.new) before (O.written out.new))) }
-    ensures begun { ForSome (told_packets (S.files shelf.old) books.old.names capture.now) (λ all. (base : Files) → Framed books.old.names (Some base) (S.files shelf.old) →
-        BegunAtRead (running_files net.old.topology all lines.now books.old.names) base (S.files shelf.new) result) }
-    ensures untold { ForSome (told_packets (S.files shelf.old) books.old.names capture.now) (λ all. ForSome (O.written out.old) (λ before.
-        UntoldAtRead (notes_text net.old.topology all (expanded net.old.topology all lines.now)) before (O.written out.new) result)) }
-    ensures cause { Blamed (told_packets (S.files shelf.old) books.old.names capture.now ≡ None) (told_packets (S.files shelf.old) books.old.names capture.now ≡ None)
+    requires tick { run.old.net.tick ≡ 0 }
+    requires refused { run.old.desk.refused ≡ 0 }
+    requires files { IsFor run.old.books run.old.net.topology }
+    requires start { ForSome (told_packets (S.files shelf.old) run.old.books.names capture.now) (λ all.
+        Keeps run.old.net.topology all (O.written out.old) (start_of (record { clock = 0; entries = [] })) run.old.net run.old.books run.old.desk (S.files shelf.old) (O.written out.old)) }
+    ensures ended { ForSome (told_packets (S.files shelf.old) run.old.books.names capture.now) (λ all. RunEnds run.old.net.topology all lines.now result) }
+    ensures files { ForSome (told_packets (S.files shelf.old) run.old.books.names capture.now) (λ all. (base : Files) → Framed run.old.books.names (Some base) (S.files shelf.old) →
+        RunFiles run.old.net.topology all lines.now run.old.books.names base (S.files shelf.new) result) }
+    ensures text { ForSome (told_packets (S.files shelf.old) run.old.books.names capture.now) (λ all. ForSome (O.written out.old) (λ before.
+        RunText run.old.net.topology all lines.now before (O.written out.new) result)) }
+    ensures late { ForSome (told_packets (S.files shelf.old) run.old.books.names capture.now) (λ all. (base : Files) → Framed run.old.books.names (Some base) (S.files shelf.old) →
+        ForSome (O.written out.old) (λ before. IsLate run.old.net.topology all lines.now run.old.books.names base (S.files shelf.new) before (O.written out.new))) }
+    ensures begun { ForSome (told_packets (S.files shelf.old) run.old.books.names capture.now) (λ all. (base : Files) → Framed run.old.books.names (Some base) (S.files shelf.old) →
+        BegunAtRead (running_files run.old.net.topology all lines.now run.old.books.names) base (S.files shelf.new) result) }
+    ensures untold { ForSome (told_packets (S.files shelf.old) run.old.books.names capture.now) (λ all. ForSome (O.written out.old) (λ before.
+        UntoldAtRead (notes_text run.old.net.topology all (expanded run.old.net.topology all lines.now)) before (O.written out.new) result)) }
+    ensures cause { Blamed (told_packets (S.files shelf.old) run.old.books.names capture.now ≡ None) (told_packets (S.files shelf.old) run.old.books.names capture.now ≡ None)
         (S.read_faults shelf.old, S.write_faults shelf.old, O.faults out.old)
         (S.read_faults shelf.new, S.write_faults shelf.new, O.faults out.new) result }
 {
-    let how = perform_lines(net, lines, shelf, out, books, capture, desk)?;
-    finish(net, how, shelf, out, books, desk)
+    let how = perform_lines(run, lines, shelf, out, capture)?;
+    finish(run, how, shelf, out)
 }
 
 /// Plays the lines of a script on the network of a topology, over the packets of a capture. Writes the files of the
@@ -122,12 +118,13 @@ pub fn perform<S: Shelf, O: Sink>(
         (S.read_faults shelf.old, S.write_faults shelf.old, O.faults out.old)
         (S.read_faults shelf.new, S.write_faults shelf.new, O.faults out.new) result }
 {
-    let mut books = Books::open(alloc, shelf, &topology, folder)?;
-    let Ok(mut desk) = Desk::new(alloc) else {
+    let books = Books::open(alloc, shelf, &topology, folder)?;
+    let Ok(desk) = Desk::new(alloc) else {
         return Err(Fault::NoMemory);
     };
-    let Ok(mut net) = Net::new(alloc, topology) else {
+    let Ok(net) = Net::new(alloc, topology) else {
         return Err(Fault::NoMemory);
     };
-    perform_script(&mut net, lines, shelf, out, &mut books, capture, &mut desk)
+    let mut run = Run { net, books, desk };
+    perform_script(&mut run, lines, shelf, out, capture)
 }

@@ -41,28 +41,34 @@ fn named_packet<'a, S: Shelf>(
     }
 }
 
+/// A table that a line asks for, and the capture of which it may name a record.
+#[derive(Clone, Copy)]
+pub(crate) struct TableOver<'c> {
+    pub table: Show,
+    pub capture: &'c Capture,
+}
+
 /// Puts a table as the network stands. Where it names a record that can't be read again, nothing is put.
 pub(crate) fn put_shown<S: Shelf, O: Sink>(
     net: &Net,
-    table: Show,
+    asked: TableOver<'_>,
     shelf: &mut S,
     out: &mut O,
-    capture: &Capture,
     desk: &mut Desk,
 ) -> Result<(), Fault>
-    requires fits { command_fits net.now.topology (command.Show table) ≡ true }
-    ensures put { OnOk result ((names : List (List ℕ)) (all inputs : List (List ℕ)) → told_packets (S.files shelf.old) names capture.now ≡ Some all → StandsFor net.now inputs →
-        Puts (table_text net.now.topology net.now.journal inputs (packet_for all table) table) desk.old.page desk.new.page (O.written out.old) (O.written out.new)) }
-    ensures part { OnErr result ((names : List (List ℕ)) (all inputs : List (List ℕ)) → told_packets (S.files shelf.old) names capture.now ≡ Some all → StandsFor net.now inputs →
-        PutsPart (table_text net.now.topology net.now.journal inputs (packet_for all table) table) desk.old.page (O.written out.old) (O.written out.new)) }
+    requires fits { command_fits net.now.topology (command.Show asked.table) ≡ true }
+    ensures put { OnOk result ((names : List (List ℕ)) (all inputs : List (List ℕ)) → told_packets (S.files shelf.old) names asked.entry.capture.now ≡ Some all → StandsFor net.now inputs →
+        Puts (table_text net.now.topology net.now.journal inputs (packet_for all asked.entry.table) asked.entry.table) desk.old.page desk.new.page (O.written out.old) (O.written out.new)) }
+    ensures part { OnErr result ((names : List (List ℕ)) (all inputs : List (List ℕ)) → told_packets (S.files shelf.old) names asked.entry.capture.now ≡ Some all → StandsFor net.now inputs →
+        PutsPart (table_text net.now.topology net.now.journal inputs (packet_for all asked.entry.table) asked.entry.table) desk.old.page (O.written out.old) (O.written out.new)) }
     ensures sendings { desk.new.sendings ≡ desk.old.sendings }
     ensures refused { desk.new.refused ≡ desk.old.refused }
     ensures same { S.files shelf.new ≡ S.files shelf.old }
-    ensures cause { Blamed (Absent (S.files shelf.old) capture.now.name) ⊥
+    ensures cause { Blamed (Absent (S.files shelf.old) asked.entry.capture.now.name) ⊥
         (S.read_faults shelf.old, S.write_faults shelf.old, O.faults out.old)
         (S.read_faults shelf.new, S.write_faults shelf.new, O.faults out.new) result }
 {
     let mut fetched = Vec::new(*desk.line.allocator());
-    let packet = named_packet(table, shelf, capture, &mut fetched)?;
-    desk.show(out, net, table, packet)
+    let packet = named_packet(asked.table, shelf, asked.capture, &mut fetched)?;
+    desk.show(out, net, asked.table, packet)
 }

@@ -5,6 +5,7 @@ ghost use Rattle.mn_perform.specs.Recorded.{IsFor};
 ghost use Rattle.mn_perform.specs.Adding.{Puts, Stays, only_in};
 ghost use Rattle.mn_perform.specs.Parts.{by_number, item_part, items_part, IsMade, RecordsStep};
 
+use crate::capture_record::CaptureRecord;
 use crate::output::Output;
 use mn_edge::{DeviceBad, Shelf};
 use mn_files::deliveries_file;
@@ -25,7 +26,15 @@ fn write_delivery<S: Shelf>(
     ensures stays { Stays S.files S.write_faults S.read_faults output.old output.new shelf.old shelf.new result }
 {
     match net.delivered() {
-        Some(packet) => output.put_record(shelf, deliveries_file(), tick, &[], packet),
+        Some(packet) => output.put_record(
+            shelf,
+            deliveries_file(),
+            &CaptureRecord {
+                tick,
+                front: &[],
+                packet,
+            },
+        ),
         None => Ok(()),
     }
 }
@@ -49,7 +58,15 @@ fn write_item<S: Shelf>(
         return Ok(());
     };
     match item.channel {
-        Channel::Frame(_, _) => output.put_record(shelf, file, tick, &MPLS_OVER_PPP, item.bytes),
+        Channel::Frame(_, _) => output.put_record(
+            shelf,
+            file,
+            &CaptureRecord {
+                tick,
+                front: &MPLS_OVER_PPP,
+                packet: item.bytes,
+            },
+        ),
         _ => output.put(shelf, file, item.bytes),
     }
 }

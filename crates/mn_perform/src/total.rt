@@ -1,7 +1,7 @@
 //! A run that writes no file, and of whose report only the total is put.
 ghost use Rattle.std.specs.Prelude.{◌≡◌, ◌-◌, ◌+◌, ◌<◌, ◌≤◌, ◌^◌, true, false, [], List, ℕ, length, IfOk, OnOk, OnErr};
 ghost use Rattle.std.specs.Option.{ForSome};
-ghost use Rattle.mn_perform.specs.Prelude.{most_script_lines, command_fits, AllFit, inputs_of, Expansion, with_line, expanded, Puts, PutsPart, StandsFor, Network, is_show, IsPaced};
+ghost use Rattle.mn_perform.specs.Prelude.{most_script_lines, command_fits, AllFit, inputs_of, Expansion, with_line, expanded, Puts, PutsPart, StandsFor, Network, IsPaced};
 ghost use Rattle.mn_perform.specs.Faults.{SinkBlamed};
 ghost use Rattle.mn_perform.specs.Memory.{packets_at};
 ghost use Rattle.mn_perform.specs.Running.{is_stopped};
@@ -15,44 +15,6 @@ use mn_sched::{Net, Played, Stopped, play};
 use mn_script::{Command, Line};
 use mn_topo::Topology;
 use std::alloc::{AllocError, Global};
-
-/// Plays a line that isn't a table, and counts it where it is refused.
-fn tally_steps(
-    net: &mut Net,
-    line: &Line,
-    capture: &MemoryCapture,
-    refused: &mut u32,
-) -> Result<Ended, AllocError>
-    requires fits { command_fits net.old.topology line.now.command ≡ true }
-    requires shows { is_show line.now.command ≡ false }
-    requires early { net.old.tick ≤ 2 ^ 61 }
-    requires few { refused.old < 2 ^ 32 - 1 }
-    requires stands { StandsFor net.old (inputs_of (packets_at capture.now) net.old.journal) }
-    ensures topology { net.new.topology ≡ net.old.topology }
-    ensures clock { IfOk result (λ how. how ≡ Ended.All → IsPaced 1000000 net.old net.new) }
-    ensures refused { refused.new ≤ refused.old + 1 }
-    ensures played { IfOk result (λ how. (run : Expansion) → run.is_stopped ≡ false →
-        Plays net.old.topology (packets_at capture.now) run net.old refused.old →
-        PlayedTo net.old.topology (packets_at capture.now) (with_line net.old.topology (packets_at capture.now) run line.now) net.new refused.new how) }
-{
-    let mut watch = InMemory { capture };
-    match play(net, &line.command, &mut watch) {
-        Ok(Played::All) => Ok(Ended::All),
-        Ok(Played::Refused(_)) => {
-            *refused += 1;
-            Ok(Ended::All)
-        }
-        Ok(Played::NoRecord) => {
-            *refused += 1;
-            Ok(Ended::All)
-        }
-        Err(Stopped::TooManySteps) => Ok(Ended::TooManySteps),
-        // The watch has no faults.
-        Err(Stopped::Read) => unreachable!(),
-        Err(Stopped::Write) => unreachable!(),
-        Err(Stopped::NoMemory) => Err(AllocError),
-    }
-}
 
 /// Plays a line, and counts it where it is refused. A table is passed over.
 fn tally_line(
@@ -72,9 +34,25 @@ fn tally_line(
         Plays net.old.topology (packets_at capture.now) run net.old refused.old →
         PlayedTo net.old.topology (packets_at capture.now) (with_line net.old.topology (packets_at capture.now) run line.now) net.new refused.new how) }
 {
+    let mut watch = InMemory { capture };
     match line.command {
         Command::Show(_) => Ok(Ended::All),
-        _ => tally_steps(net, line, capture, refused),
+        _ => match play(net, &line.command, &mut watch) {
+            Ok(Played::All) => Ok(Ended::All),
+            Ok(Played::Refused(_)) => {
+                *refused += 1;
+                Ok(Ended::All)
+            }
+            Ok(Played::NoRecord) => {
+                *refused += 1;
+                Ok(Ended::All)
+            }
+            Err(Stopped::TooManySteps) => Ok(Ended::TooManySteps),
+            // The watch has no faults.
+            Err(Stopped::Read) => unreachable!(),
+            Err(Stopped::Write) => unreachable!(),
+            Err(Stopped::NoMemory) => Err(AllocError),
+        },
     }
 }
 
@@ -125,26 +103,32 @@ fn head<O: Sink>(out: &mut O, desk: &mut Desk, how: Ended, heading: &[u8]) -> Re
     }
 }
 
-/// Puts what the lines came to, of which so many were refused.
+/// How the lines of a script ended, and how many of them were refused.
+#[derive(Clone, Copy)]
+struct Tallied {
+    how: Ended,
+    refused: u32,
+}
+
+/// Puts what the lines came to.
 fn tell<O: Sink>(
     alloc: Global,
     out: &mut O,
     net: &Net,
-    how: Ended,
+    tallied: Tallied,
     heading: &[u8],
-    refused: u32,
 ) -> Result<(), Fault>
     ensures text { ForSome (O.written out.old) (λ before. (topology : Network) (all : List (List ℕ)) (run : Expansion) →
-        PlayedTo topology all run net.now refused how →
+        PlayedTo topology all run net.now tallied.refused tallied.how →
         PutsWhole (total_text heading.now topology all run) before (O.written out.new) result) }
     ensures cause { SinkBlamed (O.faults out.old) (O.faults out.new) result }
 {
     let Ok(mut desk) = Desk::new(alloc) else {
         return Err(Fault::NoMemory);
     };
-    desk.refused = refused;
-    head(out, &mut desk, how, heading)?;
-    desk.end(out, net, how)
+    desk.refused = tallied.refused;
+    head(out, &mut desk, tallied.how, heading)?;
+    desk.end(out, net, tallied.how)
 }
 
 /// Plays the lines of a script on the network of a topology, over a capture in memory. No file is written, and no
@@ -172,6 +156,6 @@ pub fn tally<O: Sink>(
     };
     let mut refused = 0;
     let how = tally_lines(&mut net, lines, capture, &mut refused)?;
-    tell(alloc, out, &net, how, heading, refused)?;
+    tell(alloc, out, &net, Tallied { how, refused }, heading)?;
     Ok(how)
 }

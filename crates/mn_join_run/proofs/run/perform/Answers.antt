@@ -36,7 +36,8 @@ returns-in_default-clause-ends g c = λ pairing stands goes m is bytes there.
 pub finish-requires : goal.finish-requires
 finish-requires g c =
     let start : Start = start_in c.args.script.now.folder.now (g.S.Shelf.files c.args.shelf.now) (g.O.Sink.written c.args.out.now) in
-    let stands = stands_at_start c.args.script.now.folder.now (g.S.Shelf.files c.args.shelf.now) (g.S.Shelf.files c.open.new.shelf) (g.O.Sink.written c.args.out.now)
+    let stands = stands_at_start c.args.script.now.folder.now (g.S.Shelf.files c.args.shelf.now) (g.S.Shelf.files c.open.new.shelf)
+    (g.O.Sink.written c.args.out.now)
     c.in-Ok.desk.page c.in_ok-file.file.held c.in_ok-file.file.names c.in_ok-file.ensures.names c.in-Ok.ensures.page c.in_ok-file.ensures.held in
     let first = c.requires.start in
     let all = c.in_ok-how.ensures.went first.pairing start (sym c.in_ok-file.ensures.names)
@@ -49,7 +50,8 @@ pub returns-in_err-how-clause-ends : goal.returns-in_err-how-clause-ends
 returns-in_err-how-clause-ends g c = λ pairing at_first goes m is bytes there.
     let start : Start = start_in c.args.script.now.folder.now (g.S.Shelf.files c.args.shelf.now) (g.O.Sink.written c.args.out.now) in
     let packets = packets_in c.args.script.now.capture.now bytes in
-    let stands = stands_at_start c.args.script.now.folder.now (g.S.Shelf.files c.args.shelf.now) (g.S.Shelf.files c.open.new.shelf) (g.O.Sink.written c.args.out.now)
+    let stands = stands_at_start c.args.script.now.folder.now (g.S.Shelf.files c.args.shelf.now) (g.S.Shelf.files c.open.new.shelf)
+    (g.O.Sink.written c.args.out.now)
     c.in-Ok.desk.page c.in_ok-file.file.held c.in_ok-file.file.names c.in_ok-file.ensures.names c.in-Ok.ensures.page c.in_ok-file.ensures.held in
     let framed = subst (λ n. Framed n (g.S.Shelf.files c.args.shelf.now) (g.S.Shelf.files c.open.new.shelf)) c.in_ok-file.ensures.names
     c.in_ok-file.ensures.framed in
@@ -59,9 +61,11 @@ returns-in_err-how-clause-ends g c = λ pairing at_first goes m is bytes there.
     (keeps_at_start pairing start c.args.pair c.in-Ok.desk
     (outside c.in-Ok.desk.page (g.O.Sink.written c.args.out.now) c.in_ok-file.file.held (g.S.Shelf.files c.open.new.shelf)) at_first goes
     c.in-Ok.ensures.sent stands) in
-    subst (RunEnds pairing start (run_of pairing packets c.args.script.now.lines.now) (g.S.Shelf.files c.do_lines.new.shelf) (g.O.Sink.written c.do_lines.new.out))
+    subst (RunEnds pairing start (run_of pairing packets c.args.script.now.lines.now) (g.S.Shelf.files c.do_lines.new.shelf)
+    (g.O.Sink.written c.do_lines.new.out))
     (sym (err_is c.from_residual-in_err-how.result c.in_err-how.field-0.0 c.from_residual-in_err-how.ensures.1))
-    (lines_break pairing start (g.S.Shelf.files c.open.new.shelf) c.args.script.now.capture.now c.args.script.now.lines.now packets c.do_lines.new.self.pair c.do_lines.new.self.desk
+    (lines_break pairing start (g.S.Shelf.files c.open.new.shelf) c.args.script.now.capture.now c.args.script.now.lines.now packets c.do_lines.new.self.pair
+    c.do_lines.new.self.desk
     (outside c.do_lines.new.self.desk.page (g.O.Sink.written c.do_lines.new.out) c.do_lines.new.self.file.held (g.S.Shelf.files c.do_lines.new.shelf))
     c.in_err-how.field-0.0 told all
     (framed_both start.names _ _ _ framed (subst (λ n. Framed n (g.S.Shelf.files c.open.new.shelf) (g.S.Shelf.files c.do_lines.new.shelf))
@@ -71,7 +75,8 @@ pub returns-clause-ends : goal.returns-clause-ends
 returns-clause-ends g c = λ pairing at_first goes m is bytes there.
     let start : Start = start_in c.args.script.now.folder.now (g.S.Shelf.files c.args.shelf.now) (g.O.Sink.written c.args.out.now) in
     let packets = packets_in c.args.script.now.capture.now bytes in
-    let stands = stands_at_start c.args.script.now.folder.now (g.S.Shelf.files c.args.shelf.now) (g.S.Shelf.files c.open.new.shelf) (g.O.Sink.written c.args.out.now)
+    let stands = stands_at_start c.args.script.now.folder.now (g.S.Shelf.files c.args.shelf.now) (g.S.Shelf.files c.open.new.shelf)
+    (g.O.Sink.written c.args.out.now)
     c.in-Ok.desk.page c.in_ok-file.file.held c.in_ok-file.file.names c.in_ok-file.ensures.names c.in-Ok.ensures.page c.in_ok-file.ensures.held in
     let framed = subst (λ n. Framed n (g.S.Shelf.files c.args.shelf.now) (g.S.Shelf.files c.open.new.shelf)) c.in_ok-file.ensures.names
     c.in_ok-file.ensures.framed in
@@ -81,7 +86,8 @@ returns-clause-ends g c = λ pairing at_first goes m is bytes there.
     (keeps_at_start pairing start c.args.pair c.in-Ok.desk
     (outside c.in-Ok.desk.page (g.O.Sink.written c.args.out.now) c.in_ok-file.file.held (g.S.Shelf.files c.open.new.shelf)) at_first goes
     c.in-Ok.ensures.sent stands) in
-    lines_end pairing start (g.S.Shelf.files c.open.new.shelf) (g.S.Shelf.files c.finish.new.shelf) c.args.script.now.capture.now c.args.script.now.lines.now packets
+    lines_end pairing start (g.S.Shelf.files c.open.new.shelf) (g.S.Shelf.files c.finish.new.shelf) c.args.script.now.capture.now c.args.script.now.lines.now
+    packets
     c.do_lines.new.self.pair c.do_lines.new.self.desk
     (outside c.do_lines.new.self.desk.page (g.O.Sink.written c.do_lines.new.out) c.do_lines.new.self.file.held (g.S.Shelf.files c.do_lines.new.shelf))
     (g.O.Sink.written c.finish.new.out) c.in_ok-how.how c.finish.result told all
@@ -100,7 +106,8 @@ returns-in_err-how-clause-cause g c =
       packets_in c.args.script.now.capture.now bytes,
       subst (λ n. told_packets (g.S.Shelf.files c.open.new.shelf) n c.args.script.now.capture.now ≡ Some (packets_in c.args.script.now.capture.now bytes))
           (sym c.in_ok-file.ensures.names)
-          (packets_told c.args.script.now.folder.now c.args.script.now.capture.now c.requires.start.pairing.first m (g.S.Shelf.files c.open.new.shelf) bytes c.requires.apart
+          (packets_told c.args.script.now.folder.now c.args.script.now.capture.now c.requires.start.pairing.first m (g.S.Shelf.files c.open.new.shelf) bytes
+          c.requires.apart
           (subst (λ n. Framed n (Some m) (g.S.Shelf.files c.open.new.shelf)) c.in_ok-file.ensures.names
           (subst (λ o. Framed names o (g.S.Shelf.files c.open.new.shelf)) is c.in_ok-file.ensures.framed)) there),
     )) in

@@ -54,7 +54,7 @@ returns-in-TooManySteps-clause-went g c = λ all told.
     let at = l.invariant.at all told in
     let told_now = ap (λ n. told_packets (g.S.Shelf.files l.shelf) n c.args.capture.now) l.invariant.names ∙ l.invariant.told ∙ told in
     stops _ _ _ c.args.lines.now l.line-index c.line-item.result c.loop-line-test.true c.line-item.is at.run at.running at.rest _ _ _ _ _
-    (line_went _ _ _ _ at.run c.line-item.result _ _ _ _ _ c.perform_line.new.net c.perform_line.new.books c.perform_line.new.desk
+    (line_went _ _ _ _ at.run c.line-item.result _ _ _ _ _ c.perform_line.new.run.net c.perform_line.new.run.books c.perform_line.new.run.desk
     (g.S.Shelf.files c.perform_line.new.shelf)
     (g.O.Sink.written c.perform_line.new.out) (Ok TooManySteps) l.invariant.topology
     (rw c.in-TooManySteps.is at (c.in_ok-perform_line.ensures.went all told_now)) at.running at.keeps)
@@ -65,10 +65,10 @@ returns-in_err-perform_line-clause-went g c = λ all told.
     let at = l.invariant.at all told in
     let told_now = ap (λ n. told_packets (g.S.Shelf.files l.shelf) n c.args.capture.now) l.invariant.names ∙ l.invariant.told ∙ told in
     rw (err_is c.from_residual.result c.in_err-perform_line.field-0.0 c.from_residual.ensures.1)
-    (breaks _ _ _ c.args.lines.now l.line-index c.line-item.result c.loop-line-test.true c.line-item.is at.run at.running at.rest c.perform_line.new.net
-    c.perform_line.new.books c.perform_line.new.desk _ _
+    (breaks _ _ _ c.args.lines.now l.line-index c.line-item.result c.loop-line-test.true c.line-item.is at.run at.running at.rest c.perform_line.new.run.net
+    c.perform_line.new.run.books c.perform_line.new.run.desk _ _
     c.in_err-perform_line.field-0.0
-    (line_went _ _ _ _ at.run c.line-item.result _ _ _ _ _ c.perform_line.new.net c.perform_line.new.books c.perform_line.new.desk _ _
+    (line_went _ _ _ _ at.run c.line-item.result _ _ _ _ _ c.perform_line.new.run.net c.perform_line.new.run.books c.perform_line.new.run.desk _ _
     (Err c.in_err-perform_line.field-0.0) l.invariant.topology
     (c.in_err-perform_line.ensures.went all told_now) at.running at.keeps))
 
@@ -93,7 +93,7 @@ loop-line-preserved g c =
           let at = l.invariant.at all told in
           let told_now = ap (λ n. told_packets (g.S.Shelf.files l.shelf) n c.args.capture.now) l.invariant.names ∙ l.invariant.told ∙ told in
           goes_on _ _ _ c.args.lines.now l.line-index c.line-item.result c.loop-line-test.true c.line-item.is at.run at.running at.rest _ _ _ _ _
-          (line_went _ _ _ _ at.run c.line-item.result _ _ _ _ _ c.perform_line.new.net c.perform_line.new.books c.perform_line.new.desk
+          (line_went _ _ _ _ at.run c.line-item.result _ _ _ _ _ c.perform_line.new.run.net c.perform_line.new.run.books c.perform_line.new.run.desk
           (g.S.Shelf.files c.perform_line.new.shelf)
           (g.O.Sink.written c.perform_line.new.out) (Ok All) l.invariant.topology (rw c.in-All.is at (done.went all told_now)) at.running at.keeps);
       reads = done.cause.0 ∙ l.invariant.reads;
@@ -115,8 +115,8 @@ perform_line-requires-clause-files g c =
 pub returns-in_err-perform_line-clause-cause : goal.returns-in_err-perform_line-clause-cause
 returns-in_err-perform_line-clause-cause g c =
     let l = c.loop-line in
-    let untold : Type 0 = told_packets (g.S.Shelf.files c.args.shelf.now) c.args.books.now.names c.args.capture.now ≡ None in
-    let now : Type 0 = told_packets (g.S.Shelf.files l.shelf) l.books.names c.args.capture.now ≡ None in
+    let untold : Type 0 = told_packets (g.S.Shelf.files c.args.shelf.now) c.args.run.now.books.names c.args.capture.now ≡ None in
+    let now : Type 0 = told_packets (g.S.Shelf.files l.shelf) l.run.books.names c.args.capture.now ≡ None in
     let still : now → untold = λ none. sym (ap (λ n. told_packets (g.S.Shelf.files l.shelf) n c.args.capture.now) l.invariant.names ∙ l.invariant.told)
     ∙ none in
     rw (err_is c.from_residual.result c.in_err-perform_line.field-0.0 c.from_residual.ensures.1)

@@ -19,7 +19,7 @@ returns-in_err-end-clause-part g c =
 pub returns-in_err-end-clause-put_part : goal.returns-in_err-end-clause-put_part
 returns-in_err-end-clause-put_part g c =
     err c.from_residual-in_err-end.result _
-    (λ all before notes stands on. c.in_err-end.ensures.part (inputs_of all c.args.net.now.journal) before notes stands.stands on)
+    (λ all before notes stands on. c.in_err-end.ensures.part (inputs_of all c.args.run.now.net.journal) before notes stands.stands on)
 
 pub returns-in_err-close-clause-unread : goal.returns-in_err-close-clause-unread
 returns-in_err-close-clause-unread g c = λ e.

@@ -10,7 +10,7 @@ use Rattle.mn_perform.proofs.run.perform_script.Goals as goal
 
 pub returns-clause-files : goal.returns-clause-files
 returns-clause-files g c = λ all told base framed.
-    run_files _ _ _ c.args.lines.now _ _ _ _ _ _ (c.in_ok-how.ensures.went all told) c.args.books.now.names base _ _ c.perform_lines.ensures.names
+    run_files _ _ _ c.args.lines.now _ _ _ _ _ _ (c.in_ok-how.ensures.went all told) c.args.run.now.books.names base _ _ c.perform_lines.ensures.names
     (framed_both _ _ _ _ framed c.perform_lines.ensures.framed) c.finish.ensures.whole c.finish.ensures.part
 
 pub returns-clause-text : goal.returns-clause-text
@@ -19,20 +19,20 @@ returns-clause-text g c = λ all told before is.
 
 pub returns-clause-late : goal.returns-clause-late
 returns-clause-late g c = λ all told base framed before is.
-    run_late _ _ _ c.args.lines.now _ _ _ _ _ _ (c.in_ok-how.ensures.went all told) c.args.books.now.names base before _ _ _ c.perform_lines.ensures.names
+    run_late _ _ _ c.args.lines.now _ _ _ _ _ _ (c.in_ok-how.ensures.went all told) c.args.run.now.books.names base before _ _ _ c.perform_lines.ensures.names
     (framed_both _ _ _ _ framed c.perform_lines.ensures.framed) is c.finish.ensures.whole c.finish.ensures.late
 
 pub returns-in_err-how-clause-files : goal.returns-in_err-how-clause-files
 returns-in_err-how-clause-files g c = λ all told base framed.
     rw (err_is c.from_residual.result c.in_err-how.field-0.0 c.from_residual.ensures.1)
-    (broken_files _ _ _ c.args.lines.now _ c.args.books.now.names base _ _ c.perform_lines.ensures.names (c.in_err-how.ensures.went all told)
+    (broken_files _ _ _ c.args.lines.now _ c.args.run.now.books.names base _ _ c.perform_lines.ensures.names (c.in_err-how.ensures.went all told)
     (framed_both _ _ _ _ framed c.perform_lines.ensures.framed))
 
 pub returns-in_err-how-clause-text : goal.returns-in_err-how-clause-text
 returns-in_err-how-clause-text g c =
     λ all told before is.
     rw (err_is c.from_residual.result c.in_err-how.field-0.0 c.from_residual.ensures.1)
-    (notes_begin c.args.net.now.topology all (expanded c.args.net.now.topology all c.args.lines.now) before _
+    (notes_begin c.args.run.now.net.topology all (expanded c.args.run.now.net.topology all c.args.lines.now) before _
     ((c.in_err-how.ensures.went all told).text before is))
 
 pub returns-clause-begun : goal.returns-clause-begun
@@ -41,7 +41,7 @@ returns-clause-begun g c = λ all told base framed. no_read _ base _ c.finish.re
 pub returns-in_err-how-clause-begun : goal.returns-in_err-how-clause-begun
 returns-in_err-how-clause-begun g c = λ all told base framed.
     rw (err_is c.from_residual.result c.in_err-how.field-0.0 c.from_residual.ensures.1)
-    (broken_begun _ _ _ c.args.lines.now _ c.args.books.now.names base _ _ c.in_err-how.field-0.0 c.perform_lines.ensures.names
+    (broken_begun _ _ _ c.args.lines.now _ c.args.run.now.books.names base _ _ c.in_err-how.field-0.0 c.perform_lines.ensures.names
     (c.in_err-how.ensures.went all told)
     (framed_both _ _ _ _ framed c.perform_lines.ensures.framed))
 
@@ -55,9 +55,9 @@ returns-in_err-how-clause-untold g c = λ all told before is.
 
 pub returns-clause-cause : goal.returns-clause-cause
 returns-clause-cause g c =
-    let untold : Type 0 = told_packets (g.S.Shelf.files c.args.shelf.now) c.args.books.now.names c.args.capture.now ≡ None in
+    let untold : Type 0 = told_packets (g.S.Shelf.files c.args.shelf.now) c.args.run.now.books.names c.args.capture.now ≡ None in
     blamed_after untold untold _ _ _ c.finish.result c.in_ok-how.ensures.cause.0 c.in_ok-how.ensures.cause.1 c.in_ok-how.ensures.cause.2
     (blamed_by _ _ untold untold _ _ c.finish.result (λ never. absurd never)
-    (lacking_then (told_packets (g.S.Shelf.files c.args.shelf.now) c.args.books.now.names c.args.capture.now) c.perform_lines.new.books.names
+    (lacking_then (told_packets (g.S.Shelf.files c.args.shelf.now) c.args.run.now.books.names c.args.capture.now) c.perform_lines.new.run.books.names
     (g.S.Shelf.files c.perform_lines.new.shelf) (λ all told. let w = c.in_ok-how.ensures.went all told in holds_there _ _ _ _ w.0.holds))
     c.finish.ensures.cause)

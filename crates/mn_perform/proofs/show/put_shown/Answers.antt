@@ -17,14 +17,14 @@ pub returns-clause-put : goal.returns-clause-put
 returns-clause-put g c =
     ok_then c.show.result _ _ c.show.ensures.put
     (λ puts names all inputs told stands.
-    subst (λ p. Puts (table_text c.args.net.now.topology c.args.net.now.journal inputs p c.args.table) c.args.desk.now.page c.show.new.self.page
+    subst (λ p. Puts (table_text c.args.net.now.topology c.args.net.now.journal inputs p c.args.asked.table) c.args.desk.now.page c.show.new.self.page
     (g.O.Sink.written c.args.out.now) (g.O.Sink.written c.show.new.out)) (c.in_ok-packet.ensures.named names all told) (puts inputs stands))
 
 pub returns-clause-part : goal.returns-clause-part
 returns-clause-part g c =
     err_then c.show.result _ _ c.show.ensures.part
     (λ part names all inputs told stands.
-    subst (λ p. PutsPart (table_text c.args.net.now.topology c.args.net.now.journal inputs p c.args.table) c.args.desk.now.page
+    subst (λ p. PutsPart (table_text c.args.net.now.topology c.args.net.now.journal inputs p c.args.asked.table) c.args.desk.now.page
     (g.O.Sink.written c.args.out.now) (g.O.Sink.written c.show.new.out)) (c.in_ok-packet.ensures.named names all told) (part inputs stands))
 
 pub returns-clause-cause : goal.returns-clause-cause

@@ -57,7 +57,8 @@ returns-in_err-put_refused-in-Ok-None-clause-went g c = λ pairing start run nam
     record {
       packet = None;
       is_packet = rw c.in-Ok-None.field-0-is at (c.in-Ok-None.ensures.told start.names);
-      went = went_cut pairing start (with_packet pairing run c.args.line.now None) c.args.self.now.pair desk now c.from_residual.result _ c.from_residual.ensures.1
+      went = went_cut pairing start (with_packet pairing run c.args.line.now None) c.args.self.now.pair desk now c.from_residual.result _
+          c.from_residual.ensures.1
           (refused_cut start run c.args.line.now.number (codes "NoRecord") c.args.self.now.desk.page c.put_refused.new.page (g.O.Sink.written c.args.out.now)
           (g.O.Sink.written c.put_refused.new.out) c.args.self.now.file.held c.args.self.now.file.held
           (g.S.Shelf.files c.fetch.new.shelf) c.in_err-put_refused-in-Ok-None.ensures.part

@@ -37,7 +37,8 @@ returns-in-TooManySteps-clause-went g c = λ pairing start names keeps.
     let at = l.invariant.at pairing start names keeps in
     let same = same_packets start.names c.args.script.now.capture.now (g.S.Shelf.files c.args.shelf.now) (g.S.Shelf.files l.shelf)
     (subst (λ n. Framed n (g.S.Shelf.files c.args.shelf.now) (g.S.Shelf.files l.shelf)) (sym names) l.invariant.framed) in
-    stops pairing start (g.S.Shelf.files c.args.shelf.now) (g.S.Shelf.files l.shelf) c.args.script.now.capture.now c.args.script.now.lines.now l.line-index c.line-item.result
+    stops pairing start (g.S.Shelf.files c.args.shelf.now) (g.S.Shelf.files l.shelf) c.args.script.now.capture.now c.args.script.now.lines.now l.line-index
+    c.line-item.result
     c.loop-line-test.true c.line-item.is same at.run at.keeps.running at.rest c.do_line.new.self.pair c.do_line.new.self.desk
     (outside c.do_line.new.self.desk.page (g.O.Sink.written c.do_line.new.out) c.do_line.new.self.file.held (g.S.Shelf.files c.do_line.new.shelf))
     (rw c.in-TooManySteps.is at (c.in_ok-do_line.ensures.went pairing start at.run (names ∙ sym l.invariant.names) at.keeps))
@@ -49,7 +50,8 @@ returns-in_err-do_line-clause-went g c = λ pairing start names keeps.
     let same = same_packets start.names c.args.script.now.capture.now (g.S.Shelf.files c.args.shelf.now) (g.S.Shelf.files l.shelf)
     (subst (λ n. Framed n (g.S.Shelf.files c.args.shelf.now) (g.S.Shelf.files l.shelf)) (sym names) l.invariant.framed) in
     rw (err_is c.from_residual.result c.in_err-do_line.field-0.0 c.from_residual.ensures.1)
-    (breaks pairing start (g.S.Shelf.files c.args.shelf.now) (g.S.Shelf.files l.shelf) c.args.script.now.capture.now c.args.script.now.lines.now l.line-index c.line-item.result
+    (breaks pairing start (g.S.Shelf.files c.args.shelf.now) (g.S.Shelf.files l.shelf) c.args.script.now.capture.now c.args.script.now.lines.now l.line-index
+    c.line-item.result
     c.loop-line-test.true c.line-item.is same at.run at.keeps.running at.rest c.do_line.new.self.pair c.do_line.new.self.desk
     (outside c.do_line.new.self.desk.page (g.O.Sink.written c.do_line.new.out) c.do_line.new.self.file.held (g.S.Shelf.files c.do_line.new.shelf))
     c.in_err-do_line.field-0.0
@@ -68,7 +70,8 @@ loop-line-preserved g c =
           let at = l.invariant.at pairing start names keeps in
           let same = same_packets start.names c.args.script.now.capture.now (g.S.Shelf.files c.args.shelf.now) (g.S.Shelf.files l.shelf)
           (subst (λ n. Framed n (g.S.Shelf.files c.args.shelf.now) (g.S.Shelf.files l.shelf)) (sym names) l.invariant.framed) in
-          goes_on pairing start (g.S.Shelf.files c.args.shelf.now) (g.S.Shelf.files l.shelf) c.args.script.now.capture.now c.args.script.now.lines.now l.line-index
+          goes_on pairing start (g.S.Shelf.files c.args.shelf.now) (g.S.Shelf.files l.shelf) c.args.script.now.capture.now c.args.script.now.lines.now
+          l.line-index
           c.line-item.result c.loop-line-test.true c.line-item.is same at.run at.keeps.running at.rest c.do_line.new.self.pair c.do_line.new.self.desk
           (outside c.do_line.new.self.desk.page (g.O.Sink.written c.do_line.new.out) c.do_line.new.self.file.held (g.S.Shelf.files c.do_line.new.shelf))
           (rw c.in-All.is at (done.went pairing start at.run (names ∙ sym l.invariant.names) at.keeps));
@@ -80,7 +83,8 @@ loop-line-preserved g c =
 pub returns-clause-went : goal.returns-clause-went
 returns-clause-went g c = λ pairing start names keeps.
     let l = c.loop-line in
-    all_gone pairing start _ c.args.script.now.capture.now c.args.script.now.lines.now l.line-index _ _ _ (let e : l.line-index ≡ length c.args.script.now.lines.now =
+    all_gone pairing start _ c.args.script.now.capture.now c.args.script.now.lines.now l.line-index _ _ _
+    (let e : l.line-index ≡ length c.args.script.now.lines.now =
     omega (arith, l.auto.line-index-end, c.loop-line-test.false) in e)
     (l.invariant.at pairing start names keeps)
 
@@ -95,12 +99,14 @@ returns-in_err-do_line-clause-cause g c =
     (g.S.Shelf.read_faults l.shelf, g.S.Shelf.write_faults l.shelf, g.O.Sink.faults l.out)
     (g.S.Shelf.read_faults c.do_line.new.shelf, g.S.Shelf.write_faults c.do_line.new.shelf, g.O.Sink.faults c.do_line.new.out)
     (Err c.in_err-do_line.field-0.0) l.invariant.reads l.invariant.writes l.invariant.faults
-    (blamed_by {T = Unit {0}} (told_packets (g.S.Shelf.files l.shelf) l.self.file.names c.args.script.now.capture.now ≡ None) (Lacking l.self.file.names (g.S.Shelf.files l.shelf))
+    (blamed_by {T = Unit {0}} (told_packets (g.S.Shelf.files l.shelf) l.self.file.names c.args.script.now.capture.now ≡ None)
+    (Lacking l.self.file.names (g.S.Shelf.files l.shelf))
     untold lacking
     (g.S.Shelf.read_faults l.shelf, g.S.Shelf.write_faults l.shelf, g.O.Sink.faults l.out)
     (g.S.Shelf.read_faults c.do_line.new.shelf, g.S.Shelf.write_faults c.do_line.new.shelf, g.O.Sink.faults c.do_line.new.out)
     (Err c.in_err-do_line.field-0.0)
-    (λ none. sym (same_packets _ _ _ _ l.invariant.framed) ∙ ap (λ n. told_packets (g.S.Shelf.files l.shelf) n c.args.script.now.capture.now) (sym l.invariant.names)
+    (λ none. sym (same_packets _ _ _ _ l.invariant.framed)
+    ∙ ap (λ n. told_packets (g.S.Shelf.files l.shelf) n c.args.script.now.capture.now) (sym l.invariant.names)
     ∙ none)
     (λ lacks all. subst (λ n. Lacking n (g.S.Shelf.files l.shelf)) l.invariant.names lacks (l.invariant.framed.stays all))
     c.in_err-do_line.ensures.cause))

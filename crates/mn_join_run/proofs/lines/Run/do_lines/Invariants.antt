@@ -13,7 +13,8 @@ invariant-loop-line g l = record {
   second : l.self.pair.second.net.topology ≡ l.fn.self.pair.second.net.topology;
   framed : Framed l.fn.self.file.names (g.S.Shelf.files l.fn.shelf) (g.S.Shelf.files l.shelf);
   at : (pairing : Pairing) (start : Start) → start.names ≡ l.fn.self.file.names →
-      Keeps pairing start at_start l.fn.self.pair l.fn.self.desk (outside l.fn.self.desk.page (g.O.Sink.written l.fn.out) l.fn.self.file.held (g.S.Shelf.files l.fn.shelf)) →
+      Keeps pairing start at_start l.fn.self.pair l.fn.self.desk
+      (outside l.fn.self.desk.page (g.O.Sink.written l.fn.out) l.fn.self.file.held (g.S.Shelf.files l.fn.shelf)) →
       IsAt pairing start (g.S.Shelf.files l.fn.shelf) l.script.capture.now l.script.lines.now l.line-index l.self.pair l.self.desk
       (outside l.self.desk.page (g.O.Sink.written l.out) l.self.file.held (g.S.Shelf.files l.shelf));
   reads : g.S.Shelf.read_faults l.shelf ≡ g.S.Shelf.read_faults l.fn.shelf;

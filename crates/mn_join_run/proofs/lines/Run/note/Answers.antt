@@ -17,7 +17,8 @@ use Rattle.mn_join_run.proofs.lines.Run.note.Goals as goal
 pub returns-in_err-put_exits-clause-noted : goal.returns-in_err-put_exits-clause-noted
 returns-in_err-put_exits-clause-noted g c = λ pairing start run course names topology exits sendings stands.
     noted_cut start (after_course pairing run c.args.line.now course (ending_of c.args.played)) c.args.self.now.desk
-    (outside c.args.self.now.desk.page (g.O.Sink.written c.args.out.now) c.put_exits.new.self.held (g.S.Shelf.files c.put_exits.new.shelf)) c.from_residual.result _
+    (outside c.args.self.now.desk.page (g.O.Sink.written c.args.out.now) c.put_exits.new.self.held (g.S.Shelf.files c.put_exits.new.shelf))
+    c.from_residual.result _
     c.from_residual.ensures.1
     (cut_noted pairing start run c.args.line.now course (ending_of c.args.played)
     (outside c.args.self.now.desk.page (g.O.Sink.written c.args.out.now) c.put_exits.new.self.held (g.S.Shelf.files c.put_exits.new.shelf))
@@ -25,7 +26,8 @@ returns-in_err-put_exits-clause-noted g c = λ pairing start run course names to
     c.put_exits.new.self.held (g.S.Shelf.files c.args.shelf.now) (g.S.Shelf.files c.put_exits.new.shelf) stands
     c.args.self.now.desk.page c.put_exits.new.self.held
     (subst (λ n. (bytes : List ℕ) → Holding n bytes c.args.self.now.file.held (g.S.Shelf.files c.args.shelf.now) →
-    Beginning n (bytes ++ flat_map exit_record c.args.self.now.pair.exits) (g.S.Shelf.files c.put_exits.new.shelf)) (sym names) c.in_err-put_exits.ensures.part)))
+    Beginning n (bytes ++ flat_map exit_record c.args.self.now.pair.exits) (g.S.Shelf.files c.put_exits.new.shelf))
+    (sym names) c.in_err-put_exits.ensures.part)))
 
 pub returns-in_err-send-in-All-clause-noted : goal.returns-in_err-send-in-All-clause-noted
 returns-in_err-send-in-All-clause-noted g c = λ pairing start run course names topology exits sendings stands.

@@ -26,7 +26,8 @@ returns-in_err-note-in-Ok-clause-went g c = λ pairing start run names keeps.
     let course : PairCourse = played pairing c.args.line.now.which run.both c.args.line.now.command c.args.packet.now in
     let plays : Plays pairing course c.play.new.self (Ok c.in-Ok.played) = c.in-Ok.ensures.course keeps.goes pairing run.both keeps.pair_stands in
     let now = outside c.note.new.self.desk.page (g.O.Sink.written c.note.new.out) c.note.new.self.file.held (g.S.Shelf.files c.note.new.shelf) in
-    went_cut pairing start (after_course pairing run c.args.line.now course course.ending) c.note.new.self.pair c.note.new.self.desk now c.from_residual.result _
+    went_cut pairing start (after_course pairing run c.args.line.now course course.ending) c.note.new.self.pair c.note.new.self.desk now c.from_residual.result
+    _
     c.from_residual.ensures.1
     (line_noted_cut pairing start run c.args.line.now course c.in-Ok.played c.play.new.self now plays
     (c.in_err-note-in-Ok.ensures.noted pairing start run course names
