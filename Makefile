@@ -10,7 +10,7 @@
 # make tools      tests the tools, the scripts, the schema, the man page and the completions, and has tshark decode the examples' runs
 # make index      shows that all that docs/INDEX.md names is there, that it has every rule, and that its table of RFCs, docs/PROVED.md, the
 #                 pictures of the README and of crates/README.md, and the crates above in CONTRIBUTING, are as they are made; and that
-#                 no count of scripts/readable is over its limit
+#                 no count of scripts/readable is over its limit, and no function without a clause but those that scripts/free lets
 # make clean      removes what was built
 
 .PHONY: test trial build install uninstall demo examples runs tools index clean
@@ -51,6 +51,7 @@ index:
 	@python3 -B scripts/layers --check
 	@python3 -B scripts/above --check
 	@python3 -B scripts/readable
+	@python3 -B scripts/free
 	@sh scripts/picture --check
 
 clean:
