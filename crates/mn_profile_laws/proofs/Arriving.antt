@@ -239,7 +239,8 @@ module _ (t : Network) (p : Profile) (c : Config) (to : ℕ) (ok : JoinsNodes (w
         ap (λ b. b || (has_some (hops t p c n to) && list_all (leads_over c (λ hop. all_lead_within t p c fuel hop to)) (hops t p c n to))) e.0
         ∙ and_on (has_some (hops t p c n to)) (list_all (leads_over c (λ hop. all_lead_within t p c fuel hop to)) (hops t p c n to))
         (has_hop w v to ok p.equal n d below e.1 least)
-        (all-from (leads_over c (λ hop. all_lead_within t p c fuel hop to)) (hops t p c n to) (λ hop i. each (λ m x g b l. all-lead-so fuel x m g b l) hop (is_hop w v to ok p.equal n hop below e.1 i)))
+        (all-from (leads_over c (λ hop. all_lead_within t p c fuel hop to)) (hops t p c n to)
+            (λ hop i. each (λ m x g b l. all-lead-so fuel x m g b l) hop (is_hop w v to ok p.equal n hop below e.1 i)))
   ]
     where
       each : ((m x : ℕ) → x < fuel → m < length t.loopbacks → IsLeast w v m to x → all_lead_within t p c fuel m to ≡ true)
@@ -291,7 +292,8 @@ module _ (t : Network) (p : Profile) (c : Config) (to : ℕ) (joined : JoinsNode
     | inr e ↦ by_hop (λ m x g b l. comes fuel x m g b l) e.0 e.1 (choice n) refl (chooses n e.1)
   ]
     where
-      by_hop : ((m x : ℕ) → x < fuel → m < length t.loopbacks → IsLeast net view m to x → Comes fuel x m) → (n == to) ≡ false → n ≢ to → (o : Option (ℕ × ℕ)) → choice n ≡ o → IsAmong (hops t p c n to) o → Comes (suc fuel) d n
+      by_hop : ((m x : ℕ) → x < fuel → m < length t.loopbacks → IsLeast net view m to x → Comes fuel x m) → (n == to) ≡ false → n ≢ to →
+          (o : Option (ℕ × ℕ)) → choice n ≡ o → IsAmong (hops t p c n to) o → Comes (suc fuel) d n
       by_hop more e apart None is among = absurd (no-hops (hops t p c n to) (has_hop net view to joined p.equal n d below apart least) among)
       by_hop more e apart (Some hop) is among =
           let h = is_hop net view to joined p.equal n hop below apart (in_contained (hops t p c n to) hop among) in

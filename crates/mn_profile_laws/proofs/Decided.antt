@@ -183,7 +183,8 @@ module _ (t : Network) (resolve : Resolve) (sync : Bool) (c : Config) (by_labels
       by false e = e
       by true e = absurd (clash (sym m ∙ none_passes (covers a) (filter by_these rs) x unreached (filter_in by_these rs x i e)))
 
-  none_reached : list_any (covers a) (filter by_these rs) ≡ false → (L : List HeldRoute) → ((x : HeldRoute) → In L x → In rs x) → (best L a ≡ None → best rs a ≡ None)
+  none_reached : list_any (covers a) (filter by_these rs) ≡ false → (L : List HeldRoute) → ((x : HeldRoute) → In L x → In rs x) →
+      (best L a ≡ None → best rs a ≡ None)
       → In (turns_by t p c edge (in_order L)) (turn_by (best rs a))
   none_reached unreached L sub full = by (best rs a) refl
     where

@@ -156,7 +156,8 @@ module _ (t : Network) (p : Profile) (c : Config) (to : ℕ) (ok : JoinsNodes (w
         | inr none ↦ absurd none
       ]
 
-      by_hop : ((m x : ℕ) (ns : List ℕ) → x < fuel → m < length t.loopbacks → IsLeast wiring view m to x → In (paths_from fuel m) ns → IsOfSome fuel m (Some ns))
+      by_hop : ((m x : ℕ) (ns : List ℕ) → x < fuel → m < length t.loopbacks → IsLeast wiring view m to x → In (paths_from fuel m) ns →
+          IsOfSome fuel m (Some ns))
           → n ≢ to → (hop : ℕ × ℕ) × In (hops t p c n to) hop × In (over_each c n (paths_from fuel) hop) nodes → IsOfSome (suc fuel) n (Some nodes)
       by_hop more apart m =
           let near = nearer wiring view to n d m.0 ok costs least (is_hop wiring view to ok p.equal n m.0 below apart m.1) in

@@ -40,7 +40,8 @@ module _ (lists : List (List ℕ)) (at k : ℕ) (there : at < length lists) wher
   }
 
   pub has_it : Contains (pairs_at (set lists at (pairs_at lists at ++ k ∷ [])) at) k
-  has_it = subst (λ (xs : List ℕ). Contains xs k) (sym (get_or-set_at lists at at (pairs_at lists at ++ k ∷ []) [] refl there)) (Contains-push (pairs_at lists at) k)
+  has_it = subst (λ (xs : List ℕ). Contains xs k) (sym (get_or-set_at lists at at (pairs_at lists at ++ k ∷ []) [] refl there))
+      (Contains-push (pairs_at lists at) k)
 
 -- what has a member is a list that is there
 pub listed_below : (lists : List (List ℕ)) (at k : ℕ) → Contains (pairs_at lists at) k → at < length lists
@@ -69,7 +70,8 @@ at_one_more links i d lists new at pair below from there e so_far link h =
     (elim (Contains-push_cases (take i links) (get_or links i d) link (subst (λ (ls : List LinkNo). Contains ls link) (take_more links i d below) h)) [
       | inl j ↦ (keeps lists at pair there).kept link.0 pair (so_far link j)
       | inr s ↦
-          subst (λ n. Contains (pairs_at (set lists at (pairs_at lists at ++ pair ∷ [])) n) pair) (from ∙ ap (λ (l : LinkNo). l.0) s) (has_it lists at pair there)
+          subst (λ n. Contains (pairs_at (set lists at (pairs_at lists at ++ pair ∷ [])) n) pair) (from ∙ ap (λ (l : LinkNo). l.0) s)
+              (has_it lists at pair there)
     ])
 
 -- 3. Pair by pair

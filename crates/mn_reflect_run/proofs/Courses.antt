@@ -112,7 +112,8 @@ module _ (topology : Network) (reflectors : List ℕ) (run : ReflectRun) (old ne
     shows = tt;
   }
 
-  pub step_follows : (result : Done) (how : Played Refused) → Answered topology reflectors run.steps old new done result → IsAnswered (length run.steps) result how →
+  pub step_follows : (result : Done) (how : Played Refused) → Answered topology reflectors run.steps old new done result →
+      IsAnswered (length run.steps) result how →
       Goes (tried run number done (refusal topology (world_of topology reflectors run.steps) done)) how
   step_follows result how answered is = by (refusal topology (world_of topology reflectors run.steps) done) refl result answered is
     where
@@ -155,7 +156,8 @@ line_follows (Ok how) line old new done is h = λ topology reflectors run at fit
     (h topology reflectors run line.number at (subst (λ x. command_fits topology reflectors x ≡ true) is fits))
 
 -- a line that drains tells nothing
-pub drain_follows : (topology : Network) (reflectors : List ℕ) (after run : ReflectRun) (number : ℕ) (most : Option ℕ) (how : Played Refused) (now : ReflectNow) →
+pub drain_follows : (topology : Network) (reflectors : List ℕ) (after run : ReflectRun) (number : ℕ) (most : Option ℕ) (how : Played Refused)
+    (now : ReflectNow) →
     IsDrained topology reflectors after run how now → Follows topology reflectors after run (record { number = number; command = command.Drain most }) how now
 drain_follows topology reflectors after run number most played.All now is = record { stands = is.0; told = is.1 ∙ sym (append-nil run.notes); shows = tt }
 drain_follows topology reflectors after run number most (played.Refused why) now is = absurd is

@@ -253,7 +253,8 @@ module _ (topology : Network) (reflectors : List ℕ) (steps : List Step) where
       (tells_ok (notes_text topology reflectors (Refusal line.number why ∷ [])) s t count
       (subst (λ xs. Told xs s t) (one_note (Refusal line.number why)) this))
 
-  pub refusal_cut : (line : ReflectLine) (how : Played Refused) (why : Refused) (s t : Stand) (e : DeviceBad) (r : Result ℕ DeviceBad) → how ≡ played.Refused why →
+  pub refusal_cut : (line : ReflectLine) (how : Played Refused) (why : Refused) (s t : Stand) (e : DeviceBad) (r : Result ℕ DeviceBad) →
+      how ≡ played.Refused why →
       IsErr r × IsErrAnd r (λ y. y ≡ e) → Tells {T = Unit {0}} (note_text topology reflectors (Refusal line.number why)) s t (Err e) →
       Tells {T = ℕ} (notes_text topology reflectors (notes_by steps line how)) s t r
   refusal_cut line how why s t e r is from this =

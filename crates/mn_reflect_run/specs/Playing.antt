@@ -100,7 +100,8 @@ StandsAfter topology reflectors after played.All now = IsAt topology reflectors 
 StandsAfter topology reflectors after (played.Refused why) now = IsAt topology reflectors after now
 StandsAfter topology reflectors after played.TooManySteps now = after.is_stopped ≡ true
 
-pub record Follows (topology : Network) (reflectors : List ℕ) (after before : ReflectRun) (line : ReflectLine) (how : Played Refused) (now : ReflectNow) : Type 0 where
+pub record Follows (topology : Network) (reflectors : List ℕ) (after before : ReflectRun) (line : ReflectLine) (how : Played Refused) (now : ReflectNow)
+    : Type 0 where
   pub stands : StandsAfter topology reflectors after how now
   pub told : after.notes ≡ before.notes ++ notes_by before.steps line how
   pub shows : ShowsAt topology reflectors before.steps line.command now

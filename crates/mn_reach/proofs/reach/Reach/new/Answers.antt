@@ -39,4 +39,5 @@ pairs_by_link-requires c =
     let found = subst (λ ps. AreFound c.args.topology.now ps (length ps) c.in_ok-prospects.prospects.items) c.as_slice-3.ensures.value c.in_ok-prospects.ensures
     in
     rw (c.as_slice-4.ensures.value, c.links-links.ensures)
-    (links_there c.args.topology.now c.args.pairs.items c.in_ok-prospects.prospects.items c.the_links_of_a_way_are_there.ensures c.laws.ensures c.requires found)
+    (links_there c.args.topology.now c.args.pairs.items c.in_ok-prospects.prospects.items c.the_links_of_a_way_are_there.ensures c.laws.ensures c.requires
+        found)

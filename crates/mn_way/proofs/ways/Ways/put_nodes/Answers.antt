@@ -14,7 +14,8 @@ numbers hops = map numbered (map (λ (hop : Hop). hop.0) hops)
 -- LDP is off on the next link
 
 pub returns-then-not-has_ldp-clause-behind : goal.returns-then-not-has_ldp-clause-behind
-returns-then-not-has_ldp-clause-behind c = front-of c.args.path.now.items c.loop-passed.invariant.behind.0 c.loop-passed.path.items c.loop-passed.invariant.behind.1
+returns-then-not-has_ldp-clause-behind c = front-of c.args.path.now.items c.loop-passed.invariant.behind.0 c.loop-passed.path.items
+    c.loop-passed.invariant.behind.1
 
 pub returns-then-not-has_ldp-clause-on : goal.returns-then-not-has_ldp-clause-on
 returns-then-not-has_ldp-clause-on c = λ wiring over.
