@@ -14,8 +14,17 @@ use Rattle.mn_join_script.specs.declared.refusal.JointsRule.{JointsRule}
 use Rattle.mn_join_script.specs.declared.refusal.JointsRule.TheVariants as joints
 use Rattle.mn_lines.specs.Lines.{text}
 use Rattle.mn_answer.specs.declared.outcome.Limit.{Limit}
-use Rattle.mn_answer.specs.declared.outcome.Limit.TheVariants.{TopologyBytes, ScriptBytes, ScriptLines, CaptureBytes, CaptureRecords, Steps, JointsBytes,
-    Pairs, SecondBytes}
+use Rattle.mn_answer.specs.declared.outcome.Limit.TheVariants.{
+  TopologyBytes,
+  ScriptBytes,
+  ScriptLines,
+  CaptureBytes,
+  CaptureRecords,
+  Steps,
+  JointsBytes,
+  Pairs,
+  SecondBytes,
+}
 use Rattle.mn_answer.specs.declared.outcome.Outcome.{Outcome}
 use Rattle.mn_answer.specs.declared.outcome.Outcome.TheVariants.{Usage, BadTopology, BadScript, BadCapture, BadJoints, BadSecond, TooLarge}
 

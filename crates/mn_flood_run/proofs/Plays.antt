@@ -214,7 +214,7 @@ Goes old wiring line how now = (run : FloodRun) → IsAt run old → Follows (wi
 module _ (topology : Network) (lines : List FloodLine) (i : ℕ) (s t : Stand) (refused : ℕ) (old : FloodNow)
     (past : ArePlayed topology (take i lines) old refused s t)
     (line : FloodLine) (below : i < length lines) (here : line ≡ get_or lines i line) (wiring : Wiring) (over : wiring ≡ wiring_of topology)
-        (how : Played FloodBad)
+    (how : Played FloodBad)
     (now : FloodNow)
     (goes : Goes old wiring line how now) where
   follows : Follows (with_line (wiring_of topology) (course_of topology (take i lines)) (order_of line)) (course_of topology (take i lines)) line.number how now

@@ -240,7 +240,7 @@ module _ (t : Network) (p : Profile) (c : Config) (to : ℕ) (ok : JoinsNodes (w
         ∙ and_on (has_some (hops t p c n to)) (list_all (leads_over c (λ hop. all_lead_within t p c fuel hop to)) (hops t p c n to))
         (has_hop w v to ok p.equal n d below e.1 least)
         (all-from (leads_over c (λ hop. all_lead_within t p c fuel hop to)) (hops t p c n to)
-            (λ hop i. each (λ m x g b l. all-lead-so fuel x m g b l) hop (is_hop w v to ok p.equal n hop below e.1 i)))
+        (λ hop i. each (λ m x g b l. all-lead-so fuel x m g b l) hop (is_hop w v to ok p.equal n hop below e.1 i)))
   ]
     where
       each : ((m x : ℕ) → x < fuel → m < length t.loopbacks → IsLeast w v m to x → all_lead_within t p c fuel m to ≡ true)

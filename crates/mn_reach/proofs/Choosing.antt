@@ -51,14 +51,14 @@ module _ (t : Network) (config : Config) (home : ℕ) (rs : List HeldRoute) wher
   pub by_first : t.resolve ≡ false → first_of (filter (is_told config home) rs) ≡ chosen t config home rs
   by_first off =
       sym (ap (λ b. chosen_by b (first_of (filter (is_reached t config home) (filter (is_told config home) rs)))
-          (first_of (filter (is_told config home) rs))) off)
+      (first_of (filter (is_told config home) rs))) off)
 
   module _ (on : t.resolve ≡ true) where
     by : (o : Option HeldRoute) → first_of (filter (is_reached t config home) (filter (is_told config home) rs)) ≡ o →
         chosen_by true o (first_of (filter (is_told config home) rs)) ≡ chosen t config home rs
     by o is =
         sym (ap (λ b. chosen_by b (first_of (filter (is_reached t config home) (filter (is_told config home) rs)))
-            (first_of (filter (is_told config home) rs))) on
+        (first_of (filter (is_told config home) rs))) on
         ∙ ap (λ r. chosen_by true r (first_of (filter (is_told config home) rs))) is)
 
     pub by_reached : (r : HeldRoute) → first_of (filter (is_reached t config home) (filter (is_told config home) rs)) ≡ Some r →

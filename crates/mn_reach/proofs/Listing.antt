@@ -71,7 +71,7 @@ at_one_more links i d lists new at pair below from there e so_far link h =
       | inl j ↦ (keeps lists at pair there).kept link.0 pair (so_far link j)
       | inr s ↦
           subst (λ n. Contains (pairs_at (set lists at (pairs_at lists at ++ pair ∷ [])) n) pair) (from ∙ ap (λ (l : LinkNo). l.0) s)
-              (has_it lists at pair there)
+          (has_it lists at pair there)
     ])
 
 -- 3. Pair by pair

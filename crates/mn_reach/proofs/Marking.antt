@@ -1,6 +1,31 @@
 -- Pairs are marked, and no pair that needs what failed is left without a mark.
-use Rattle.std.proofs.Common.{ℕ, ◌≡◌, ◌≢◌, ◌+◌, ◌<◌, ◌≤◌, inl, inr, Bool, true, false, List, [], ◌∷◌, ◌++◌, length, get_or, set, take, refl, arith, sym,
-    ◌∙◌, ap, subst}
+use Rattle.std.proofs.Common.{
+  ℕ,
+  ◌≡◌,
+  ◌≢◌,
+  ◌+◌,
+  ◌<◌,
+  ◌≤◌,
+  inl,
+  inr,
+  Bool,
+  true,
+  false,
+  List,
+  [],
+  ◌∷◌,
+  ◌++◌,
+  length,
+  get_or,
+  set,
+  take,
+  refl,
+  arith,
+  sym,
+  ◌∙◌,
+  ap,
+  subst,
+}
 use Rattle.std.proofs.Common.{length-set, get_or-set_other}
 use Rattle.std.specs.Prelude.{◌==◌, ◌&&◌, if◌then◌else◌, not, nat_lt}
 use Rattle.std.specs.List.{Contains, list_all, list_any}

@@ -27,7 +27,7 @@ loop-pair-preserved c =
     c.as_slice.ensures
     ∙ ap (λ (p : Prospect). p.links) (get_or_default c.args.prospects.now i c.index-prospects-pair.result no_prospect c.loop-pair-test.true) in
     by_link_more c.args.links c.args.prospects.now i c.loop-pair.lists.items c.add_to_each.new.lists.items c.loop-pair.invariant
-        c.in_ok-add_to_each.ensures.keep
+    c.in_ok-add_to_each.ensures.keep
     (λ link h. c.in_ok-add_to_each.ensures.added link (subst (λ (ls : List LinkNo). Contains ls link) (sym same) h))
 
 pub returns : goal.returns

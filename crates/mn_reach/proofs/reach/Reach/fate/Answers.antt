@@ -17,7 +17,7 @@ returns-then-not-resolve c =
     c.home_of-home.ensures.home
     c.as_slice-candidates.result.now c.as_slice-candidates.ensures c.args.ttl _
     (by_first t (config_under t (failure_of c.args.self.now)) c.home_of-home.result.0 (map held_in c.as_slice-candidates.result.now)
-        (sym c.resolve.ensures ∙ c.if-not-resolve.true)))
+    (sym c.resolve.ensures ∙ c.if-not-resolve.true)))
     (c.put_told.ensures t c.requires.of)
 
 pub returns-then-branch : goal.returns-then-branch
@@ -42,6 +42,6 @@ returns c =
     c.home_of-home.ensures.home
     c.as_slice-candidates.result.now c.as_slice-candidates.ensures c.args.ttl _
     (by_told t (config_under t (failure_of c.args.self.now)) c.home_of-home.result.0 (map held_in c.as_slice-candidates.result.now)
-        (sym c.resolve.ensures ∙ c.if-not-resolve.false)
+    (sym c.resolve.ensures ∙ c.if-not-resolve.false)
     (c.in_ok-put_first_reached.ensures.none t c.requires.of c.if-branch.false)))
     (c.put_told-2.ensures t c.requires.of)

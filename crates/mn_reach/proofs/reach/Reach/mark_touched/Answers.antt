@@ -10,8 +10,16 @@ returns c = λ t of.
     let sessions = c.mark_by_sessions.ensures in
     let pairs : length c.self.inside.pairs.items ≡ length r.plan.pairs = ap (λ (x : Reaching). length x.plan.pairs) c.self.view_is in
     let start : length c.fill.new.self.items ≡ length r.plan.pairs =
-    omega (arith, pairs, c.len.ensures, c.in_ok-resize.ensures.len, c.fill.ensures.len, c.fill.new.self.ok.0, c.resize.new.self.ok.0,
-        c.self.inside.pairs.ok.0) in
+    omega (
+      arith,
+      pairs,
+      c.len.ensures,
+      c.in_ok-resize.ensures.len,
+      c.fill.ensures.len,
+      c.fill.new.self.ok.0,
+      c.resize.new.self.ok.0,
+      c.self.inside.pairs.ok.0,
+    ) in
     let middle : length c.mark_by_links.new.marks.items ≡ length r.plan.pairs = links.keep.each ∙ start in
     let by_link = c.as_slice.ensures.value ∙ ap (λ (x : Reaching). x.plan.by_link) c.self.view_is in
     let up = c.as_slice-2.ensures.value ∙ ap (λ (x : Reaching). x.up) c.self.view_is in

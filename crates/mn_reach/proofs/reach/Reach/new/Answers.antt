@@ -40,4 +40,4 @@ pairs_by_link-requires c =
     in
     rw (c.as_slice-4.ensures.value, c.links-links.ensures)
     (links_there c.args.topology.now c.args.pairs.items c.in_ok-prospects.prospects.items c.the_links_of_a_way_are_there.ensures c.laws.ensures c.requires
-        found)
+    found)

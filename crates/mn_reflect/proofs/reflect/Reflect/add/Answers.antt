@@ -49,5 +49,5 @@ returns c =
     (edge_turned _ _ c.self.view_is c.deref_mut.result.now c.deref_mut.ensures.value c.add.new.edges c.home_of-edge.result.0
     (with_route c.args.site c.args.prefix) written c.in_ok-come.ensures.now))
     (c.deref.ensures.value ∙ c.in_ok-come.ensures.come
-        ∙ ap (λ es. those_of (export_of (with_route c.args.site c.args.prefix (edge_of_node es c.home_of-edge.result.0)) c.args.site.0 c.args.prefix)) so))
+    ∙ ap (λ es. those_of (export_of (with_route c.args.site c.args.prefix (edge_of_node es c.home_of-edge.result.0)) c.args.site.0 c.args.prefix)) so))
     c.tell_peers.ensures

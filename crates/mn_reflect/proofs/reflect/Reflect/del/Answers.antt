@@ -20,10 +20,10 @@ del-requires-clause-there c =
 pub del-requires-clause-free : goal.del-requires-clause-free
 del-requires-clause-free c =
     subst (λ es. found_in (vrf_of_site (edge_of_node es c.home_of-edge.result.0) c.args.site.0)
-        (λ (state : VrfState). del_refused c.args.prefix c.args.site.0 state)
+    (λ (state : VrfState). del_refused c.args.prefix c.args.site.0 state)
     (edge_of_node es c.home_of-edge.result.0).vrfs ≡ None) (sym (edges_so _ _ c.self.view_is c.deref_mut.result.now c.deref_mut.ensures.value))
     (subst (λ k. found_in (vrf_of_site (edge_of_node c.args.self.now.edges k) c.args.site.0)
-        (λ (state : VrfState). del_refused c.args.prefix c.args.site.0 state)
+    (λ (state : VrfState). del_refused c.args.prefix c.args.site.0 state)
     (edge_of_node c.args.self.now.edges k).vrfs ≡ None) (sym (home_so c.self.view_is c.args.site.0 c.home_of-edge.ensures.home)) c.requires.free)
 
 pub tell_peers-requires-clause-exports : goal.tell_peers-requires-clause-exports
@@ -51,5 +51,5 @@ returns c =
     (edge_turned _ _ c.self.view_is c.deref_mut.result.now c.deref_mut.ensures.value c.del.new.edges c.home_of-edge.result.0
     (without_route c.args.site c.args.prefix) written c.in_ok-gone.ensures.now))
     (c.deref.ensures.value ∙ c.in_ok-gone.ensures.gone
-        ∙ ap (λ es. those_of (export_of (edge_of_node es c.home_of-edge.result.0) c.args.site.0 c.args.prefix)) so))
+    ∙ ap (λ es. those_of (export_of (edge_of_node es c.home_of-edge.result.0) c.args.site.0 c.args.prefix)) so))
     c.tell_peers.ensures

@@ -13,7 +13,7 @@ use Rattle.mn_reflect.proofs.reflect.Reflect.set_export.Goals as goal
 pub export-requires-clause-there : goal.export-requires-clause-there
 export-requires-clause-there c =
     there_so _ _ c.self.view_is c.deref_mut.result.now c.deref_mut.ensures.value (edge_so c.self.view_is c.args.vrf.0 c.edge_of-edge.ensures.edge)
-        c.requires.there
+    c.requires.there
 
 pub export-requires-clause-free : goal.export-requires-clause-free
 export-requires-clause-free c =
