@@ -268,6 +268,12 @@ def steps(rounds=95_000):
     return Inputs(path_of(3), script())
 
 
+def ticks(count=300_000):
+    """Time goes by in a network of 256 nodes and 1,024 links where nothing flies."""
+    parts, _ = random_net(256)
+    return Inputs(parts, ("tick 1\n" for _ in range(count)))
+
+
 def labels(attachments=1_000_000):
     """A site goes down and comes up: each time it has a new label."""
     parts = [node(0), node(1), link(0, 1), vrf("red1", 0, 1), site("a", "red1", ["10.1.0.0/16"])]
@@ -415,6 +421,7 @@ CASES = [
     Case("site", "a site of 4,096 statics goes down and comes up 50 times", site_moves),
     Case("show", "every table of 32 nodes, 100 times", show_all),
     Case("labels", "1,000,000 attachments of one site", labels),
+    Case("ticks", "300,000 ticks over 1,024 links, nothing in flight", ticks),
     Case("steps", "near 4,000,000 steps: a link goes down and comes up", steps),
     *sized("flying", "{} frames in flight at a time, 3,000,000 steps", flying, (1_000, 10_000, 100_000, 1_000_000)),
     Case("ring", "ring of 12 with 6 chords, 100,000 packets in flight", ring),

@@ -413,3 +413,35 @@ pub ages_end : (t : Network) (g : Labelling) (clock n : ℕ) (m : Moving) (k : P
 ages_end t g clock n m k is ages =
     let none : length t.links - n ≡ 0 = omega (arith, is) in
     subst (StandsFor t g m) (sym (ap (λ i. expire_over t clock (range_with_len n i) ages.0) none) ∙ ages.3) ages.1
+
+-- 7. Where nothing flies
+
+nothing_sent : (f : Token → ℕ) (ks : List Token) → [] ≡ map f ks → ks ≡ []
+nothing_sent f [] e = refl
+nothing_sent f (k ∷ ks) e = cc
+
+over_none : (t : Network) (clock : ℕ) (k : Packets) (i n : ℕ) → i + n ≤ length t.links →
+    ((l : ℕ) (d : Dir) → l < length t.links → flying_on k l d ≡ []) → expire_over t clock (range_with_len i n) k ≡ k
+over_none t clock k i 0 few none = refl
+over_none t clock k i (suc n) few none =
+    let there : i < length t.links = omega (arith, few) in
+    let forth : expire_on t clock i Forth k ≡ k = ap (λ ks. expire_from t clock i Forth 0 ks k) (none i Forth there) in
+    let back : expire_on t clock i Back k ≡ k = ap (λ ks. expire_from t clock i Back 0 ks k) (none i Back there) in
+    ap (λ q. expire_over t clock (range_with_len (i + 1) n) (expire_on t clock i Back q)) forth
+    ∙ ap (expire_over t clock (range_with_len (i + 1) n)) back ∙ over_none t clock k (i + 1) n (omega (arith, few)) none
+
+pub no_items : (xs : List (Item Flown)) → length xs ≡ 0 → xs ≡ []
+no_items [] e = refl
+no_items (x ∷ xs) e = cc
+
+-- where nothing flies nothing ends
+pub nothing_ages : (t : Network) (g : Labelling) (clock : ℕ) (m : Moving) (k : Packets) → m.flying ≡ [] → StandsFor t g m k → DueAsSent t m.flying k →
+    StandsFor t g m (expire t clock (record k { clock = clock }))
+nothing_ages t g clock m k none stands due =
+    let ages = ages_start t g clock m k stands due in
+    let next : Packets = ages.0 in
+    let empty : (l : ℕ) (d : Dir) → l < length t.links → flying_on next l d ≡ [] = λ l d there.
+        nothing_sent (λ (x : Token). x.sent + (link (wiring_of t) l).delay) (flying_on next l d)
+        (subst (λ xs. map (λ (x : Item Flown). x.due) (on_channel (channel l d) xs) ≡ map (λ (x : Token). x.sent + (link (wiring_of t) l).delay) (flying_on next l d))
+        none (ages.2 l d there)) in
+    subst (StandsFor t g m) (sym (over_none t clock next 0 (length t.links - 0) (omega arith) empty) ∙ ages.3) ages.1

@@ -61,12 +61,11 @@ impl Transit {
         }
     }
 
-    /// Time has gone on to a tick: each frame that was sent on its link longer ago than the link's life ends, at the node that
-    /// sent it, and the others fly on.
+    /// Ends the frames of each direction that were sent longer ago than their link's life.
     ///
-    /// It takes no memory. Of the frames that fly on it looks at the first of each direction alone: where none is due before
-    /// one that was sent earlier on its link, those that end come first.
-    pub fn expire(&mut self, topology: &Topology, clock: u64)
+    /// Of the frames that fly on it looks at the first of each direction alone: where none is due before one that was sent
+    /// earlier on its link, those that end come first.
+    fn expire_each(&mut self, topology: &Topology, clock: u64)
         requires clock { clock ≤ 2 ^ 63 }
         requires order { FlyInOrder (keys_in self.old.flying) }
         ensures moved { (given : Labelling) (packets : Packets) → StandsFor topology.now given self.old packets → DueAsSent topology.now self.old.flying packets →
@@ -80,6 +79,24 @@ impl Transit {
             let link = LinkNo(number as u16);
             self.expire_on(topology, link, Dir::Forth, clock);
             self.expire_on(topology, link, Dir::Back, clock);
+        }
+    }
+
+    /// Time has gone on to a tick: each frame that was sent on its link longer ago than the link's life ends, at the node that
+    /// sent it, and the others fly on.
+    ///
+    /// It takes no memory, and where nothing flies no look at a link.
+    pub fn expire(&mut self, topology: &Topology, clock: u64)
+        requires clock { clock ≤ 2 ^ 63 }
+        requires order { FlyInOrder (keys_in self.old.flying) }
+        ensures moved { (given : Labelling) (packets : Packets) → StandsFor topology.now given self.old packets → DueAsSent topology.now self.old.flying packets →
+            StandsFor topology.now given self.new (expire topology.now clock (record packets { clock = clock })) }
+        ensures left { keys_in self.new.flying ≡ keys_in_time topology.now clock (keys_in self.old.flying) }
+        ensures stay { self.new.flying ≡ filter (λ item. not (is_past topology.now clock (key_of item))) self.old.flying }
+        ensures counts { CountsOn self.old self.new 0 0 0 }
+    {
+        if self.in_flight() > 0 {
+            self.expire_each(topology, clock);
         }
     }
 }

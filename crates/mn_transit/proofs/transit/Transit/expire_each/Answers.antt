@@ -5,7 +5,7 @@ use Rattle.mn_timetable_laws.specs.Keys.{Key, keys_in, is_past}
 use Rattle.mn_timetable_laws.proofs.Timed.{keys_kept}
 use Rattle.mn_transit.proofs.Aging.{ages_start, ages_next, ages_end, below_none, below_next, below_all}
 use Rattle.mn_transit.proofs.Counts.{counts_then, counts_still}
-use Rattle.mn_transit.proofs.transit.Transit.expire.Goals as goal
+use Rattle.mn_transit.proofs.transit.Transit.expire_each.Goals as goal
 
 pub directions-init : goal.directions-init
 directions-init c = record {

@@ -6,7 +6,7 @@ use Rattle.mn_transit.specs.Moving.{CountsOn}
 use Rattle.mn_transit.specs.Stands.{StandsFor}
 use Rattle.mn_transit.specs.Aging.{DueAsSent}
 use Rattle.mn_transit.proofs.Aging.{AgesFrom, stays_below}
-use Rattle.mn_transit.proofs.transit.Transit.expire.Given as goal
+use Rattle.mn_transit.proofs.transit.Transit.expire_each.Given as goal
 
 abbrev pub invariant-directions : goal.invariant-directions
 invariant-directions l = record {
