@@ -1,5 +1,5 @@
 -- What the packets in transit stand for as frames end that are too old.
-use Rattle.std.proofs.Common.{ℕ, suc, ◌≡◌, ◌+◌, ◌-◌, ◌*◌, ◌<◌, ◌≤◌, Bool, true, false, cond, List, [], ◌∷◌, length, map, filter, refl, arith, sym, ◌∙◌, ap}
+use Rattle.std.proofs.Common.{ℕ, zero, suc, ◌≡◌, ◌+◌, ◌-◌, ◌*◌, ◌<◌, ◌≤◌, Bool, true, false, cond, List, [], ◌∷◌, length, map, filter, refl, arith, sym, ◌∙◌, ap}
 use Rattle.std.proofs.Common.{subst}
 use Rattle.std.proofs.Common.{Some, None, inl, inr}
 use Rattle.std.specs.Prelude.{◌==◌, ◌&&◌, ◌||◌, not, nat_lt, slice_get, slice_set}
@@ -422,7 +422,7 @@ nothing_sent f (k ∷ ks) e = cc
 
 over_none : (t : Network) (clock : ℕ) (k : Packets) (i n : ℕ) → i + n ≤ length t.links →
     ((l : ℕ) (d : Dir) → l < length t.links → flying_on k l d ≡ []) → expire_over t clock (range_with_len i n) k ≡ k
-over_none t clock k i 0 few none = refl
+over_none t clock k i zero few none = refl
 over_none t clock k i (suc n) few none =
     let there : i < length t.links = omega (arith, few) in
     let forth : expire_on t clock i Forth k ≡ k = ap (λ ks. expire_from t clock i Forth 0 ks k) (none i Forth there) in
@@ -441,7 +441,7 @@ nothing_ages t g clock m k none stands due =
     let ages = ages_start t g clock m k stands due in
     let next : Packets = ages.0 in
     let empty : (l : ℕ) (d : Dir) → l < length t.links → flying_on next l d ≡ [] = λ l d there.
-        nothing_sent (λ (x : Token). x.sent + (link (wiring_of t) l).delay) (flying_on next l d)
-        (subst (λ xs. map (λ (x : Item Flown). x.due) (on_channel (channel l d) xs) ≡ map (λ (x : Token). x.sent + (link (wiring_of t) l).delay) (flying_on next l d))
-        none (ages.2 l d there)) in
+    nothing_sent (λ (x : Token). x.sent + (link (wiring_of t) l).delay) (flying_on next l d)
+    (subst (λ xs. map (λ (x : Item Flown). x.due) (on_channel (channel l d) xs) ≡ map (λ (x : Token). x.sent + (link (wiring_of t) l).delay) (flying_on next l d))
+    none (ages.2 l d there)) in
     subst (StandsFor t g m) (sym (over_none t clock next 0 (length t.links - 0) (omega arith) empty) ∙ ages.3) ages.1
