@@ -1,19 +1,21 @@
 //! Adverts, as nodes keep and send them.
 ghost use Rattle.std.specs.Prelude.{◌≡◌, ◌==◌, IfOk};
 ghost use Rattle.std.specs.List.{list_any};
+ghost use Rattle.mn_flood.specs.Links.{numbers_of};
 ghost use Rattle.mn_flood.specs.Queue.{way_of};
 
-use mn_base::{LinkNo, ListOf, NodeNo};
+use mn_base::{LinkNo, NodeNo};
+use mn_linkdb::SharedList;
 use mn_wiring::Dir;
 use std::alloc::{AllocError, Global};
 use std::marker::Model;
 
-/// The links of a node that were up, as it advertised them the number-th time.
+/// The links of a node that were up, as it advertised them the number-th time. All copies own one list of them.
 #[derive(Drop)]
 pub(crate) struct Advert {
     pub(crate) origin: NodeNo,
     pub(crate) number: u32,
-    pub(crate) links: ListOf<LinkNo>,
+    pub(crate) links: SharedList<LinkNo>,
 }
 
 impl Model for Advert {
@@ -65,15 +67,32 @@ impl Sent {
 }
 
 impl Advert {
-    /// The same once more.
-    pub(crate) fn copy(&self, alloc: Global) -> Result<Advert, AllocError>
+    /// An advert of these links.
+    pub(crate) fn new(
+        alloc: Global,
+        origin: NodeNo,
+        number: u32,
+        links: Vec<LinkNo>,
+    ) -> Result<Advert, AllocError>
+        ensures { IfOk result (λ advert. advert ≡ record { origin = origin.0; number = number; links = numbers_of links.items }) }
+    {
+        let links = SharedList::from_vec(alloc, links)?;
+        Ok(Advert {
+            origin,
+            number,
+            links,
+        })
+    }
+
+    /// The same once more. It copies no link.
+    pub(crate) fn copy(&self) -> Result<Advert, AllocError>
         ensures { IfOk result (λ copy. copy ≡ self.now) }
     {
-        let links = Vec::from_slice(alloc, self.links.as_slice())?;
+        let links = self.links.share()?;
         Ok(Advert {
             origin: self.origin,
             number: self.number,
-            links: ListOf::from_vec(links),
+            links,
         })
     }
 

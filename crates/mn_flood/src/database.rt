@@ -4,7 +4,7 @@ ghost use Rattle.std.specs.List.{range_with_len};
 ghost use Rattle.mn_flood_laws.specs.Flood.{age, first_of, is_news, lists};
 
 use crate::advert::Advert;
-use mn_base::{LinkNo, ListOf, NodeNo};
+use mn_base::{LinkNo, NodeNo};
 use std::alloc::{AllocError, Global};
 use std::marker::Model;
 
@@ -24,17 +24,14 @@ impl Model for Database {
 }
 
 /// What a node has of an origin at the start: of itself an advert of number 0 and no links, of any other none.
-fn first_of(alloc: Global, node: NodeNo, origin: u32) -> Option<Advert>
-    ensures { result ≡ first_of node.0 origin }
+fn first_of(alloc: Global, node: NodeNo, origin: u32) -> Result<Option<Advert>, AllocError>
+    ensures { IfOk result (λ advert. advert ≡ first_of node.0 origin) }
 {
     if origin == u32::from(node.0) {
-        Some(Advert {
-            origin: node,
-            number: 0,
-            links: ListOf::from_vec(Vec::new(alloc)),
-        })
+        let own = Advert::new(alloc, node, 0, Vec::new(alloc))?;
+        Ok(Some(own))
     } else {
-        None
+        Ok(None)
     }
 }
 
@@ -45,7 +42,7 @@ impl Database {
     {
         let mut adverts = Vec::with_capacity(alloc, nodes as usize)?;
         for origin in 0..nodes {
-            adverts.push(first_of(alloc, node, origin))?;
+            adverts.push(first_of(alloc, node, origin)?)?;
         }
         Ok(Database { adverts })
     }

@@ -113,11 +113,7 @@ impl Flood {
             return Err(FloodBad::Empty);
         };
         self.failed = true;
-        if self
-            .world
-            .take_in(self.alloc, link, dir, sent.into_advert())
-            .is_err()
-        {
+        if self.world.take_in(link, dir, sent.into_advert()).is_err() {
             return Err(FloodBad::NoMemory);
         }
         self.done += 1;

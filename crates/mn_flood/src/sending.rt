@@ -8,11 +8,10 @@ use crate::database::Database;
 use crate::links::Links;
 use crate::queue::Queue;
 use mn_base::{LinkNo, NodeNo};
-use std::alloc::{AllocError, Global};
+use std::alloc::AllocError;
 
 /// A node sends an advert over a link. An `Err` changes nothing.
 fn send_over(
-    alloc: Global,
     queue: &mut Queue,
     links: &Links,
     node: NodeNo,
@@ -28,14 +27,13 @@ fn send_over(
     let sent = Sent {
         link,
         dir: links.away(link, node),
-        advert: advert.copy(alloc)?,
+        advert: advert.copy()?,
     };
     queue.send(sent)
 }
 
 /// A node sends an advert over each of its links that are up, but for one. An `Err` means out of memory, after some of them.
 pub(crate) fn send_on(
-    alloc: Global,
     queue: &mut Queue,
     links: &Links,
     up: &[bool],
@@ -53,7 +51,7 @@ pub(crate) fn send_on(
 {
     for link in links.at(node) {
         if up[usize::from(link.0)] && link.0 != but.0 {
-            send_over(alloc, queue, links, node, advert, *link)?;
+            send_over(queue, links, node, advert, *link)?;
         }
     }
     Ok(())
@@ -61,7 +59,6 @@ pub(crate) fn send_on(
 
 /// A node sends all adverts that it has over a link. An `Err` means out of memory, after some of them.
 pub(crate) fn send_all(
-    alloc: Global,
     queue: &mut Queue,
     links: &Links,
     node: NodeNo,
@@ -77,7 +74,7 @@ pub(crate) fn send_all(
 {
     for advert in database.adverts() {
         if let Some(advert) = advert {
-            send_over(alloc, queue, links, node, advert, link)?;
+            send_over(queue, links, node, advert, link)?;
         }
     }
     Ok(())

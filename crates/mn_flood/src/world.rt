@@ -13,7 +13,7 @@ use crate::database::Database;
 use crate::links::Links;
 use crate::queue::Queue;
 use crate::sending::{send_all, send_on};
-use mn_base::{LinkNo, ListOf, NodeNo};
+use mn_base::{LinkNo, NodeNo};
 use mn_topo::Topology;
 use mn_wiring::Dir;
 use std::alloc::{AllocError, Global};
@@ -145,7 +145,6 @@ impl World {
     /// it over. An `Err` means out of memory, after some sends.
     pub(crate) fn take_in(
         &mut self,
-        alloc: Global,
         link: LinkNo,
         dir: Dir,
         advert: Advert,
@@ -161,15 +160,7 @@ impl World {
         let node = self.links.receiver(link, dir);
         let at = usize::from(node.0);
         if self.kept[at].is_news(&advert) {
-            send_on(
-                alloc,
-                &mut self.queue,
-                &self.links,
-                &self.up,
-                node,
-                link,
-                &advert,
-            )?;
+            send_on(&mut self.queue, &self.links, &self.up, node, link, &advert)?;
             self.kept[at].keep(advert);
         }
         Ok(())
@@ -195,36 +186,25 @@ impl World {
         self.laws();
         let number = self.kept[usize::from(node.0)].age(node);
         let links = up_at(alloc, &self.links, &self.up, node)?;
-        Ok(Advert {
-            origin: node,
-            number,
-            links: ListOf::from_vec(links),
-        })
+        Advert::new(alloc, node, number, links)
     }
 
     /// A node keeps an advert. An `Err` changes nothing.
-    fn keep(&mut self, alloc: Global, node: NodeNo, advert: &Advert) -> Result<(), AllocError>
+    fn keep(&mut self, node: NodeNo, advert: &Advert) -> Result<(), AllocError>
         requires node { node.0 < length self.old.wiring.loopbacks }
         requires origin { advert.now.origin < length self.old.wiring.loopbacks }
         ensures ok { OnOk result (self.new ≡ record self.old { world = keep self.old.world node.0 advert.now }) }
         ensures err { OnErr result (self.new ≡ self.old) }
     {
         self.laws();
-        let copy = advert.copy(alloc)?;
+        let copy = advert.copy()?;
         self.kept[usize::from(node.0)].keep(copy);
         Ok(())
     }
 
     /// An end of a link that changed sends what it has to: all over the link if it came up, and its own new advert over its
     /// other links that are up. An `Err` means out of memory, after some sends.
-    fn send(
-        &mut self,
-        alloc: Global,
-        link: LinkNo,
-        up: bool,
-        node: NodeNo,
-        own: &Advert,
-    ) -> Result<(), AllocError>
+    fn send(&mut self, link: LinkNo, up: bool, node: NodeNo, own: &Advert) -> Result<(), AllocError>
         requires link { link.0 < length self.old.wiring.ends }
         requires node { node.0 < length self.old.wiring.loopbacks }
         requires room { self.old.made < 2 ^ 62 }
@@ -235,20 +215,12 @@ impl World {
         self.laws();
         if up {
             let database = &self.kept[usize::from(node.0)];
-            send_all(alloc, &mut self.queue, &self.links, node, link, database)?;
+            send_all(&mut self.queue, &self.links, node, link, database)?;
         }
-        send_on(
-            alloc,
-            &mut self.queue,
-            &self.links,
-            &self.up,
-            node,
-            link,
-            own,
-        )
+        send_on(&mut self.queue, &self.links, &self.up, node, link, own)
     }
 
-    /// The link comes up or goes down: both ends renew their own adverts, and send what they have to. An `Err` is want of
+    /// The link comes up or goes down: both ends renew their own adverts, and send what they have to. An `Err` means out of
     /// memory, after some of it.
     pub(crate) fn change(&mut self, alloc: Global, link: LinkNo, up: bool) -> Result<(), AllocError>
         requires link { link.0 < length self.old.wiring.ends }
@@ -263,9 +235,9 @@ impl World {
         let b = self.links.receiver(link, Dir::Forth);
         let own_a = self.renewal(alloc, a)?;
         let own_b = self.renewal(alloc, b)?;
-        self.keep(alloc, a, &own_a)?;
-        self.keep(alloc, b, &own_b)?;
-        self.send(alloc, link, up, a, &own_a)?;
-        self.send(alloc, link, up, b, &own_b)
+        self.keep(a, &own_a)?;
+        self.keep(b, &own_b)?;
+        self.send(link, up, a, &own_a)?;
+        self.send(link, up, b, &own_b)
     }
 }
