@@ -35,3 +35,10 @@ returns-clause-capacity c =
       | then-len-ge-MOST_RECENT w ↦ omega (arith, c.push_reserved.ensures.capacity, ap (λ v. vec_capacity v) w.recent-is, w.clear.ensures.capacity)
       | else-len-ge-MOST_RECENT w ↦ omega (arith, c.push_reserved.ensures.capacity, ap (λ v. vec_capacity v) w.recent-is)
     ]
+
+pub returns-clause-kept : goal.returns-clause-kept
+returns-clause-kept c few =
+    elim c.if-len-ge-MOST_RECENT.branch [
+      | then-len-ge-MOST_RECENT w ↦ absurd (omega (arith, few, w.if-len-ge-MOST_RECENT.true, c.len.ensures))
+      | else-len-ge-MOST_RECENT w ↦ c.push_reserved.ensures.items ∙ ap (λ v. v.items ++ c.args.node ∷ []) w.recent-is
+    ]

@@ -1,8 +1,8 @@
-use Rattle.std.proofs.Common.{◌≡◌}
+use Rattle.std.proofs.Common.{◌≡◌, ◌+◌}
 use Rattle.mn_flight_pool.specs.Rings.{next_of}
 use Rattle.mn_flight_pool.specs.declared.node.Pair.TheVariants.{Channel}
 use Rattle.mn_flight_pool.specs.Pool.{steps_of}
 use Rattle.mn_flight_pool.proofs.walk.forth.Given as goal
 
 abbrev pub invariant-loop : goal.invariant-loop
-invariant-loop g l = l.at.index ≡ steps_of (next_of Channel l.store) l.fn.first.index l.counter
+invariant-loop g l = record { at : l.at.index ≡ steps_of (next_of Channel l.store) l.fn.first.index l.counter; steps : l.steps ≡ l.fn.steps + l.counter }

@@ -10,8 +10,8 @@ item-requires-clause-node g c =
     omega (arith, c.len-count.ensures, c.if-back-count.false, c.args.self.now.recent.ok.0) in
     recent_at c.args.self.now c.requires at c.index-node.result.now there c.index-node.ensures
 
-pub returns-then-recent-number : goal.returns-then-recent-number
-returns-then-recent-number g c =
+pub returns-then-recent-number-clause-node : goal.returns-then-recent-number-clause-node
+returns-then-recent-number-clause-node g c =
     let at = c.len-count.result - 1 - c.in_ok-back.back in
     let there : at < length c.args.self.now.recent.items =
     omega (arith, c.len-count.ensures, c.if-back-count.false, c.args.self.now.recent.ok.0) in
