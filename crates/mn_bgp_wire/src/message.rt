@@ -1,8 +1,11 @@
 // The values of a message, and the numbers of its format.
-ghost use Rattle.std.specs.Prelude.{◌≡◌};
+ghost use Rattle.std.specs.Prelude.{◌≡◌, IfOk};
+ghost use Rattle.mn_bgp_wire.specs.Written.{says_announced, says_withdrawn};
 
-use mn_base::Rt;
+use mn_base::{Rd, Rt};
+use mn_prefix::Prefix;
 use mn_vpn_nlri::VpnRoute;
+use std::alloc::{AllocError, Global};
 use std::marker::Model;
 
 /// The marker's bytes (RFC 4271, section 4.1).
@@ -113,6 +116,9 @@ pub(crate) const REACH_HEAD: usize = 17;
 /// A next hop is a VPN-IPv4 address, of a distinguisher and an address (RFC 4364, section 4.3.2).
 pub(crate) const HOP_LENGTH: u8 = 12;
 
+/// The label of a withdrawal, as it is read: the first 20 bits of 80 00 00 (RFC 8277, section 2.4).
+pub(crate) const WITHDRAWN_LABEL: u32 = 0x8_0000;
+
 /// What an UPDATE says.
 ///
 /// Contracts see the next hop, the routes that are announced, those that are withdrawn, and the targets.
@@ -138,6 +144,40 @@ impl Model for Update {
 }
 
 impl Update {
+    /// What an announcement of a route says, as bytes that spell it are read.
+    pub fn announcing(
+        alloc: Global,
+        next_hop: u32,
+        route: VpnRoute,
+        targets: &[Rt],
+    ) -> Result<Update, AllocError>
+        ensures { IfOk result (λ update. update ≡ says_announced next_hop route targets.now) }
+    {
+        Ok(Update {
+            next_hop,
+            reached: Vec::from_slice(alloc, &[route])?,
+            withdrawn: Vec::new(alloc),
+            targets: Vec::from_slice(alloc, targets)?,
+        })
+    }
+
+    /// What a withdrawal of a route says, as bytes that spell it are read.
+    pub fn withdrawing(alloc: Global, rd: Rd, prefix: Prefix) -> Result<Update, AllocError>
+        ensures { IfOk result (λ update. update ≡ says_withdrawn rd prefix) }
+    {
+        let route = VpnRoute {
+            rd,
+            prefix,
+            label: WITHDRAWN_LABEL,
+        };
+        Ok(Update {
+            next_hop: 0,
+            reached: Vec::new(alloc),
+            withdrawn: Vec::from_slice(alloc, &[route])?,
+            targets: Vec::new(alloc),
+        })
+    }
+
     /// The address of the edge that announces the routes (RFC 4760, section 3), or 0 where none are announced.
     pub fn next_hop(&self) -> u32
         ensures { result ≡ self.now.next_hop }

@@ -11,7 +11,7 @@ use crate::message::{
     AS_PATH, ASN_AT, ATTRIBUTES_AT, EXTENDED_COMMUNITIES, FAMILY, HEADER, HOLD_AT, HOP_AT,
     HOP_LENGTH, HOP_LENGTH_AT, ID_AT, KEEPALIVE, KIND_AT, LENGTH_AT, LENGTH_OF_ATTRIBUTES_AT,
     LOCAL_PREF, MP_REACH, MP_UNREACH, OPEN, OPTIONAL, ORIGIN, PARAMETERS_LENGTH_AT, REACH_HEAD,
-    TRANSITIVE, UPDATE, VERSION,
+    TRANSITIVE, UPDATE, VERSION, WITHDRAWN_LABEL,
 };
 use byteorder::{BigEndian, ByteOrder};
 use mn_base::{Rd, Rt};
@@ -29,14 +29,23 @@ const VPN_PARAMETER: [u8; 9] = [8, 2, 6, 1, 4, 0, 1, 0, 0x80];
 /// The bytes of an UPDATE before its attributes.
 const UPDATE_HEAD: usize = HEADER + ATTRIBUTES_AT;
 
+/// The bytes of an attribute before its value, whose length has one byte (RFC 4271, section 4.3).
+const ATTRIBUTE_HEAD: usize = 3;
+
+/// The bytes of an ORIGIN, an AS_PATH, a LOCAL_PREF and the heads of two more attributes.
+const OTHER_ATTRIBUTES: usize = 5 * ATTRIBUTE_HEAD + 5;
+
+/// The most bytes of a route (RFC 8277, section 2.2).
+const LONGEST_ROUTE: usize = 16;
+
+/// The bytes of an extended community (RFC 4360, section 2).
+const COMMUNITY: usize = 8;
+
 /// The routes come from within the AS (RFC 4271, section 5.1.1).
 const IGP: u8 = 0;
 
 /// The preference that is usual (RFC 4271, section 5.1.5).
 const PREFERENCE: u32 = 100;
-
-/// The label of a withdrawal, as it is read: the first 20 bits of 80 00 00 (RFC 8277, section 2.4).
-const WITHDRAWN_LABEL: u32 = 0x8_0000;
 
 /// An OPEN of this AS and identifier, with hold time 0 and the capability of VPN-IPv4 routes.
 pub fn write_open(alloc: Global, asn: u16, id: u32) -> Result<Vec<u8>, AllocError>
@@ -129,7 +138,8 @@ fn announcement(
 {
     let reach = reach_value(alloc, next_hop, route)?;
     let communities = communities_value(alloc, targets)?;
-    let mut attributes = Vec::new(alloc);
+    let size = OTHER_ATTRIBUTES + reach.len() + communities.len();
+    let mut attributes = Vec::with_capacity(alloc, size)?;
     put_attribute(&mut attributes, TRANSITIVE, ORIGIN, &[IGP])?;
     put_attribute(&mut attributes, TRANSITIVE, AS_PATH, &[])?;
     put_attribute(
@@ -157,7 +167,7 @@ fn withdrawal(alloc: Global, rd: Rd, prefix: Prefix) -> Result<Vec<u8>, AllocErr
         (IsNlri (written (withdrawn_route rd prefix) true) (withdrawn_route rd prefix)) }
 {
     let unreach = unreach_value(alloc, rd, prefix)?;
-    let mut attributes = Vec::new(alloc);
+    let mut attributes = Vec::with_capacity(alloc, ATTRIBUTE_HEAD + unreach.len())?;
     put_attribute(&mut attributes, OPTIONAL, MP_UNREACH, &unreach)?;
     Ok(attributes)
 }
@@ -171,7 +181,7 @@ fn communities_value(alloc: Global, targets: &[Rt]) -> Result<Vec<u8>, AllocErro
     ensures short { IfOk result (λ value. length value.items ≤ 128) }
     ensures are_targets { OnOk result (AreTargets (written_targets targets.now) targets.now) }
 {
-    let mut value = Vec::new(alloc);
+    let mut value = Vec::with_capacity(alloc, COMMUNITY * targets.len())?;
     write_targets(&mut value, targets)?;
     Ok(value)
 }
@@ -184,7 +194,8 @@ fn reach_value(alloc: Global, next_hop: u32, route: &VpnRoute) -> Result<Vec<u8>
     ensures short { OnOk result (length (written route.now false) ≤ 16) }
     ensures is_route { OnOk result (IsNlri (written route.now false) route.now) }
 {
-    let mut value = Vec::from_slice(alloc, &reach_head(next_hop))?;
+    let mut value = Vec::with_capacity(alloc, REACH_HEAD + LONGEST_ROUTE)?;
+    value.extend_from_slice(&reach_head(next_hop))?;
     write_route(&mut value, route, false)?;
     Ok(value)
 }
@@ -212,7 +223,8 @@ fn unreach_value(alloc: Global, rd: Rd, prefix: Prefix) -> Result<Vec<u8>, Alloc
         prefix,
         label: WITHDRAWN_LABEL,
     };
-    let mut value = Vec::from_slice(alloc, &FAMILY)?;
+    let mut value = Vec::with_capacity(alloc, FAMILY.len() + LONGEST_ROUTE)?;
+    value.extend_from_slice(&FAMILY)?;
     write_route(&mut value, &route, true)?;
     Ok(value)
 }
@@ -234,7 +246,8 @@ fn update_message(alloc: Global, attributes: &[u8]) -> Result<Vec<u8>, AllocErro
     ensures { IfOk result (λ message.
         message.items ≡ message_bytes update_kind (update_body attributes.now)) }
 {
-    let mut message = Vec::from_slice(alloc, &update_head(attributes.len() as u16))?;
+    let mut message = Vec::with_capacity(alloc, UPDATE_HEAD + attributes.len())?;
+    message.extend_from_slice(&update_head(attributes.len() as u16))?;
     message.extend_from_slice(attributes)?;
     Ok(message)
 }
