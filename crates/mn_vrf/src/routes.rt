@@ -105,7 +105,7 @@ impl Routes {
         ensures ok { OnOk result (self.new ≡ with_one route_before (prefix, source) self.old) }
         ensures err { OnErr result (self.new ≡ self.old) }
     {
-        let mut sources = Sources::new(self.alloc);
+        let mut sources = Sources::for_one(self.alloc)?;
         sources.put(source)?;
         self.table.insert(prefix, sources)?;
         let Ok(_) = self.prefixes.insert(prefix) else {

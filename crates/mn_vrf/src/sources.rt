@@ -1,5 +1,5 @@
 // The sources of one prefix, by a binary search over a vector.
-ghost use Rattle.std.specs.Prelude.{◌≡◌, ◌==◌, [], true, false, length, OnOk, OnErr};
+ghost use Rattle.std.specs.Prelude.{◌≡◌, ◌==◌, [], true, false, length, IfOk, OnOk, OnErr};
 ghost use Rattle.mn_base.specs.Ordered.{IsPlaceFor, StandsAt, StandsBehind, with_one, without_one};
 ghost use Rattle.mn_vrf.specs.Routes.{source_before, has_source, is_open};
 ghost use Rattle.mn_prefix.specs.Table.{first_of};
@@ -37,6 +37,15 @@ impl Sources {
         Sources {
             sources: Vec::new(alloc),
         }
+    }
+
+    /// None, with room for one: most prefixes have no more.
+    pub(crate) fn for_one(alloc: Global) -> Result<Sources, AllocError>
+        ensures { IfOk result (λ sources. sources ≡ []) }
+    {
+        Ok(Sources {
+            sources: Vec::with_capacity(alloc, 1)?,
+        })
     }
 
     /// All of them, in their order.

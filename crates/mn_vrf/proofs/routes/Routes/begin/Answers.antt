@@ -14,8 +14,8 @@ invariant_of-self c = subst (λ (t : List (AddressBlock × List Source)). IsKept
 -- the table and the set have the prefix with its source
 begun : (c : In-Ok) → Shows c.insert.new.self c.insert-2.new.self.keys (with_one route_before (c.args.prefix, c.args.source) c.args.self.now)
 begun c =
-    begun_with c.self.inside.table c.insert.new.self c.self.inside.prefixes.keys c.args.self.now c.args.prefix c.args.source c.new-sources.result
-    c.put.new.self (record { kept = c.self.invariant; view = c.self.view_is }) c.requires c.new-sources.ensures c.in_ok-put.ensures.ok
+    begun_with c.self.inside.table c.insert.new.self c.self.inside.prefixes.keys c.args.self.now c.args.prefix c.args.source c.in_ok-sources.sources
+    c.put.new.self (record { kept = c.self.invariant; view = c.self.view_is }) c.requires c.in_ok-sources.ensures c.in_ok-put.ensures.ok
     c.in_ok-insert.ensures.ok c.self.inside.prefixes c.insert-2.new.self refl c.in-Ok.ensures.ordered c.in-Ok.ensures.updates
 
 pub invariant_of-self-in-Ok : goal.invariant_of-self-in-Ok
@@ -27,8 +27,8 @@ returns-clause-ok c = (begun (goal.at.returns-clause-ok c).In-Ok).view
 -- the prefix that the set has no memory for is taken out again
 out_again : (c : Joined-remove) → Shows c.remove.new.self c.insert-2.new.self.keys c.args.self.now
 out_again c =
-    undone c.self.inside.table c.insert.new.self c.self.inside.prefixes.keys c.args.self.now c.args.prefix c.args.source c.new-sources.result c.put.new.self
-    (record { kept = c.self.invariant; view = c.self.view_is }) c.requires c.new-sources.ensures c.in_ok-put.ensures.ok c.in_ok-insert.ensures.ok
+    undone c.self.inside.table c.insert.new.self c.self.inside.prefixes.keys c.args.self.now c.args.prefix c.args.source c.in_ok-sources.sources c.put.new.self
+    (record { kept = c.self.invariant; view = c.self.view_is }) c.requires c.in_ok-sources.ensures c.in_ok-put.ensures.ok c.in_ok-insert.ensures.ok
     c.remove.new.self c.insert-2.new.self.keys c.in_default.ensures.err c.remove.ensures.removed
 
 pub invariant_of-self-in_default : goal.invariant_of-self-in_default
