@@ -92,6 +92,8 @@ impl Shelf for FailingShelf {
 
     ghost write_faults = { λ s. Some s.write_faults };
 
+    ghost calls = { λ s. None };
+
     ghost refusal = { λ s. s.refusal };
 
     fn fetch(&mut self, name: &str, at: u64, buf: &mut [u8]) -> Result<usize, DeviceBad> {

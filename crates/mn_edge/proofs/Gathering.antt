@@ -10,7 +10,9 @@ use Rattle.std.specs.Prelude.{nat_le}
 use Rattle.mn_edge.specs.Files.{Files, file, with_file, Grows, MayGrow}
 use Rattle.mn_edge.specs.FileLaws.{same_name-refl, file-with_file}
 use Rattle.mn_edge.specs.Written.{same_name, is_known}
-use Rattle.mn_edge.specs.Memory.{all_differ}
+use Rattle.std.specs.Option.{option_map}
+use Rattle.mn_edge.specs.Memory.{after_calls, all_differ, next_call}
+use Rattle.mn_edge.specs.Kept.{filled}
 use Rattle.mn_edge.specs.Kept.{name_of, held_for, AllThere, held_bytes, most_held, with_piece, none_held, IsHeld, HasBegun, Framed, HoldsOn, BeginsOn, grown}
 use Rattle.mn_edge.specs.KeptLaws.{same_some, there_grown, begins_on, begins_on_more, unknown-apart, places_apart, held_for-replicate}
 
@@ -292,3 +294,34 @@ grown_part contents k a b files names begins =
 pub begins_grown : (names : List (List ℕ)) (contents : ℕ → List ℕ) (k : ℕ) (piece : List ℕ) (files : Option Files) → BeginsOn names contents files →
     BeginsOn names (grown contents k piece) files
 begins_grown names contents k piece files = begins_on_more names contents (grown contents k piece) files (λ j. (cond (k == j) piece [], refl))
+
+one_filled : (k : ℕ) (held : List (List ℕ)) → k < length held → (held_for held k ≡ [] → ⊥) → filled (take (suc k) held) ≡ suc (filled (take k held))
+one_filled k [] within some = absurd (omega (arith, within))
+one_filled zero ([] ∷ held) within some = absurd (some refl)
+one_filled zero ((x ∷ xs) ∷ held) within some = refl
+one_filled (suc k) ([] ∷ held) within some = one_filled k held (omega (arith, within)) some
+one_filled (suc k) ((x ∷ xs) ∷ held) within some = ap suc (one_filled k held (omega (arith, within)) some)
+
+none_filled : (k : ℕ) (held : List (List ℕ)) → held_for held k ≡ [] → filled (take (suc k) held) ≡ filled (take k held)
+none_filled zero [] none = refl
+none_filled (suc k) [] none = refl
+none_filled zero ([] ∷ held) none = refl
+none_filled zero ((x ∷ xs) ∷ held) none = absurd (let e : ◌≡◌ {A = List ℕ} (x ∷ xs) [] = none in cc)
+none_filled (suc k) ([] ∷ held) none = none_filled k held none
+none_filled (suc k) ((x ∷ xs) ∷ held) none = ap suc (none_filled k held none)
+
+-- the next file counts where anything is held for it
+pub filled_next : (k : ℕ) (held : List (List ℕ)) → k < length held → (held_for held k ≡ [] → ⊥) → filled (take (k + 1) held) ≡ suc (filled (take k held))
+filled_next k held within some = let e : k + 1 ≡ suc k = omega arith in ap (λ n. filled (take n held)) e ∙ one_filled k held within some
+
+pub filled_same : (k : ℕ) (held : List (List ℕ)) → held_for held k ≡ [] → filled (take (k + 1) held) ≡ filled (take k held)
+filled_same k held none = let e : k + 1 ≡ suc k = omega arith in ap (λ n. filled (take n held)) e ∙ none_filled k held none
+
+-- one call more
+pub one_more : (more : ℕ) (calls : Option ℕ) → option_map next_call (option_map (after_calls more) calls) ≡ option_map (after_calls (suc more)) calls
+one_more more None = refl
+one_more more (Some calls) = refl
+
+pub no_more : (calls : Option ℕ) → calls ≡ option_map (after_calls 0) calls
+no_more None = refl
+no_more (Some calls) = refl

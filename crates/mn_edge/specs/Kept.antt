@@ -1,6 +1,6 @@
 -- Files that grow: what of them stands on the shelf, and what is held for them.
 use Rattle.std.specs.Prelude.{◌≡◌, ◌<◌, ◌==◌, nat_le, ℕ, false, List, [], ◌++◌, length, map, sum_by, slice_index_or, slice_set, Option, Some, None, IsSome}
-use Rattle.std.specs.Prelude.{if◌then◌else◌}
+use Rattle.std.specs.Prelude.{suc, ◌∷◌, if◌then◌else◌}
 use Rattle.std.specs.Option.{ForSome}
 use Rattle.mn_edge.specs.Files.{Files, file}
 use Rattle.mn_edge.specs.Written.{is_known, IsPrefix}
@@ -26,6 +26,12 @@ held_for held k = slice_index_or held k []
 -- how many bytes are held over all files
 abbrev pub held_bytes : List (List ℕ) → ℕ
 held_bytes held = sum_by length held
+
+-- for how many files anything is held
+abbrev pub filled : List (List ℕ) → ℕ
+filled [] = 0
+filled ([] ∷ held) = filled held
+filled ((byte ∷ bytes) ∷ held) = suc (filled held)
 
 -- the most bytes that are held over so many files: over more than 64, 1 MiB in place of 64 KiB
 abbrev pub most_held : ℕ → ℕ

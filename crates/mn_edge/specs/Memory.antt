@@ -1,6 +1,6 @@
 -- The devices in memory, as contracts see them, and which of their calls fail.
 use Rattle.std.specs.Prelude.{◌≡◌, ℕ, ◌+◌, ◌-◌, ◌/◌, ◌^◌, ◌==◌, min, Bool, true, false, not, ◌&&◌, List, [], ◌∷◌, ◌++◌, map, take, length, Option, None, Some}
-use Rattle.std.specs.Prelude.{is_none, String}
+use Rattle.std.specs.Prelude.{zero, suc, is_none, String}
 use Rattle.std.specs.Prelude.{Vec, string_bytes, Result, Ok, Err, ⊤, refl}
 use Rattle.std.specs.List.{list_any}
 use Rattle.std.specs.Option.{option_map_or}
@@ -83,6 +83,11 @@ pub record SinkState : Type 0 where
 -- the number of the next call, from 1; a counter stays at the end of its type
 abbrev pub next_call : ℕ → ℕ
 next_call calls = min (calls + 1) (2 ^ 64 - 1)
+
+-- the number of calls after so many more
+abbrev pub after_calls : ℕ → ℕ → ℕ
+after_calls zero calls = calls
+after_calls (suc more) calls = next_call (after_calls more calls)
 
 -- the next call is one of those that fail
 abbrev pub is_due : List ℕ → ℕ → Bool

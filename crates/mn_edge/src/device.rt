@@ -1,10 +1,11 @@
 // The two devices, and how a call on one goes wrong.
 ghost use Rattle.std.specs.Prelude.{◌≡◌, ◌≤◌, ◌++◌, [], List, ℕ, None, Option, Some, length, take, IfOk, IsSome, OnOk, OnErr};
 ghost use Rattle.std.specs.Result.{result_err};
-ghost use Rattle.std.specs.Option.{ForSome};
+ghost use Rattle.std.specs.Option.{ForSome, option_map};
 ghost use Rattle.mn_edge.specs.declared.device.DeviceBad.TheVariants.{NoMemory};
 ghost use Rattle.mn_edge.specs.Faults.{Counted, CountedUnless};
 ghost use Rattle.mn_edge.specs.Files.{Absent, Fetched, Files, Grows, MayBegin, MayGrow, with_file};
+ghost use Rattle.mn_edge.specs.Memory.{next_call};
 
 use std::alloc::{AllocError, AllocFailed};
 
@@ -50,6 +51,9 @@ pub trait Shelf {
     /// begin.
     ghost write_faults: { Self → Option ℕ };
 
+    /// How many calls were made so far, up to 2^64 - 1, where the shelf tells it.
+    ghost calls: { Self → Option ℕ };
+
     /// Why the last call was refused; none where it was done, and before the first.
     ghost refusal: { Self → Option DeviceBad };
 
@@ -65,6 +69,7 @@ pub trait Shelf {
         ensures reads { CountedUnless (Absent (files self.old) name.now)
             (read_faults self.old) (read_faults self.new) result }
         ensures writes { write_faults self.new ≡ write_faults self.old }
+        ensures calls { calls self.new ≡ option_map next_call (calls self.old) }
         ensures last { refusal self.new ≡ result_err result };
 
     /// Makes the file, or empties it where it is there. After a refusal it is as it was, or empty. Other files
@@ -77,6 +82,7 @@ pub trait Shelf {
         ensures silent { files self.old ≡ None → files self.new ≡ None }
         ensures writes { Counted (write_faults self.old) (write_faults self.new) result }
         ensures reads { read_faults self.new ≡ read_faults self.old }
+        ensures calls { calls self.new ≡ option_map next_call (calls self.old) }
         ensures last { refusal self.new ≡ result_err result };
 
     /// Puts a piece behind the file's bytes. A refusal may have put a first part of it there. A file that isn't
@@ -90,6 +96,7 @@ pub trait Shelf {
         ensures writes { CountedUnless (Absent (files self.old) name.now)
             (write_faults self.old) (write_faults self.new) result }
         ensures reads { read_faults self.new ≡ read_faults self.old }
+        ensures calls { calls self.new ≡ option_map next_call (calls self.old) }
         ensures last { refusal self.new ≡ result_err result };
 
     /// A sound shelf tells its files.

@@ -1,8 +1,9 @@
 // Files that grow by many small pieces, written by few appends.
 ghost use Rattle.std.specs.Prelude.{◌≡◌, ◌+◌, ◌<◌, ◌≤◌, List, ℕ, [], None, Some, length, replicate, IfErr, IfOk, OnOk, OnErr, IsTrue};
+ghost use Rattle.std.specs.Option.{option_map};
 ghost use Rattle.mn_edge.specs.Faults.{Counted, CountedUnless};
-ghost use Rattle.mn_edge.specs.Kept.{BeginsOn, Framed, HoldsOn, Lacking, grown, held_bytes, most_held, none_held, with_piece};
-ghost use Rattle.mn_edge.specs.Memory.{all_differ};
+ghost use Rattle.mn_edge.specs.Kept.{BeginsOn, Framed, HoldsOn, Lacking, filled, grown, held_bytes, most_held, none_held, with_piece};
+ghost use Rattle.mn_edge.specs.Memory.{after_calls, all_differ};
 ghost use Rattle.mn_edge.specs.Written.{texts};
 
 use crate::held::Held;
@@ -134,6 +135,7 @@ impl Gather {
         ensures writes { CountedUnless (Lacking (texts names.now) (S.files shelf.old))
             (S.write_faults shelf.old) (S.write_faults shelf.new) result }
         ensures reads { S.read_faults shelf.new ≡ S.read_faults shelf.old }
+        ensures one { OnOk result (S.calls shelf.new ≡ option_map (after_calls (filled self.old)) (S.calls shelf.old)) }
         ensures ends { IfErr result (λ e. S.refusal shelf.new ≡ Some e) }
     {
         let done = append_held(&self.held, shelf, names);
@@ -172,6 +174,7 @@ fn append_held<S: Shelf>(held: &Held, shelf: &mut S, names: &[String]) -> Result
     ensures writes { CountedUnless (Lacking (texts names.now) (S.files shelf.old))
         (S.write_faults shelf.old) (S.write_faults shelf.new) result }
     ensures reads { S.read_faults shelf.new ≡ S.read_faults shelf.old }
+    ensures one { OnOk result (S.calls shelf.new ≡ option_map (after_calls (filled held.now)) (S.calls shelf.old)) }
     ensures ends { IfErr result (λ e. S.refusal shelf.new ≡ Some e) }
 {
     for (file, name) in names.iter().enumerate() {

@@ -1,6 +1,6 @@
 // Devices in memory. Their calls are numbered from 1, of all methods together, and those of a list fail.
-ghost use Rattle.std.specs.Prelude.{◌≡◌, ◌≢◌, ℕ, ◌≤◌, ◌<◌, ◌++◌, ◌||◌, [], Err, None, Some, length, take, drop, if◌then◌else◌, is_ok, IsTrue, IfOk, OnOk, OnErr, option_copied};
-ghost use Rattle.std.specs.Option.{ForSome};
+ghost use Rattle.std.specs.Prelude.{◌≡◌, ◌≢◌, ℕ, ◌≤◌, ◌<◌, ◌++◌, ◌||◌, [], Err, None, Some, length, min, take, drop, if◌then◌else◌, is_ok, IsTrue, IfOk, IfSome, OnOk, OnErr, option_copied};
+ghost use Rattle.std.specs.Option.{ForSome, option_map};
 ghost use Rattle.std.specs.Result.{result_err};
 ghost use Rattle.std.proofs.Common.{sym};
 ghost use Rattle.std.proofs.lemmas.Option.{none-some};
@@ -88,6 +88,7 @@ fn copy_front(bytes: &[u8], at: u64, buf: &mut [u8]) -> usize
     ensures front { take result buf.new ≡ take result (drop at bytes.now) }
     ensures within { result ≤ length (drop at bytes.now) }
     ensures none { 0 < length buf.new → result ≡ 0 → length bytes.now ≤ at }
+    ensures all { result ≡ min (length (drop at bytes.now)) (length buf.old) }
 {
     if at >= bytes.len() as u64 {
         return 0;
@@ -105,6 +106,8 @@ impl Shelf for MemShelf {
 
     ghost write_faults = { λ s. counted_by s.failing s.write_faults };
 
+    ghost calls = { λ s. Some s.calls };
+
     ghost refusal = { λ s. s.refusal };
 
     fn fetch(&mut self, name: &str, at: u64, buf: &mut [u8]) -> Result<usize, DeviceBad>
@@ -118,9 +121,11 @@ impl Shelf for MemShelf {
             (counted_by self.new.failing self.new.read_faults) result }
         ensures writes { counted_by self.new.failing self.new.write_faults
             ≡ counted_by self.old.failing self.old.write_faults }
+        ensures calls { Some self.new.calls ≡ option_map next_call (Some self.old.calls) }
         ensures last { self.new.refusal ≡ result_err result }
 
-        // What this shelf says besides: which calls fail.
+        // What this shelf says besides: a fetch gives all that the buffer takes, and which calls fail.
+        ensures all { IfOk result (λ n. IfSome (file self.old.files name.now) (λ bytes. n ≡ min (length (drop at bytes)) (length buf.old))) }
         ensures exact { FailsBy
             (is_due self.old.failing self.old.calls || lacks self.old.files name.now) result }
         ensures free { result ≢ Err NoMemory }
@@ -150,6 +155,7 @@ impl Shelf for MemShelf {
             (counted_by self.new.failing self.new.write_faults) result }
         ensures reads { counted_by self.new.failing self.new.read_faults
             ≡ counted_by self.old.failing self.old.read_faults }
+        ensures calls { Some self.new.calls ≡ option_map next_call (Some self.old.calls) }
         ensures last { self.new.refusal ≡ result_err result }
 
         // What this shelf says besides: which calls fail, and that such a call changes no file.
@@ -184,6 +190,7 @@ impl Shelf for MemShelf {
             (counted_by self.new.failing self.new.write_faults) result }
         ensures reads { counted_by self.new.failing self.new.read_faults
             ≡ counted_by self.old.failing self.old.read_faults }
+        ensures calls { Some self.new.calls ≡ option_map next_call (Some self.old.calls) }
         ensures last { self.new.refusal ≡ result_err result }
 
         // What this shelf says besides: which calls fail, and that such a call keeps half of its piece.

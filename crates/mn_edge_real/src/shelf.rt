@@ -1,9 +1,10 @@
 //! Files by name.
 ghost use Rattle.std.specs.Prelude.{◌≡◌, ◌+◌, ◌^◌, ◌-◌, ◌≤◌, ◌<◌, [], None, Some, max, min, length, refl, option_copied, IfOk, IsSomeAnd, OnOk, OnErr};
-ghost use Rattle.std.specs.Option.{ForSome};
+ghost use Rattle.std.specs.Option.{ForSome, option_map};
 ghost use Rattle.std.specs.Result.{result_err};
 ghost use Rattle.mn_edge.specs.Faults.{Counted, CountedUnless};
 ghost use Rattle.mn_edge.specs.Files.{Absent, Fetched, Grows, MayBegin, MayGrow, with_file};
+ghost use Rattle.mn_edge.specs.Memory.{next_call};
 ghost use Rattle.mn_edge_real.specs.Failures.{Blames};
 ghost use Rattle.mn_edge_real.specs.Ends.{end_of};
 ghost use Rattle.mn_edge_real.specs.Reached.{IsKept};
@@ -106,6 +107,8 @@ impl<D: Disk + Drop> Shelf for DiskShelf<D> {
 
     ghost write_faults = { λ s. Some s.write_faults };
 
+    ghost calls = { λ s. None };
+
     ghost refusal = { λ s. s.refusal };
 
     fn fetch(&mut self, name: &str, at: u64, buf: &mut [u8]) -> Result<usize, DeviceBad>
@@ -117,6 +120,7 @@ impl<D: Disk + Drop> Shelf for DiskShelf<D> {
         ensures reads { CountedUnless (Absent (D.files self.old.opened.disk) name.now)
             (Some self.old.read_faults) (Some self.new.read_faults) result }
         ensures writes { Some self.new.write_faults ≡ Some self.old.write_faults }
+        ensures calls { None ≡ option_map next_call None }
         ensures last { self.new.refusal ≡ result_err result }
 
         // What this shelf says besides: a file that was told of further than this isn't at its end here, and what failed is kept.
@@ -145,6 +149,7 @@ impl<D: Disk + Drop> Shelf for DiskShelf<D> {
         ensures silent { D.files self.old.opened.disk ≡ None → D.files self.new.opened.disk ≡ None }
         ensures writes { Counted (Some self.old.write_faults) (Some self.new.write_faults) result }
         ensures reads { Some self.new.read_faults ≡ Some self.old.read_faults }
+        ensures calls { None ≡ option_map next_call None }
         ensures last { self.new.refusal ≡ result_err result }
 
         // What this shelf says besides: the file's end is wherever it now is, and what failed is kept.
@@ -173,6 +178,7 @@ impl<D: Disk + Drop> Shelf for DiskShelf<D> {
         ensures writes { CountedUnless (Absent (D.files self.old.opened.disk) name.now)
             (Some self.old.write_faults) (Some self.new.write_faults) result }
         ensures reads { Some self.new.read_faults ≡ Some self.old.read_faults }
+        ensures calls { None ≡ option_map next_call None }
         ensures last { self.new.refusal ≡ result_err result }
 
         // What this shelf says besides: what failed is kept.

@@ -22,6 +22,8 @@ impl Shelf for ShortShelf {
 
     ghost write_faults = { λ s. Some 0 };
 
+    ghost calls = { λ s. None };
+
     ghost refusal = { λ s. None };
 
     fn fetch(&mut self, name: &str, at: u64, buf: &mut [u8]) -> Result<usize, DeviceBad> {

@@ -1,15 +1,28 @@
-use Rattle.std.proofs.Common.{◌≡◌, ◌<◌, [], length, ap, sym, ◌∙◌}
+use Rattle.std.proofs.Common.{◌≡◌, ◌<◌, [], length, refl, ap, sym, ◌∙◌}
 use Rattle.std.proofs.lemmas.Bool.{eqb-true, eqb-false}
-use Rattle.std.proofs.lemmas.List.{length-map, nil_from_length}
-use Rattle.mn_edge.specs.Kept.{held_for}
+use Rattle.std.proofs.lemmas.List.{length-map, nil_from_length, take_all}
+use Rattle.std.specs.Option.{option_map}
+use Rattle.mn_edge.specs.Memory.{after_calls, next_call}
+use Rattle.mn_edge.specs.Kept.{filled, held_for}
 use Rattle.mn_edge.specs.FaultLaws.{counted_out}
-use Rattle.mn_edge.specs.KeptLaws.{framed_both, lacking_at}
+use Rattle.mn_edge.specs.KeptLaws.{framed_both, framed_same, lacking_at}
 use Rattle.mn_edge.specs.Written.{texts}
 use Rattle.mn_edge.proofs.Laying.{name_there}
 use Rattle.mn_edge.proofs.Gathering.{appended, refused, passed_over, all_appended, framed_append, may_grow, none_for}
+use Rattle.mn_edge.proofs.Gathering.{filled_next, filled_same, no_more, one_more}
 use Rattle.mn_edge.proofs.Results.{on_err}
 use Rattle.mn_edge.proofs.gather.append_held.Goals as goal
 use Rattle.mn_edge.proofs.gather.append_held.Goals.{then-not-is_empty+in_ok-append, else-not-is_empty}
+
+pub loop-file-init : goal.loop-file-init
+loop-file-init g c = record {
+  kept = λ contents holds. holds;
+  framed = framed_same _ _;
+  untouched = λ none. refl;
+  calls = no_more _;
+  reads = refl;
+  writes = refl;
+}
 
 pub returns-in_err-append-clause-part : goal.returns-in_err-append-clause-part
 returns-in_err-append-clause-part g c = on_err c.from_residual.result _ (λ contents holds.
@@ -55,6 +68,12 @@ loop-file-preserved g c =
                 let h : c.loop-file.file < length held = rw (← c.requires.names) c.loop-file-test.true in
                 let no = ap length (c.bytes-bytes.ensures ∙ none_for held c.loop-file.file h none) in
                 absurd (eqb-false (length c.bytes-bytes.result.now) 0 (sym c.is_empty.ensures ∙ w.if-not-is_empty.true) no);
+            calls = rw w.shelf-is
+                (w.in_ok-append.ensures.calls ∙ ap (option_map next_call) i.calls ∙ one_more _ _
+                ∙ ap (λ n. option_map (after_calls n) (g.S.Shelf.calls c.args.shelf.now)) (sym (filled_next c.loop-file.file held
+                (rw (← c.requires.names) c.loop-file-test.true)
+                (λ none. eqb-false (length c.bytes-bytes.result.now) 0 (sym c.is_empty.ensures ∙ w.if-not-is_empty.true)
+                (ap length (c.bytes-bytes.ensures ∙ none))))));
             reads = rw w.shelf-is (w.in_ok-append.ensures.reads ∙ i.reads);
             writes = rw w.shelf-is (w.in_ok-append.ensures.writes ∙ i.writes);
           }
@@ -67,6 +86,8 @@ loop-file-preserved g c =
             kept = λ contents holds. rw w.shelf-is (passed_over names contents held _ c.loop-file.file none (i.kept contents holds));
             framed = rw w.shelf-is i.framed;
             untouched = λ none. w.shelf-is ∙ i.untouched none;
+            calls = rw w.shelf-is
+                (i.calls ∙ ap (λ n. option_map (after_calls n) (g.S.Shelf.calls c.args.shelf.now)) (sym (filled_same c.loop-file.file held none)));
             reads = rw w.shelf-is i.reads;
             writes = rw w.shelf-is i.writes;
           }
@@ -76,3 +97,9 @@ pub returns-clause-kept : goal.returns-clause-kept
 returns-clause-kept g c =
     λ contents holds. all_appended (texts c.args.names.now) contents c.args.held.now _ c.loop-file.file (rw length-map c.loop-file-test.false)
     (c.loop-file.invariant.kept contents holds)
+
+pub returns-clause-one : goal.returns-clause-one
+returns-clause-one g c =
+    c.loop-file.invariant.calls
+    ∙ ap (λ l. option_map (after_calls (filled l)) (g.S.Shelf.calls c.args.shelf.now))
+    (take_all c.loop-file.file c.args.held.now (rw (← c.requires.names) c.loop-file-test.false))
