@@ -1,5 +1,5 @@
 //! A frame comes to a node, which forwards it by its table.
-ghost use Rattle.std.specs.Prelude.{◌≡◌, ◌≢◌, ◌<◌, ◌≤◌, ◌+◌, ◌*◌, ◌^◌, ℕ, List, true, length, slice_get, is_some, IfSome};
+ghost use Rattle.std.specs.Prelude.{◌≡◌, ◌≢◌, ◌<◌, ◌≤◌, ◌+◌, ◌*◌, ◌^◌, ℕ, List, true, length, slice_get, is_some, IsSome, IfSome};
 ghost use Rattle.std.specs.List.{All};
 ghost use Rattle.mn_ledger.specs.Prelude.{receiver, Dir, are_joined, Leads, wiring_of, channel, Token, Packets, arrive, packets_after, World};
 ghost use Rattle.mn_transit.specs.Prelude.{on_channel, without, carried_ttl, sent, Labelling, AreMapped, TableStands, path_of};
@@ -19,7 +19,8 @@ use mn_wiring::{Dir, channel_of};
 
 /// The direction in which a link leads from one node to another, if it does.
 fn direction_along(topology: &Topology, link: LinkNo, from: NodeNo, to: NodeNo) -> Option<Dir>
-    ensures { IfSome result (λ dir. Leads topology.now from.0 to.0 link.0 dir) }
+    ensures leads { IfSome result (λ dir. Leads topology.now from.0 to.0 link.0 dir) }
+    ensures found { (dir : Dir) → Leads topology.now from.0 to.0 link.0 dir → IsSome result }
 {
     let ends = topology.links().get(usize::from(link.0))?;
     if ends.a == from && ends.b == to {
