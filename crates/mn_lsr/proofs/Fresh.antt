@@ -124,7 +124,7 @@ no_machines zero = refl
 no_machines (suc n) = ap (λ ss. let o : List (Option Machine) = None ∷ ss in o) (no_machines n)
 
 -- the parts of a node that has learned nothing stand
-module _ (me : NodeNo) (loopbacks : Vec ℕ Global) (ends : List LinkEnds) (mended : Mended) (sessions : Listed) (labels : LabelTable) (life : ℕ)
+module _ (alloc : Global) (me : NodeNo) (loopbacks : Vec ℕ Global) (ends : List LinkEnds) (mended : Mended) (sessions : Listed) (labels : LabelTable) (life : ℕ)
     (attached : Vec ℕ Global) (links : Vec (Option LinkNo) Global)
     (below : me.0 < length loopbacks.items) (wired : IsWired (record { loopbacks = loopbacks.items; ends = ends }))
     (sessions_are : sessions.items ≡ replicate (length ends) None)
@@ -135,6 +135,7 @@ module _ (me : NodeNo) (loopbacks : Vec ℕ Global) (ends : List LinkEnds) (mend
 
   abbrev pub parts : Parts
   parts = record {
+    alloc = alloc;
     me = me;
     loopbacks = loopbacks;
     view = record { nodes = length loopbacks.items; ends = ends; counts = replicate (length ends) 0 };
@@ -255,7 +256,7 @@ module _ (me : NodeNo) (loopbacks : List ℕ) (ends : List LinkEnds) (life : ℕ
   links-are = subst (λ xs. AreLinks (record { loopbacks = xs; ends = ends }) me.0 p.links.items) (sym h.loopbacks) h.links_are
 
   abbrev as_made : Parts
-  as_made = parts me p.loopbacks ends p.mended p.sessions p.labels life p.attached p.links here wired-here h.sessions given-is h.given_by h.attached links-are
+  as_made = parts p.alloc me p.loopbacks ends p.mended p.sessions p.labels life p.attached p.links here wired-here h.sessions given-is h.given_by h.attached links-are
 
   made-is : p ≡ as_made
   made-is =
@@ -266,7 +267,7 @@ module _ (me : NodeNo) (loopbacks : List ℕ) (ends : List LinkEnds) (life : ℕ
 
   pub made-stands : Stands p
   made-stands =
-      subst Stands (sym made-is) (stands me p.loopbacks ends p.mended p.sessions p.labels life p.attached p.links here wired-here h.sessions given-is h.given_by
+      subst Stands (sym made-is) (stands p.alloc me p.loopbacks ends p.mended p.sessions p.labels life p.attached p.links here wired-here h.sessions given-is h.given_by
       h.attached links-are mended-is)
 
   pub made-kept : kept_of p ≡ record {
@@ -278,7 +279,7 @@ module _ (me : NodeNo) (loopbacks : List ℕ) (ends : List LinkEnds) (life : ℕ
       let of : Node → Labels → Resting → Kept = λ x y z. record { node = x; labels = y; resting = z } in
       let node : node_in p ≡ fresh_node (record { loopbacks = loopbacks; ends = ends }) me.0 =
       ap node_in made-is
-      ∙ node-is me p.loopbacks ends p.mended p.sessions p.labels life p.attached p.links here wired-here h.sessions given-is h.given_by h.attached links-are
+      ∙ node-is p.alloc me p.loopbacks ends p.mended p.sessions p.labels life p.attached p.links here wired-here h.sessions given-is h.given_by h.attached links-are
       ∙ ap (λ xs. fresh_node (record { loopbacks = xs; ends = ends }) me.0) h.loopbacks in
       ap (λ x. of x p.labels.labels p.lib.resting) node
       ∙ ap (λ y. of (fresh_node (record { loopbacks = loopbacks; ends = ends }) me.0) y p.lib.resting) h.given

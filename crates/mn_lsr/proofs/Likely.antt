@@ -1,9 +1,9 @@
--- Where loopbacks differ, an address stands where it is found.
-use Rattle.std.proofs.Common.{ℕ, ◌≡◌, ◌≢◌, ◌<◌, false, List, [], length, get_or, arith, sym, ◌∙◌, ap, Some, None, inl, inr, cond, lt-ltb}
-use Rattle.std.specs.Prelude.{◌==◌, position, nat_lt}
+-- Where loopbacks differ, an address stands where it is found; where they ascend, behind as many as are less.
+use Rattle.std.proofs.Common.{ℕ, zero, suc, ◌≡◌, ◌≢◌, ◌<◌, ◌≤◌, ◌+◌, ◌∷◌, Bool, true, false, List, [], length, get_or, arith, sym, ◌∙◌, ap, Some, None, inl, inr, cond, lt-ltb}
+use Rattle.std.specs.Prelude.{◌==◌, position, count_by, nat_lt}
 use Rattle.std.specs.List.{position_or_len}
 use Rattle.std.proofs.lemmas.Bool.Decides.{eqb_tells}
-use Rattle.std.proofs.lemmas.List.Sums.{position_or_len_is}
+use Rattle.std.proofs.lemmas.List.Sums.{position_or_len_is, sum_by-cons}
 use Rattle.mn_base.proofs.Bools.{same_test}
 use Rattle.mn_ldp_session.specs.Spelling.{AreSpelled}
 
@@ -26,3 +26,25 @@ at_one_place xs i a spelled there is =
   where
     less : (k j : ℕ) → k < j → k ≡ j → ⊥
     less k j h q = omega (arith, h, q)
+
+-- as many pass a test as stand before a place, where those before it pass and no others do
+pub counted_to : (p : ℕ → Bool) (xs : List ℕ) (i : ℕ) → i ≤ length xs → ((k : ℕ) → k < i → p (get_or xs k 0) ≡ true) →
+    ((k : ℕ) → i ≤ k → k < length xs → p (get_or xs k 0) ≡ false) → count_by p xs ≡ i
+counted_to p [] i within before behind = omega (arith, within)
+counted_to p (x ∷ xs) zero within before behind =
+    let first : p x ≡ false = behind 0 (omega arith) (omega arith) in
+    let rest : count_by p xs ≡ 0 =
+    counted_to p xs 0 (omega arith) (λ k h. absurd (none k h)) (λ k from h. behind (suc k) (omega arith) (omega (arith, h))) in
+    let one : count_by p (x ∷ xs) ≡ 0 + count_by p xs =
+    sum_by-cons (λ y. cond (p y) 1 0) x xs ∙ ap (λ b. cond b 1 0 + count_by p xs) first in
+    omega (arith, one, rest)
+  where
+    none : (k : ℕ) → k < 0 → ⊥
+    none k h = omega (arith, h)
+counted_to p (x ∷ xs) (suc i) within before behind =
+    let first : p x ≡ true = before 0 (omega arith) in
+    let rest : count_by p xs ≡ i =
+    counted_to p xs i (omega (arith, within)) (λ k h. before (suc k) (omega (arith, h))) (λ k from h. behind (suc k) (omega (arith, from)) (omega (arith, h))) in
+    let one : count_by p (x ∷ xs) ≡ 1 + count_by p xs =
+    sum_by-cons (λ y. cond (p y) 1 0) x xs ∙ ap (λ b. cond b 1 0 + count_by p xs) first in
+    omega (arith, one, rest)

@@ -17,7 +17,15 @@ use mn_base::{LinkNo, NodeNo};
 use mn_bindings::LibEvent;
 use mn_ldp_session::{Session, SessionBad};
 use mn_ldp_wire::{LdpBody, LdpId, LdpMessage, WireBad, read_pdu};
-use std::alloc::{AllocError, Global};
+use std::alloc::AllocError;
+
+/// Something that is received: on which link, from whom, and at which tick.
+#[derive(Clone, Copy)]
+struct Receipt {
+    link: LinkNo,
+    from: LdpId,
+    tick: u64,
+}
 
 /// What a body says to the node, and the label that it brings. A mention of a FEC that is no node's is passed over.
 fn heard_in(loopbacks: &[u32], body: &LdpBody) -> Option<(Message, u32)>
@@ -68,73 +76,67 @@ impl Parts {
     /// Receives a message that the session accepts and that says this to the node.
     fn hear_meant(
         &mut self,
-        alloc: Global,
-        link: LinkNo,
-        from: LdpId,
+        receipt: Receipt,
         message: &LdpMessage,
         heard: (Message, u32),
-        tick: u64,
         out: &mut Vec<Said>,
     ) -> Result<(), AllocError>
         requires stands { Stands self.old }
-        requires there { link.0 < length self.old.view.ends }
+        requires there { receipt.link.0 < length self.old.view.ends }
         requires lawful { IsLawful message.now.body }
-        requires accepted { Accepts (slice_index_or self.old.sessions.items link.0 None) from message.now.body }
+        requires accepted { Accepts (slice_index_or self.old.sessions.items receipt.link.0 None) receipt.from message.now.body }
         requires meant { message_in (wiring_in self.old) message.now.body ≡ Some (meant heard) }
         requires numbers { NumbersFit self.old.sessions.items (length out.old.items) }
         ensures stands { OnOk result (Stands self.new) }
-        ensures kept { OnOk result (kept_of self.new ≡ (after_message (wiring_in self.old) tick link.0 (kept_of self.old) (Some (meant heard))).kept) }
-        ensures said { OnOk result (map pdu_of out.new.items ≡ map pdu_of out.old.items ++ (after_message (wiring_in self.old) tick link.0 (kept_of self.old) (Some (meant heard))).said) }
-        ensures machine { OnOk result (slice_index_or (machines_of self.new.sessions.items) link.0 None ≡ machine_then (slice_index_or self.old.sessions.items link.0 None) message.now.body) }
+        ensures kept { OnOk result (kept_of self.new ≡ (after_message (wiring_in self.old) receipt.tick receipt.link.0 (kept_of self.old) (Some (meant heard))).kept) }
+        ensures said { OnOk result (map pdu_of out.new.items ≡ map pdu_of out.old.items ++ (after_message (wiring_in self.old) receipt.tick receipt.link.0 (kept_of self.old) (Some (meant heard))).said) }
+        ensures machine { OnOk result (slice_index_or (machines_of self.new.sessions.items) receipt.link.0 None ≡ machine_then (slice_index_or self.old.sessions.items receipt.link.0 None) message.now.body) }
         ensures sites { OnOk result (SitesStay self.old self.new) }
         ensures numbers { OnOk result (NumbersFit self.new.sessions.items (length out.new.items)) }
         ensures others { OnOk result (self.new ≡ record self.old { sessions = self.new.sessions; lib = self.new.lib; labels = self.new.labels; lfib = self.new.lfib }) }
     {
-        let Some(was) = self.session(link) else {
+        let Some(was) = self.session(receipt.link) else {
             unreachable!()
         };
         let mut session = was.session;
-        let Ok(reply) = session.hear(from, message) else {
+        let Ok(reply) = session.hear(receipt.from, message) else {
             unreachable!()
         };
         let (said, label) = heard;
-        let event = event_of(self.far(link), reply.begins(), said, label);
+        let event = event_of(self.far(receipt.link), reply.begins(), said, label);
         let now = Open {
             session,
             said: was.said,
         };
-        self.set_session(link, Some(now))?;
-        self.reply(alloc, link, reply, out)?;
-        self.tell(alloc, event, label, tick, out)?;
+        self.set_session(receipt.link, Some(now))?;
+        self.reply(receipt.link, reply, out)?;
+        self.tell(event, label, receipt.tick, out)?;
         Ok(())
     }
 
     /// Receives a message that the session accepts, as one change.
-    pub(crate) fn hear(
+    fn hear(
         &mut self,
-        alloc: Global,
-        link: LinkNo,
-        from: LdpId,
+        receipt: Receipt,
         message: &LdpMessage,
-        tick: u64,
         out: &mut Vec<Said>,
     ) -> Result<(), AllocError>
         requires stands { Stands self.old }
-        requires there { link.0 < length self.old.view.ends }
+        requires there { receipt.link.0 < length self.old.view.ends }
         requires lawful { IsLawful message.now.body }
-        requires accepted { Accepts (slice_index_or self.old.sessions.items link.0 None) from message.now.body }
+        requires accepted { Accepts (slice_index_or self.old.sessions.items receipt.link.0 None) receipt.from message.now.body }
         requires numbers { NumbersFit self.old.sessions.items (length out.old.items) }
         ensures stands { OnOk result (Stands self.new) }
-        ensures kept { OnOk result (kept_of self.new ≡ (after_message (wiring_in self.old) tick link.0 (kept_of self.old) (message_in (wiring_in self.old) message.now.body)).kept) }
-        ensures said { OnOk result (map pdu_of out.new.items ≡ map pdu_of out.old.items ++ (after_message (wiring_in self.old) tick link.0 (kept_of self.old) (message_in (wiring_in self.old) message.now.body)).said) }
-        ensures machine { OnOk result (slice_index_or (machines_of self.new.sessions.items) link.0 None ≡ machine_then (slice_index_or self.old.sessions.items link.0 None) message.now.body) }
+        ensures kept { OnOk result (kept_of self.new ≡ (after_message (wiring_in self.old) receipt.tick receipt.link.0 (kept_of self.old) (message_in (wiring_in self.old) message.now.body)).kept) }
+        ensures said { OnOk result (map pdu_of out.new.items ≡ map pdu_of out.old.items ++ (after_message (wiring_in self.old) receipt.tick receipt.link.0 (kept_of self.old) (message_in (wiring_in self.old) message.now.body)).said) }
+        ensures machine { OnOk result (slice_index_or (machines_of self.new.sessions.items) receipt.link.0 None ≡ machine_then (slice_index_or self.old.sessions.items receipt.link.0 None) message.now.body) }
         ensures sites { OnOk result (SitesStay self.old self.new) }
         ensures numbers { OnOk result (NumbersFit self.new.sessions.items (length out.new.items)) }
         ensures others { OnOk result (self.new ≡ record self.old { sessions = self.new.sessions; lib = self.new.lib; labels = self.new.labels; lfib = self.new.lfib }) }
     {
         match heard_in(&self.loopbacks, &message.body) {
             None => Ok(()),
-            Some(heard) => self.hear_meant(alloc, link, from, message, heard, tick, out),
+            Some(heard) => self.hear_meant(receipt, message, heard, out),
         }
     }
 }
@@ -156,25 +158,22 @@ impl Parts {
     /// Receives messages that the session accepts, one after the other.
     fn hear_all(
         &mut self,
-        alloc: Global,
-        link: LinkNo,
-        from: LdpId,
+        receipt: Receipt,
         messages: &[LdpMessage],
-        tick: u64,
     ) -> Result<Vec<Said>, AllocError>
         requires stands { Stands self.old }
-        requires there { link.0 < length self.old.view.ends }
+        requires there { receipt.link.0 < length self.old.view.ends }
         requires lawful { All (λ message. IsLawful message.body) messages.now }
-        requires accepted { AcceptsAll (slice_index_or (machines_of self.old.sessions.items) link.0 None) from messages.now }
+        requires accepted { AcceptsAll (slice_index_or (machines_of self.old.sessions.items) receipt.link.0 None) receipt.from messages.now }
         requires numbers { NumbersFit self.old.sessions.items 0 }
         ensures stands { OnOk result (Stands self.new) }
-        ensures heard { IfOk result (λ out. record { kept = kept_of self.new; said = map pdu_of out.items } ≡ after_messages (wiring_in self.old) tick link.0 (kept_of self.old) messages.now) }
+        ensures heard { IfOk result (λ out. record { kept = kept_of self.new; said = map pdu_of out.items } ≡ after_messages (wiring_in self.old) receipt.tick receipt.link.0 (kept_of self.old) messages.now) }
         ensures sites { OnOk result (SitesStay self.old self.new) }
         ensures others { OnOk result (self.new ≡ record self.old { sessions = self.new.sessions; lib = self.new.lib; labels = self.new.labels; lfib = self.new.lfib }) }
     {
-        let mut out = Vec::new(alloc);
+        let mut out = Vec::new(self.alloc);
         for message in messages {
-            self.hear(alloc, link, from, message, tick, &mut out)?;
+            self.hear(receipt, message, &mut out)?;
         }
         Ok(out)
     }
@@ -182,7 +181,6 @@ impl Parts {
     /// Receives the messages of a PDU, where the session accepts them all.
     pub(crate) fn hear_ldp(
         &mut self,
-        alloc: Global,
         link: LinkNo,
         bytes: &[u8],
         tick: u64,
@@ -199,7 +197,7 @@ impl Parts {
         ensures others { OnOk result (self.new ≡ record self.old { sessions = self.new.sessions; lib = self.new.lib; labels = self.new.labels; lfib = self.new.lfib }) }
         ensures unchanged { IfErr result (λ bad. bad ≢ LsrBad.NoMemory → self.new ≡ self.old) }
     {
-        let pdu = match read_pdu(alloc, bytes) {
+        let pdu = match read_pdu(self.alloc, bytes) {
             Ok(pdu) => pdu,
             Err(WireBad::NoMemory) => return Err(LsrBad::NoMemory),
             Err(bad) => return Err(LsrBad::Wire(bad)),
@@ -210,7 +208,12 @@ impl Parts {
         if let Some(bad) = first_refusal(open.session, pdu.from(), pdu.messages()) {
             return Err(LsrBad::Session(bad));
         }
-        match self.hear_all(alloc, link, pdu.from(), pdu.messages(), tick) {
+        let receipt = Receipt {
+            link,
+            from: pdu.from(),
+            tick,
+        };
+        match self.hear_all(receipt, pdu.messages()) {
             Ok(out) => Ok(out),
             Err(_) => Err(LsrBad::NoMemory),
         }
@@ -219,7 +222,6 @@ impl Parts {
     /// The same, by the session as contracts see it.
     pub(crate) fn hear_bytes(
         &mut self,
-        alloc: Global,
         link: LinkNo,
         bytes: &[u8],
         tick: u64,
@@ -236,6 +238,6 @@ impl Parts {
         ensures others { OnOk result (self.new ≡ record self.old { sessions = self.new.sessions; lib = self.new.lib; labels = self.new.labels; lfib = self.new.lfib }) }
         ensures unchanged { IfErr result (λ bad. bad ≢ LsrBad.NoMemory → self.new ≡ self.old) }
     {
-        self.hear_ldp(alloc, link, bytes, tick)
+        self.hear_ldp(link, bytes, tick)
     }
 }

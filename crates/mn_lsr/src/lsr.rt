@@ -28,7 +28,6 @@ use std::marker::Model;
 /// are used for, and whether it has run out of memory.
 #[derive(Drop)]
 pub struct Lsr {
-    alloc: Global,
     parts: Parts,
     /// It has run out of memory, and its parts may not fit together any more.
     failed: bool,
@@ -110,7 +109,6 @@ impl Lsr {
     {
         let parts = Parts::over(alloc, me, loopbacks, links, life)?;
         Ok(Lsr {
-            alloc,
             parts,
             failed: false,
         })
@@ -138,7 +136,7 @@ impl Lsr {
         if self.failed {
             return Err(LsrBad::NoMemory);
         }
-        match self.parts.learn(self.alloc, db, link, tick) {
+        match self.parts.learn(db, link, tick) {
             Ok(out) => Ok(out),
             Err(LsrBad::Empty) => Err(LsrBad::Empty),
             Err(_) => {
@@ -165,7 +163,7 @@ impl Lsr {
         if self.failed {
             return Err(AllocError);
         }
-        match self.parts.open(self.alloc, link) {
+        match self.parts.open(link) {
             Ok(out) => Ok(out),
             Err(_) => {
                 self.failed = true;
@@ -191,7 +189,7 @@ impl Lsr {
         if self.failed {
             return Err(AllocError);
         }
-        match self.parts.close(self.alloc, link, tick) {
+        match self.parts.close(link, tick) {
             Ok(out) => Ok(out),
             Err(_) => {
                 self.failed = true;
@@ -220,7 +218,7 @@ impl Lsr {
         if self.failed {
             return Err(LsrBad::NoMemory);
         }
-        match self.parts.hear_bytes(self.alloc, link, bytes, tick) {
+        match self.parts.hear_bytes(link, bytes, tick) {
             Ok(out) => Ok(out),
             Err(LsrBad::NoMemory) => {
                 self.failed = true;

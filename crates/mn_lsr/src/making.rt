@@ -48,6 +48,7 @@ impl Parts {
         let ((view, mended), (lib, labels)) = nothing_yet(alloc, me, nodes, shared, life)?;
         let sessions = Sessions::new(alloc, ends.len());
         Ok(Parts {
+            alloc,
             me,
             loopbacks,
             view,

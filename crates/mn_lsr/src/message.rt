@@ -1,10 +1,11 @@
-ghost use Rattle.std.specs.Prelude.{◌≡◌, ◌≤◌, ◌<◌, [], ◌==◌, length, position, IfOk, IfSome, option_map};
+ghost use Rattle.std.specs.Prelude.{◌≡◌, ◌≤◌, ◌<◌, [], ◌==◌, length, position, count_by, nat_lt, IfOk, IfSome, option_map};
+ghost use Rattle.std.specs.List.Sorted.{IsNonDecreasing};
 ghost use Rattle.mn_lsr.specs.Prelude.{written, IsWritable, own_labels, AreSpelled, body_of, id_of, node_of};
 ghost use Rattle.mn_lsr.specs.Message.{meaning, NamesNode, HasLabel, as_node};
 
+use crate::speaking::Speaker;
 use crate::ways::own_label;
 use mn_base::NodeNo;
-use mn_labels::Labels;
 use mn_ldp_wire::{Addresses, LdpBody, LdpId, LdpMessage, write_pdu};
 use mn_prefix::Prefix;
 use std::alloc::{AllocError, Global};
@@ -46,19 +47,15 @@ fn host(address: u32) -> Prefix
 
 /// What a message says to a neighbour, by the labels that the node gave. A Release brings the label that was withdrawn.
 pub(crate) fn body_of(
-    alloc: Global,
-    me: NodeNo,
+    speaker: &Speaker,
     far: NodeNo,
-    loopbacks: &[u32],
-    labels: &Labels,
-    withdrawn: u32,
     message: Message,
 ) -> Result<LdpBody, AllocError>
-    requires me { me.0 < length loopbacks.now }
-    requires far { far.0 < length loopbacks.now }
-    requires fec { NamesNode (length loopbacks.now) message }
-    requires label { HasLabel me.0 labels.now.labels withdrawn message }
-    ensures body { IfOk result (λ body. body ≡ body_of (record { loopbacks = loopbacks.now; ends = [] }) me.0 (own_labels me.0 labels.now.labels) far.0 withdrawn (meaning message)) }
+    requires me { speaker.now.me.0 < length speaker.now.loopbacks.now }
+    requires far { far.0 < length speaker.now.loopbacks.now }
+    requires fec { NamesNode (length speaker.now.loopbacks.now) message }
+    requires label { HasLabel speaker.now.me.0 speaker.now.labels.now.labels speaker.now.withdrawn message }
+    ensures body { IfOk result (λ body. body ≡ body_of (record { loopbacks = speaker.now.loopbacks.now; ends = [] }) speaker.now.me.0 (own_labels speaker.now.me.0 speaker.now.labels.now.labels) far.0 speaker.now.withdrawn (meaning message)) }
     ensures writable { IfOk result (λ body. IsWritable body) }
 {
     match message {
@@ -68,67 +65,58 @@ pub(crate) fn body_of(
             flags: 0,
             limit: 0,
             greatest: 4096,
-            receiver: id_of(loopbacks, far),
+            receiver: id_of(speaker.loopbacks, far),
         }),
         Message::KeepAlive => Ok(LdpBody::KeepAlive),
         Message::Address => {
-            let address = [loopbacks[me.0 as usize]];
-            Ok(LdpBody::Address(Addresses::of(alloc, &address)?))
+            let address = [speaker.loopbacks[speaker.me.0 as usize]];
+            Ok(LdpBody::Address(Addresses::of(speaker.alloc, &address)?))
         }
         Message::Mapping(fec) => {
-            let prefix = host(loopbacks[fec.0 as usize]);
-            Ok(LdpBody::Mapping(prefix, own_label(labels, me, fec)))
+            let prefix = host(speaker.loopbacks[fec.0 as usize]);
+            Ok(LdpBody::Mapping(prefix, own_label(speaker.labels, speaker.me, fec)))
         }
         Message::Withdraw(fec) => {
-            let prefix = host(loopbacks[fec.0 as usize]);
-            Ok(LdpBody::Withdraw(prefix, own_label(labels, me, fec)))
+            let prefix = host(speaker.loopbacks[fec.0 as usize]);
+            Ok(LdpBody::Withdraw(prefix, own_label(speaker.labels, speaker.me, fec)))
         }
         Message::Release(fec) => {
-            let prefix = host(loopbacks[fec.0 as usize]);
-            Ok(LdpBody::Release(prefix, withdrawn))
+            let prefix = host(speaker.loopbacks[fec.0 as usize]);
+            Ok(LdpBody::Release(prefix, speaker.withdrawn))
         }
     }
 }
 
 /// A message as a PDU of its own. Its id is its number, of which the field holds the low 32 bits.
 pub(crate) fn pdu_bytes(
-    alloc: Global,
-    me: NodeNo,
+    speaker: &Speaker,
     far: NodeNo,
-    loopbacks: &[u32],
-    labels: &Labels,
-    withdrawn: u32,
     number: u64,
     message: Message,
 ) -> Result<Vec<u8>, AllocError>
-    requires few { length loopbacks.now ≤ 256 }
-    requires me { me.0 < length loopbacks.now }
-    requires far { far.0 < length loopbacks.now }
-    requires fec { NamesNode (length loopbacks.now) message }
-    requires label { HasLabel me.0 labels.now.labels withdrawn message }
-    ensures { IfOk result (λ bytes. bytes.items ≡ written (id_of (record { loopbacks = loopbacks.now; ends = [] }) me.0)
-        (record { id = number; body = body_of (record { loopbacks = loopbacks.now; ends = [] }) me.0 (own_labels me.0 labels.now.labels) far.0 withdrawn (meaning message) })) }
+    requires few { length speaker.now.loopbacks.now ≤ 256 }
+    requires me { speaker.now.me.0 < length speaker.now.loopbacks.now }
+    requires far { far.0 < length speaker.now.loopbacks.now }
+    requires fec { NamesNode (length speaker.now.loopbacks.now) message }
+    requires label { HasLabel speaker.now.me.0 speaker.now.labels.now.labels speaker.now.withdrawn message }
+    ensures { IfOk result (λ bytes. bytes.items ≡ written (id_of (record { loopbacks = speaker.now.loopbacks.now; ends = [] }) speaker.now.me.0)
+        (record { id = number; body = body_of (record { loopbacks = speaker.now.loopbacks.now; ends = [] }) speaker.now.me.0 (own_labels speaker.now.me.0 speaker.now.labels.now.labels) far.0 speaker.now.withdrawn (meaning message) })) }
 {
-    let body = body_of(alloc, me, far, loopbacks, labels, withdrawn, message)?;
+    let body = body_of(speaker, far, message)?;
     let id = (number % IDS) as u32;
-    write_pdu(alloc, id_of(loopbacks, me), &LdpMessage { id, body })
+    write_pdu(
+        speaker.alloc,
+        id_of(speaker.loopbacks, speaker.me),
+        &LdpMessage { id, body },
+    )
 }
 
-/// Where an address would stand, if the loopbacks were in ascending order.
+/// Where an address stands or would stand among loopbacks in ascending order: behind as many as are less.
 fn likely_place(loopbacks: &[u32], address: u32) -> usize
-    ensures { result ≤ length loopbacks.now }
+    ensures within { result ≤ length loopbacks.now }
+    ensures place { IsNonDecreasing loopbacks.now → result ≡ count_by (λ loopback. nat_lt loopback address) loopbacks.now }
 {
-    let mut low = 0;
-    let mut high = loopbacks.len();
-    while low < high {
-        let middle = low + (high - low) / 2;
-        if loopbacks[middle] < address {
-            low = middle + 1;
-        } else {
-            high = middle;
-        }
-    }
-    low
+    loopbacks.partition_point(|loopback| *loopback < address)
 }
 
 /// The place of an address among the loopbacks. In a topology they mostly ascend, and then few of them are looked at.

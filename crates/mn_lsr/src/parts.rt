@@ -15,8 +15,8 @@ use crate::message::Message;
 use crate::own_ends::Sessions;
 use crate::refusal::LsrBad;
 use crate::said::Said;
-use crate::speaking::{across, say, say_all};
-use crate::ways::{free_before, use_new_ways};
+use crate::speaking::{Speaker, across, say, say_all};
+use crate::ways::use_new_ways;
 use mn_base::{LinkNo, NodeNo};
 use mn_bindings::{Lib, LibEvent};
 use mn_labels::Labels;
@@ -37,6 +37,7 @@ pub struct Open {
 /// The parts of a node.
 #[derive(Drop)]
 pub struct Parts {
+    pub alloc: Global,
     pub me: NodeNo,
     pub loopbacks: Vec<u32>,
     pub view: View,
@@ -106,36 +107,28 @@ fn next_hops(
     Ok(events)
 }
 
-/// The same. Where the tree hasn't moved no FEC is looked at.
-fn new_hops(
-    alloc: Global,
-    me: NodeNo,
-    before: &Lib,
-    tree: &Tree,
-    nodes: u32,
-    moved: bool,
-) -> Result<Vec<LibEvent>, AllocError>
-    requires few { nodes ≤ 256 }
-    requires before { lib.nodes before.now.bindings ≡ nodes }
-    requires table { IsTable nodes tree.now }
-    requires still { moved ≡ false → (fec : ℕ) → fec < nodes → stays me.0 before.now.bindings.hops tree.now fec ≡ true }
-    ensures { IfOk result (λ events. events.items ≡ hop_events me.0 before.now.bindings.hops tree.now nodes) }
-{
-    if moved {
-        next_hops(alloc, me, before, tree, nodes)
-    } else {
-        Ok(Vec::new(alloc))
-    }
-}
-
 impl Parts {
+    /// The next hop by the tree towards each other node, where it isn't as it was. Where the tree hasn't moved no FEC is looked at.
+    fn new_hops(&self, tree: &Tree, moved: bool) -> Result<Vec<LibEvent>, AllocError>
+        requires few { self.now.view.nodes ≤ 256 }
+        requires before { lib.nodes self.now.lib.bindings ≡ self.now.view.nodes }
+        requires table { IsTable self.now.view.nodes tree.now }
+        requires still { moved ≡ false → (fec : ℕ) → fec < self.now.view.nodes → stays self.now.me.0 self.now.lib.bindings.hops tree.now fec ≡ true }
+        ensures { IfOk result (λ events. events.items ≡ hop_events self.now.me.0 self.now.lib.bindings.hops tree.now self.now.view.nodes) }
+    {
+        if moved {
+            next_hops(self.alloc, self.me, &self.lib, tree, self.view.nodes())
+        } else {
+            Ok(Vec::new(self.alloc))
+        }
+    }
+
     /// Takes what happened to the bindings at this tick as one change, gives the FECs that are offered newly their labels, says
     /// what must be sent, and uses the new ways. A Release brings the label that was withdrawn.
     ///
     /// Which FECs are free is asked before the change: one whose last Release comes by it isn't.
     pub(crate) fn follow(
         &mut self,
-        alloc: Global,
         events: &[LibEvent],
         withdrawn: u32,
         tick: u64,
@@ -147,29 +140,26 @@ impl Parts {
         ensures { OnOk result (HasTold self.old self.new withdrawn tick events.now (map pdu_of out.old.items) (map pdu_of out.new.items)) }
     {
         let nodes = self.view.nodes();
-        let free = free_before(alloc, &self.lib, &self.labels, events, nodes, tick)?;
+        let free = self.free_before(events, tick)?;
         let changed = self.lib.apply(events, tick)?;
         self.labels.offer(&changed.begun, &free)?;
         let _given = self.labels.given();
-        say_all(
-            alloc,
-            self.me,
-            &self.loopbacks,
-            self.view.ends(),
-            &self.links,
-            &self.labels,
+        let speaker = Speaker {
+            alloc: self.alloc,
+            me: self.me,
+            loopbacks: &self.loopbacks,
+            ends: self.view.ends(),
+            links: &self.links,
+            labels: &self.labels,
             withdrawn,
-            &changed.tells,
-            &mut self.sessions,
-            out,
-        )?;
+        };
+        say_all(&speaker, &changed.tells, &mut self.sessions, out)?;
         use_new_ways(&mut self.lfib, &self.lib, &self.labels, nodes, events)
     }
 
     /// Learns the next change of a link, and says what its offers have become.
     pub(crate) fn learn(
         &mut self,
-        alloc: Global,
         db: &LinkDb,
         link: LinkNo,
         tick: u64,
@@ -198,12 +188,11 @@ impl Parts {
             return Err(LsrBad::NoMemory);
         };
         let tree = self.mended.tree();
-        let nodes = self.view.nodes();
-        let Ok(events) = new_hops(alloc, self.me, &self.lib, tree, nodes, moved) else {
+        let Ok(events) = self.new_hops(tree, moved) else {
             return Err(LsrBad::NoMemory);
         };
-        let mut out = Vec::new(alloc);
-        let Ok(()) = self.follow(alloc, &events, 0, tick, &mut out) else {
+        let mut out = Vec::new(self.alloc);
+        let Ok(()) = self.follow(&events, 0, tick, &mut out) else {
             return Err(LsrBad::NoMemory);
         };
         Ok(out)
@@ -212,7 +201,6 @@ impl Parts {
     /// The same for one event, or for none.
     pub(crate) fn tell(
         &mut self,
-        alloc: Global,
         event: Option<LibEvent>,
         withdrawn: u32,
         tick: u64,
@@ -225,14 +213,13 @@ impl Parts {
     {
         match event {
             None => Ok(()),
-            Some(event) => self.follow_one(alloc, event, withdrawn, tick, out),
+            Some(event) => self.follow_one(event, withdrawn, tick, out),
         }
     }
 
     /// The same for one event. What is received from a FEC from a neighbour that isn't its next hop is kept, and nothing else is done.
     fn follow_one(
         &mut self,
-        alloc: Global,
         event: LibEvent,
         withdrawn: u32,
         tick: u64,
@@ -247,7 +234,7 @@ impl Parts {
             self.lib.hear_aside(event);
             return Ok(());
         }
-        self.follow(alloc, &[event], withdrawn, tick, out)
+        self.follow(&[event], withdrawn, tick, out)
     }
 
     /// The node's end of the session of a link.
@@ -296,7 +283,6 @@ impl Parts {
     /// Says a message on a link, where this holds.
     fn say_if(
         &mut self,
-        alloc: Global,
         holds: bool,
         link: LinkNo,
         message: Message,
@@ -315,24 +301,21 @@ impl Parts {
         if !holds {
             return Ok(());
         }
-        say(
-            alloc,
-            self.me,
-            &self.loopbacks,
-            self.view.ends(),
-            &self.labels,
-            0,
-            link,
-            message,
-            &mut self.sessions,
-            out,
-        )
+        let speaker = Speaker {
+            alloc: self.alloc,
+            me: self.me,
+            loopbacks: &self.loopbacks,
+            ends: self.view.ends(),
+            links: &self.links,
+            labels: &self.labels,
+            withdrawn: 0,
+        };
+        say(&speaker, link, message, &mut self.sessions, out)
     }
 
     /// Says what the session replies.
     pub(crate) fn reply(
         &mut self,
-        alloc: Global,
         link: LinkNo,
         reply: Reply,
         out: &mut Vec<Said>,
@@ -346,18 +329,17 @@ impl Parts {
         ensures others { OnOk result (self.new ≡ record self.old { sessions = self.new.sessions }) }
     {
         self.say_if(
-            alloc,
             reply.says_initialization(),
             link,
             Message::Initialization,
             out,
         )?;
-        self.say_if(alloc, reply.says_keepalive(), link, Message::KeepAlive, out)?;
-        self.say_if(alloc, reply.begins(), link, Message::Address, out)
+        self.say_if(reply.says_keepalive(), link, Message::KeepAlive, out)?;
+        self.say_if(reply.begins(), link, Message::Address, out)
     }
 
     /// Begins a session on a link. The active end says its Initialization.
-    pub(crate) fn open(&mut self, alloc: Global, link: LinkNo) -> Result<Vec<Said>, AllocError>
+    pub(crate) fn open(&mut self, link: LinkNo) -> Result<Vec<Said>, AllocError>
         requires stands { Stands self.old }
         requires there { link.0 < length self.old.view.ends }
         requires at_end { is_end (wiring_in self.old) link.0 self.old.me.0 ≡ true }
@@ -375,18 +357,13 @@ impl Parts {
         let peer = self.loopback(far);
         let session = Session::open(me, peer);
         self.set_session(link, Some(Open { session, said: 0 }))?;
-        let mut out = Vec::new(alloc);
-        self.reply(alloc, link, first_reply(session), &mut out)?;
+        let mut out = Vec::new(self.alloc);
+        self.reply(link, first_reply(session), &mut out)?;
         Ok(out)
     }
 
     /// Ends the session of a link, and says what the node's offers have become.
-    pub(crate) fn close(
-        &mut self,
-        alloc: Global,
-        link: LinkNo,
-        tick: u64,
-    ) -> Result<Vec<Said>, AllocError>
+    pub(crate) fn close(&mut self, link: LinkNo, tick: u64) -> Result<Vec<Said>, AllocError>
         requires stands { Stands self.old }
         requires there { link.0 < length self.old.view.ends }
         requires open { session_at (node_in self.old) link.0 ≢ None }
@@ -401,8 +378,8 @@ impl Parts {
     {
         let event = closing(self.session(link), self.far(link));
         self.set_session(link, None)?;
-        let mut out = Vec::new(alloc);
-        self.tell(alloc, event, 0, tick, &mut out)?;
+        let mut out = Vec::new(self.alloc);
+        self.tell(event, 0, tick, &mut out)?;
         Ok(out)
     }
 }

@@ -25,38 +25,46 @@ pub(crate) fn across(link: &LinkEnds, me: NodeNo) -> NodeNo
     if link.a == me { link.b } else { link.a }
 }
 
+/// A node that says something: what its messages are made of, and the links to its neighbours. A Release brings the label that was
+/// withdrawn.
+#[derive(Clone, Copy)]
+pub(crate) struct Speaker<'a> {
+    pub alloc: Global,
+    pub me: NodeNo,
+    pub loopbacks: &'a [u32],
+    pub ends: &'a [LinkEnds],
+    /// By neighbour.
+    pub links: &'a [Option<LinkNo>],
+    /// Those that it gave.
+    pub labels: &'a Labels,
+    pub withdrawn: u32,
+}
+
 /// Says a message on a link, with the next number of the session there, and counts it.
 pub(crate) fn say(
-    alloc: Global,
-    me: NodeNo,
-    loopbacks: &[u32],
-    ends: &[LinkEnds],
-    labels: &Labels,
-    withdrawn: u32,
+    speaker: &Speaker,
     link: LinkNo,
     message: Message,
     sessions: &mut Sessions,
     out: &mut Vec<Said>,
 ) -> Result<(), AllocError>
-    requires few { length loopbacks.now ≤ 256 }
-    requires me { me.0 < length loopbacks.now }
-    requires joins { JoinsNodes (record { loopbacks = loopbacks.now; ends = ends.now }) }
-    requires there { link.0 < length ends.now }
-    requires one_each { length sessions.old.items ≡ length ends.now }
-    requires fec { NamesNode (length loopbacks.now) message }
-    requires label { HasLabel me.0 labels.now.labels withdrawn message }
+    requires few { length speaker.now.loopbacks.now ≤ 256 }
+    requires me { speaker.now.me.0 < length speaker.now.loopbacks.now }
+    requires joins { JoinsNodes (record { loopbacks = speaker.now.loopbacks.now; ends = speaker.now.ends.now }) }
+    requires there { link.0 < length speaker.now.ends.now }
+    requires one_each { length sessions.old.items ≡ length speaker.now.ends.now }
+    requires fec { NamesNode (length speaker.now.loopbacks.now) message }
+    requires label { HasLabel speaker.now.me.0 speaker.now.labels.now.labels speaker.now.withdrawn message }
     requires numbers { NumbersFit sessions.old.items (length out.old.items) }
-    ensures said { OnOk result (map pdu_of out.new.items ≡ map pdu_of out.old.items ++ pdu (record { loopbacks = loopbacks.now; ends = ends.now }) link.0 me.0 (own_labels me.0 labels.now.labels) withdrawn
+    ensures said { OnOk result (map pdu_of out.new.items ≡ map pdu_of out.old.items ++ pdu (record { loopbacks = speaker.now.loopbacks.now; ends = speaker.now.ends.now }) link.0 speaker.now.me.0 (own_labels speaker.now.me.0 speaker.now.labels.now.labels) speaker.now.withdrawn
         (said_in (slice_index_or sessions.old.items link.0 None) + 1) (meaning message) ∷ []) }
     ensures counted { OnOk result (sessions.new.items ≡ bumped sessions.old.items link.0) }
 {
     let at = usize::from(link.0);
-    let far = across(&ends[at], me);
+    let far = across(&speaker.ends[at], speaker.me);
     let end = sessions.get(link);
     let number = said_at(end) + 1;
-    let bytes = pdu_bytes(
-        alloc, me, far, loopbacks, labels, withdrawn, number, message,
-    )?;
+    let bytes = pdu_bytes(speaker, far, number, message)?;
     out.push(Said { link, bytes })?;
     sessions.set(link, one_more(end))
 }
@@ -87,36 +95,28 @@ fn one_more(end: Option<Open>) -> Option<Open>
 
 /// Says a message to a neighbour, on the link that joins it.
 pub(crate) fn say_to(
-    alloc: Global,
-    me: NodeNo,
-    loopbacks: &[u32],
-    ends: &[LinkEnds],
-    links: &[Option<LinkNo>],
-    labels: &Labels,
-    withdrawn: u32,
+    speaker: &Speaker,
     to: NodeNo,
     message: Message,
     sessions: &mut Sessions,
     out: &mut Vec<Said>,
 ) -> Result<(), AllocError>
-    requires few { length loopbacks.now ≤ 256 }
-    requires me { me.0 < length loopbacks.now }
-    requires joins { JoinsNodes (record { loopbacks = loopbacks.now; ends = ends.now }) }
-    requires links { AreLinks (record { loopbacks = loopbacks.now; ends = ends.now }) me.0 links.now }
-    requires one_each { length sessions.old.items ≡ length ends.now }
-    requires fec { NamesNode (length loopbacks.now) message }
-    requires label { HasLabel me.0 labels.now.labels withdrawn message }
+    requires few { length speaker.now.loopbacks.now ≤ 256 }
+    requires me { speaker.now.me.0 < length speaker.now.loopbacks.now }
+    requires joins { JoinsNodes (record { loopbacks = speaker.now.loopbacks.now; ends = speaker.now.ends.now }) }
+    requires links { AreLinks (record { loopbacks = speaker.now.loopbacks.now; ends = speaker.now.ends.now }) speaker.now.me.0 speaker.now.links.now }
+    requires one_each { length sessions.old.items ≡ length speaker.now.ends.now }
+    requires fec { NamesNode (length speaker.now.loopbacks.now) message }
+    requires label { HasLabel speaker.now.me.0 speaker.now.labels.now.labels speaker.now.withdrawn message }
     requires numbers { NumbersFit sessions.old.items (length out.old.items) }
-    ensures said { OnOk result (map pdu_of out.new.items ≡ map pdu_of out.old.items ++ pdus_by (record { loopbacks = loopbacks.now; ends = ends.now }) me.0 (own_labels me.0 labels.now.labels) withdrawn sessions.old.items
-        (flat_map (λ l. said_on l me.0 (meaning message ∷ [])) (joining (record { loopbacks = loopbacks.now; ends = ends.now }) me.0 to.0))) }
+    ensures said { OnOk result (map pdu_of out.new.items ≡ map pdu_of out.old.items ++ pdus_by (record { loopbacks = speaker.now.loopbacks.now; ends = speaker.now.ends.now }) speaker.now.me.0 (own_labels speaker.now.me.0 speaker.now.labels.now.labels) speaker.now.withdrawn sessions.old.items
+        (flat_map (λ l. said_on l speaker.now.me.0 (meaning message ∷ [])) (joining (record { loopbacks = speaker.now.loopbacks.now; ends = speaker.now.ends.now }) speaker.now.me.0 to.0))) }
     ensures counted { OnOk result (sessions.new.items ≡ ends_after sessions.old.items
-        (flat_map (λ l. said_on l me.0 (meaning message ∷ [])) (joining (record { loopbacks = loopbacks.now; ends = ends.now }) me.0 to.0))) }
+        (flat_map (λ l. said_on l speaker.now.me.0 (meaning message ∷ [])) (joining (record { loopbacks = speaker.now.loopbacks.now; ends = speaker.now.ends.now }) speaker.now.me.0 to.0))) }
 {
-    match link_to(links, to) {
+    match link_to(speaker.links, to) {
         None => Ok(()),
-        Some(link) => say(
-            alloc, me, loopbacks, ends, labels, withdrawn, link, message, sessions, out,
-        ),
+        Some(link) => say(speaker, link, message, sessions, out),
     }
 }
 
@@ -135,33 +135,25 @@ fn message_of(tell: &Tell) -> Message
 
 /// Says what must be sent, each tell on the link to its neighbour.
 pub(crate) fn say_all(
-    alloc: Global,
-    me: NodeNo,
-    loopbacks: &[u32],
-    ends: &[LinkEnds],
-    links: &[Option<LinkNo>],
-    labels: &Labels,
-    withdrawn: u32,
+    speaker: &Speaker,
     tells: &[Tell],
     sessions: &mut Sessions,
     out: &mut Vec<Said>,
 ) -> Result<(), AllocError>
-    requires few { length loopbacks.now ≤ 256 }
-    requires me { me.0 < length loopbacks.now }
-    requires joins { JoinsNodes (record { loopbacks = loopbacks.now; ends = ends.now }) }
-    requires links { AreLinks (record { loopbacks = loopbacks.now; ends = ends.now }) me.0 links.now }
-    requires one_each { length sessions.old.items ≡ length ends.now }
-    requires may { MayTell (length loopbacks.now) me.0 labels.now.labels withdrawn tells.now }
+    requires few { length speaker.now.loopbacks.now ≤ 256 }
+    requires me { speaker.now.me.0 < length speaker.now.loopbacks.now }
+    requires joins { JoinsNodes (record { loopbacks = speaker.now.loopbacks.now; ends = speaker.now.ends.now }) }
+    requires links { AreLinks (record { loopbacks = speaker.now.loopbacks.now; ends = speaker.now.ends.now }) speaker.now.me.0 speaker.now.links.now }
+    requires one_each { length sessions.old.items ≡ length speaker.now.ends.now }
+    requires may { MayTell (length speaker.now.loopbacks.now) speaker.now.me.0 speaker.now.labels.now.labels speaker.now.withdrawn tells.now }
     requires numbers { NumbersFit sessions.old.items (length out.old.items) }
-    ensures said { OnOk result (map pdu_of out.new.items ≡ map pdu_of out.old.items ++ pdus_by (record { loopbacks = loopbacks.now; ends = ends.now }) me.0 (own_labels me.0 labels.now.labels) withdrawn sessions.old.items
-        (flat_map (said_by_tell (record { loopbacks = loopbacks.now; ends = ends.now }) me.0) tells.now)) }
-    ensures counted { OnOk result (sessions.new.items ≡ ends_after sessions.old.items (flat_map (said_by_tell (record { loopbacks = loopbacks.now; ends = ends.now }) me.0) tells.now)) }
+    ensures said { OnOk result (map pdu_of out.new.items ≡ map pdu_of out.old.items ++ pdus_by (record { loopbacks = speaker.now.loopbacks.now; ends = speaker.now.ends.now }) speaker.now.me.0 (own_labels speaker.now.me.0 speaker.now.labels.now.labels) speaker.now.withdrawn sessions.old.items
+        (flat_map (said_by_tell (record { loopbacks = speaker.now.loopbacks.now; ends = speaker.now.ends.now }) speaker.now.me.0) tells.now)) }
+    ensures counted { OnOk result (sessions.new.items ≡ ends_after sessions.old.items (flat_map (said_by_tell (record { loopbacks = speaker.now.loopbacks.now; ends = speaker.now.ends.now }) speaker.now.me.0) tells.now)) }
 {
     for tell in tells {
         let message = message_of(tell);
-        say_to(
-            alloc, me, loopbacks, ends, links, labels, withdrawn, tell.to, message, sessions, out,
-        )?;
+        say_to(speaker, tell.to, message, sessions, out)?;
     }
     Ok(())
 }

@@ -5,6 +5,7 @@ ghost use Rattle.mn_lsr.specs.Message.{HasOne};
 ghost use Rattle.mn_lsr.specs.Parts.{free_of};
 ghost use Rattle.mn_lsr.specs.Telling.{opens_one};
 
+use crate::parts::Parts;
 use mn_base::NodeNo;
 use mn_bindings::{Lib, LibEvent, are_of_fecs};
 use mn_labels::Labels;
@@ -34,26 +35,25 @@ fn has_free_label(bindings: &Lib, labels: &Labels, fec: NodeNo, tick: u64) -> bo
     labels.of(fec).is_some() && bindings.is_free(fec, tick)
 }
 
-/// The FECs that have a label which may be another's at this tick, in node order, where an offer may begin by these events: none
-/// gives up its label otherwise. Where none can be free yet, and where no offer begins, no FEC is looked at but those of the events.
-pub(crate) fn free_before(
-    alloc: Global,
-    bindings: &Lib,
-    labels: &Labels,
-    events: &[LibEvent],
-    count: u32,
-    tick: u64,
-) -> Result<Vec<NodeNo>, AllocError>
-    requires few { count ≤ 256 }
-    requires all { count ≡ nodes bindings.now.bindings }
-    requires fit { EventsFit bindings.now.bindings events.now }
-    ensures { IfOk result (λ free. (begun bindings.now.bindings (after_events bindings.now.bindings events.now) ≡ [] → ⊥) →
-        numbers free.items ≡ flat_map (free_of bindings.now labels.now.labels tick) (range_with_len 0 count)) }
-{
-    if bindings.may_be_free(tick) && bindings.may_begin(events) {
-        free_fecs(alloc, bindings, labels, count, tick)
-    } else {
-        Ok(Vec::new(alloc))
+impl Parts {
+    /// The FECs that have a label which may be another's at this tick, in node order, where an offer may begin by these events: none
+    /// gives up its label otherwise. Where none can be free yet, and where no offer begins, no FEC is looked at but those of the events.
+    pub(crate) fn free_before(
+        &self,
+        events: &[LibEvent],
+        tick: u64,
+    ) -> Result<Vec<NodeNo>, AllocError>
+        requires few { self.now.view.nodes ≤ 256 }
+        requires all { self.now.view.nodes ≡ nodes self.now.lib.bindings }
+        requires fit { EventsFit self.now.lib.bindings events.now }
+        ensures { IfOk result (λ free. (begun self.now.lib.bindings (after_events self.now.lib.bindings events.now) ≡ [] → ⊥) →
+            numbers free.items ≡ flat_map (free_of self.now.lib self.now.labels.labels tick) (range_with_len 0 self.now.view.nodes)) }
+    {
+        if self.lib.may_be_free(tick) && self.lib.may_begin(events) {
+            free_fecs(self.alloc, &self.lib, &self.labels, self.view.nodes(), tick)
+        } else {
+            Ok(Vec::new(self.alloc))
+        }
     }
 }
 

@@ -17,9 +17,9 @@ use Rattle.mn_lsr.proofs.speaking.say_all.Goals as goal
 
 pub loop-tell-preserved : goal.loop-tell-preserved
 loop-tell-preserved c =
-    let w : Wiring = record { loopbacks = c.args.loopbacks.now; ends = c.args.ends.now } in
-    let me : ℕ = c.args.me.0 in
-    let own : ℕ → ℕ = own_labels me c.args.labels.now.labels in
+    let w : Wiring = record { loopbacks = c.args.speaker.now.loopbacks.now; ends = c.args.speaker.now.ends.now } in
+    let me : ℕ = c.args.speaker.now.me.0 in
+    let own : ℕ → ℕ = own_labels me c.args.speaker.now.labels.now.labels in
     let tells : List Tell = c.args.tells.now in
     let i : ℕ = c.loop-tell.tell-index in
     let none : Tell = record { to = record { 0 = 0 }; kind = Map; fec = record { 0 = 0 } } in
@@ -28,22 +28,22 @@ loop-tell-preserved c =
     let counted : c.say_to.new.sessions.items ≡ ends_after c.loop-tell.sessions.items (said_by_tell w me tell) =
     c.in_ok-say_to.ensures.counted
     ∙ ap (λ (m : Message). ends_after c.loop-tell.sessions.items (flat_map (λ l. said_on l me (m ∷ [])) (joining w me tell.to.0))) meant in
-    let said : map pdu_of c.say_to.new.out.items ≡ map pdu_of c.loop-tell.out.items ++ pdus_by w me own c.args.withdrawn c.loop-tell.sessions.items
+    let said : map pdu_of c.say_to.new.out.items ≡ map pdu_of c.loop-tell.out.items ++ pdus_by w me own c.args.speaker.now.withdrawn c.loop-tell.sessions.items
     (said_by_tell w me tell) =
     c.in_ok-say_to.ensures.said
-    ∙ ap (λ (m : Message). map pdu_of c.loop-tell.out.items ++ pdus_by w me own c.args.withdrawn c.loop-tell.sessions.items
+    ∙ ap (λ (m : Message). map pdu_of c.loop-tell.out.items ++ pdus_by w me own c.args.speaker.now.withdrawn c.loop-tell.sessions.items
     (flat_map (λ l. said_on l me (m ∷ [])) (joining w me tell.to.0))) meant in
     record {
-      said = said-one w me own c.args.withdrawn (said_by_tell w me) tells i none c.loop-tell-test.true (map pdu_of c.loop-tell.out.items)
+      said = said-one w me own c.args.speaker.now.withdrawn (said_by_tell w me) tells i none c.loop-tell-test.true (map pdu_of c.loop-tell.out.items)
           (map pdu_of c.say_to.new.out.items) c.loop-tell.sessions.items c.say_to.new.sessions.items counted said
           ∙ c.loop-tell.invariant.said;
       counted =
-          ends-one w me own c.args.withdrawn (said_by_tell w me) tells i none c.loop-tell-test.true c.loop-tell.sessions.items c.say_to.new.sessions.items
+          ends-one w me own c.args.speaker.now.withdrawn (said_by_tell w me) tells i none c.loop-tell-test.true c.loop-tell.sessions.items c.say_to.new.sessions.items
           counted ∙ c.loop-tell.invariant.counted;
       one_each =
           ap (λ (es : List (Option Open)). length es) counted ∙ length-ends_after c.loop-tell.sessions.items (said_by_tell w me tell)
           ∙ c.loop-tell.invariant.one_each;
-      numbers = said-fits w me own c.args.withdrawn c.loop-tell.sessions.items c.say_to.new.sessions.items (said_by_tell w me tell) c.loop-tell.out.items
+      numbers = said-fits w me own c.args.speaker.now.withdrawn c.loop-tell.sessions.items c.say_to.new.sessions.items (said_by_tell w me tell) c.loop-tell.out.items
           c.say_to.new.out.items counted said c.loop-tell.invariant.numbers;
-      may = may-rest (length c.args.loopbacks.now) me c.args.withdrawn c.args.labels.now.labels tells i none c.loop-tell-test.true c.loop-tell.invariant.may;
+      may = may-rest (length c.args.speaker.now.loopbacks.now) me c.args.speaker.now.withdrawn c.args.speaker.now.labels.now.labels tells i none c.loop-tell-test.true c.loop-tell.invariant.may;
     }

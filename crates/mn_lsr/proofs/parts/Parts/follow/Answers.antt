@@ -64,7 +64,7 @@ both_ok (Err e) A B C f a b = a
 
 -- the premise `all` of free_before and of use_new_ways: as many nodes as the bindings have
 pub free_before-requires-clause-all : goal.free_before-requires-clause-all
-free_before-requires-clause-all c = c.nodes-nodes.ensures.value ∙ c.requires.follow.view_nodes ∙ sym c.requires.follow.lib_nodes
+free_before-requires-clause-all c = c.requires.follow.view_nodes ∙ sym c.requires.follow.lib_nodes
 
 pub apply-requires-clause-few : goal.apply-requires-clause-few
 apply-requires-clause-few c =
@@ -98,9 +98,9 @@ offered_is c = record {
   free_are = all_numbered c.args.self.now c.args.tick;
   newly_are = c.in_ok-changed.ensures.begun;
   offered_is =
-      shown c.args.self.now c.args.events.now c.args.tick c.nodes-nodes.result c.offer.new.self.labels c.in_ok-free.free.items
+      shown c.args.self.now c.args.events.now c.args.tick c.args.self.now.view.nodes c.offer.new.self.labels c.in_ok-free.free.items
       c.in_ok-changed.changed.begun.items
-      (c.nodes-nodes.ensures.value ∙ c.requires.follow.view_nodes) c.in_ok-free.ensures c.in_ok-changed.ensures.begun
+      c.requires.follow.view_nodes c.in_ok-free.ensures c.in_ok-changed.ensures.begun
       (renamed c.args.self.now c.offer.new.self.labels c.deref.result.now c.deref-2.result.now c.in_ok-changed.changed.begun.items c.in_ok-free.free.items
       c.in_ok-offer.ensures.after c.deref.ensures.value c.deref-2.ensures.value);
   me_is = c.offer.ensures.me;

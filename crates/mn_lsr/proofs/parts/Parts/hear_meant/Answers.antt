@@ -26,16 +26,16 @@ use Rattle.mn_lsr.proofs.parts.Parts.hear_meant.Goals.{In_ok-set_session, In_ok-
 -- the numbers fit with the session set, and with what is replied
 set_fits : (c : In_ok-set_session) → NumbersFit c.set_session.new.self.sessions.items (length c.args.out.now.items)
 set_fits c =
-    set-fits c.args.self.now.sessions.items c.set_session.new.self.sessions.items c.args.link.0 (length c.args.out.now.items)
+    set-fits c.args.self.now.sessions.items c.set_session.new.self.sessions.items c.args.receipt.link.0 (length c.args.out.now.items)
     (Some (record { session = c.hear.new.self; said = c.in-Some.was.said })) c.in_ok-set_session.ensures.set
-    (as-much c.args.self.now.sessions.items c.args.link.0 c.in-Some.was (sym c.session.ensures ∙ c.in-Some.is)) c.requires.numbers
+    (as-much c.args.self.now.sessions.items c.args.receipt.link.0 c.in-Some.was (sym c.session.ensures ∙ c.in-Some.is)) c.requires.numbers
 
 reply_fits : (c : In_ok-reply) → NumbersFit c.set_session.new.self.sessions.items (length c.args.out.now.items) →
     NumbersFit c.reply.new.self.sessions.items (length c.reply.new.out.items)
 reply_fits c =
     let q = c.set_session.new.self in
     said-fits (wiring_in q) q.me.0 (own_labels q.me.0 q.labels.labels) 0 q.sessions.items c.reply.new.self.sessions.items
-    (said_on c.args.link.0 q.me.0 (replied c.in-Ok.reply)) c.args.out.now.items c.reply.new.out.items c.in_ok-reply.ensures.counted c.in_ok-reply.ensures.said
+    (said_on c.args.receipt.link.0 q.me.0 (replied c.in-Ok.reply)) c.args.out.now.items c.reply.new.out.items c.in_ok-reply.ensures.counted c.in_ok-reply.ensures.said
 
 pub reply-requires-clause-numbers : goal.reply-requires-clause-numbers
 reply-requires-clause-numbers c = set_fits (goal.at.reply-requires-clause-numbers c).In_ok-set_session
@@ -55,16 +55,16 @@ returns-clause-numbers c =
 
 -- the end receives the message
 abbrev event : In_ok-set_session → Event
-event c = Hears c.args.link.0 (meaning c.args.heard.0) c.args.heard.1
+event c = Hears c.args.receipt.link.0 (meaning c.args.heard.0) c.args.heard.1
 
 happens : (c : In_ok-set_session) →
-    Happens c.args.self.now (event c) c.args.self.now.view.counts (option_to_list c.event_of-event.result) c.set_session.new.self.sessions.items c.args.link.0
+    Happens c.args.self.now (event c) c.args.self.now.view.counts (option_to_list c.event_of-event.result) c.set_session.new.self.sessions.items c.args.receipt.link.0
     (replied c.in-Ok.reply)
     × ((labels : Labels) → MayTell (length c.args.self.now.loopbacks.items) c.args.self.now.me.0 labels c.args.heard.1
     (releases (option_to_list c.event_of-event.result)))
 happens c =
     let p = c.args.self.now in
-    let l = c.args.link.0 in
+    let l = c.args.receipt.link.0 in
     let m = meaning c.args.heard.0 in
     let label = c.args.heard.1 in
     let body = c.args.message.now.body in
@@ -76,27 +76,27 @@ happens c =
 
 -- it has replied
 said : (c : In_ok-reply) →
-    IsReplied c.args.self.now c.reply.new.self c.set_session.new.self.sessions.items c.args.link.0 c.in-Ok.reply (map pdu_of c.args.out.now.items)
+    IsReplied c.args.self.now c.reply.new.self c.set_session.new.self.sessions.items c.args.receipt.link.0 c.in-Ok.reply (map pdu_of c.args.out.now.items)
     (map pdu_of c.reply.new.out.items)
 said c =
-    replied-then c.args.self.now c.set_session.new.self c.reply.new.self c.set_session.new.self.sessions.items c.args.link.0 c.in-Ok.reply
+    replied-then c.args.self.now c.set_session.new.self c.reply.new.self c.set_session.new.self.sessions.items c.args.receipt.link.0 c.in-Ok.reply
     (map pdu_of c.args.out.now.items) (map pdu_of c.reply.new.out.items) c.set_session.ensures.others refl
     c.in_ok-reply.ensures.said c.in_ok-reply.ensures.counted c.in_ok-reply.ensures.others
 
 -- and told what that changes
 told : (c : In_ok-tell) →
-    HasTold c.reply.new.self c.tell.new.self c.args.heard.1 c.args.tick (option_to_list c.event_of-event.result) (map pdu_of c.reply.new.out.items)
+    HasTold c.reply.new.self c.tell.new.self c.args.heard.1 c.args.receipt.tick (option_to_list c.event_of-event.result) (map pdu_of c.reply.new.out.items)
     (map pdu_of c.tell.new.out.items)
 told c = c.in_ok-tell.ensures
 
 done : (c : In_ok-set_session) (r : Parts) (middle : List Pdu) →
-    IsReplied c.args.self.now r c.set_session.new.self.sessions.items c.args.link.0 c.in-Ok.reply (map pdu_of c.args.out.now.items) middle
-    → (q : Parts) (after_it : List Pdu) → HasTold r q c.args.heard.1 c.args.tick (option_to_list c.event_of-event.result) middle after_it →
-    IsAfter c.args.self.now q c.args.heard.1 c.args.tick (event c) (map pdu_of c.args.out.now.items) after_it
+    IsReplied c.args.self.now r c.set_session.new.self.sessions.items c.args.receipt.link.0 c.in-Ok.reply (map pdu_of c.args.out.now.items) middle
+    → (q : Parts) (after_it : List Pdu) → HasTold r q c.args.heard.1 c.args.receipt.tick (option_to_list c.event_of-event.result) middle after_it →
+    IsAfter c.args.self.now q c.args.heard.1 c.args.receipt.tick (event c) (map pdu_of c.args.out.now.items) after_it
 done c r middle said q after_it told =
     let p = c.args.self.now in
-    after-all p c.requires.stands (event c) (option_to_list c.event_of-event.result) c.set_session.new.self.sessions.items c.args.link.0
-    c.in-Ok.reply (happens c).0 r r.sessions q c.args.heard.1 c.args.tick (own_labels p.me.0 p.labels.labels)
+    after-all p c.requires.stands (event c) (option_to_list c.event_of-event.result) c.set_session.new.self.sessions.items c.args.receipt.link.0
+    c.in-Ok.reply (happens c).0 r r.sessions q c.args.heard.1 c.args.receipt.tick (own_labels p.me.0 p.labels.labels)
     (map pdu_of c.args.out.now.items) middle after_it said.parts said.ends_are said.pdus_are told
 
 pub tell-requires-clause-follow : goal.tell-requires-clause-follow
@@ -105,7 +105,7 @@ tell-requires-clause-follow c =
     let r = said at.In_ok-reply in
     let h = happens at.In_ok-set_session in
     may-follow-then c.args.self.now c.requires.stands (event at.In_ok-set_session) (option_to_list c.event_of-event.result)
-    c.set_session.new.self.sessions.items c.args.link.0
+    c.set_session.new.self.sessions.items c.args.receipt.link.0
     c.in-Ok.reply h.0 c.reply.new.self c.reply.new.self.sessions c.args.heard.1 r.parts r.ends_are h.1
 
 pub returns-clause-stands : goal.returns-clause-stands
@@ -135,11 +135,11 @@ returns-clause-machine c =
     let at = goal.at.returns-clause-machine c in
     let p = c.args.self.now in
     let st = c.requires.stands in
-    let l = c.args.link.0 in
+    let l = c.args.receipt.link.0 in
     let r = said at.In_ok-reply in
     ap (λ (ms : List (Option Session)). slice_index_or ms l None)
     (machines-then p st (event at.In_ok-set_session) (option_to_list c.event_of-event.result) c.set_session.new.self.sessions.items l
-    c.in-Ok.reply (happens at.In_ok-set_session).0 c.reply.new.self c.reply.new.self.sessions c.tell.new.self c.args.heard.1 c.args.tick
+    c.in-Ok.reply (happens at.In_ok-set_session).0 c.reply.new.self c.reply.new.self.sessions c.tell.new.self c.args.heard.1 c.args.receipt.tick
     (map pdu_of c.reply.new.out.items) (map pdu_of c.tell.new.out.items) r.parts r.ends_are (told at.In_ok-tell))
     ∙ machine-heard p st l c.requires.there c.in-Some.was
     (sym c.session.ensures ∙ c.in-Some.is) c.args.message.now.body c.in-Ok.reply c.hear.new.self c.set_session.new.self.sessions.items c.in-Ok.ensures.table
@@ -153,7 +153,7 @@ tell-requires-clause-owed c =
     subst (λ (x : Parts). AreFew (2 ^ 62 + n) x.lib.resting) (sym c.in_ok-reply.ensures.others)
     (subst (λ (x : Parts). AreFew (2 ^ 62 + n) x.lib.resting) (sym c.set_session.ensures.others)
     (few-still p (length c.args.out.now.items) n
-    (said-more (wiring_in q) q.me.0 (own_labels q.me.0 q.labels.labels) 0 q.sessions.items (said_on c.args.link.0 q.me.0 (replied c.in-Ok.reply))
+    (said-more (wiring_in q) q.me.0 (own_labels q.me.0 q.labels.labels) 0 q.sessions.items (said_on c.args.receipt.link.0 q.me.0 (replied c.in-Ok.reply))
     c.args.out.now.items
     c.reply.new.out.items c.in_ok-reply.ensures.said)
     (few-owed p c.requires.stands (length c.args.out.now.items) c.requires.numbers)))

@@ -1,4 +1,4 @@
-use Rattle.std.proofs.Common.{Ok, true, arith, ◌≡◌, ◌+◌, ◌++◌, List, [], map, length, ◌∙◌, sym, ap, subst, slice_index}
+use Rattle.std.proofs.Common.{Ok, true, refl, arith, ◌≡◌, ◌+◌, ◌++◌, List, [], map, length, ◌∙◌, sym, ap, subst, slice_index}
 use Rattle.std.specs.List.{flat_map}
 use Rattle.std.proofs.Math.ListN.{length-set}
 use Rattle.mn_linkdb.specs.Learned.{Learned, links_up, after_learn}
@@ -36,7 +36,7 @@ new_hops-requires-clause-still c = λ still fec h.
     subst (λ (t : PathTable). stays p.me.0 p.lib.bindings.hops t fec ≡ true)
     (sym (c.tree-tree.ensures.value ∙ c.in-Ok-turn_telling.ensures.same (ap Ok still)))
     (all_stay (wiring_in p) (node_in p) p.lib.bindings p.mended.tree st.wired.joins st.me st.tied tree_is fec
-    (omega (arith, h, c.nodes-nodes.ensures.value, ap (λ (v : Learned). v.nodes) c.in-Ok.ensures.learned, st.nodes)))
+    (omega (arith, h, ap (λ (v : Learned). v.nodes) c.in-Ok.ensures.learned, st.nodes)))
 
 pub follow-requires-clause-numbers : goal.follow-requires-clause-numbers
 follow-requires-clause-numbers c = by-ends c.args.self.now (length c.new-out.result.items) c.requires.numbers
@@ -45,9 +45,9 @@ follow-requires-clause-numbers c = by-ends c.args.self.now (length c.new-out.res
 events : (c : After-deref) →
     c.deref.result.now ≡ hop_events c.args.self.now.me.0 c.args.self.now.lib.bindings.hops c.tree-tree.result.now (length c.args.self.now.loopbacks.items)
 events c =
-    events-of c.args.self.now c.requires.stands c.args.link.0 c.learn.new.self c.tree-tree.result.now c.nodes-nodes.result c.in-Ok-new_hops.events.items
+    events-of c.args.self.now c.requires.stands c.args.link.0 c.learn.new.self c.tree-tree.result.now c.learn.new.self.nodes c.in-Ok-new_hops.events.items
     c.deref.result.now
-    c.in-Ok.ensures.learned c.nodes-nodes.ensures.value c.in-Ok-new_hops.ensures c.deref.ensures.value
+    c.in-Ok.ensures.learned refl c.in-Ok-new_hops.ensures c.deref.ensures.value
 
 happens : (c : After-deref) →
     Happens c.args.self.now (Learns c.args.link.0) (after_learn c.args.self.now.view c.args.link.0).counts c.deref.result.now c.args.self.now.sessions.items 0

@@ -40,6 +40,7 @@ returns-clause-wiring c =
 
 abbrev parts : After-new-2 → Parts
 parts c = record {
+  alloc = c.args.alloc;
   me = c.args.me;
   loopbacks = c.in_ok-loopbacks.loopbacks;
   view = c.in_ok-view.view;

@@ -5,8 +5,8 @@ use Rattle.mn_base.proofs.Bools.{and_false}
 use Rattle.mn_labels.specs.Labels.{Labels, label_now, numbers}
 use Rattle.mn_bindings.specs.Known.{Known, is_free}
 use Rattle.mn_lsr.specs.Parts.{free_of}
-use Rattle.mn_lsr.proofs.ways.free_before.Goals as goal
-use Rattle.mn_lsr.proofs.ways.free_before.Goals.{else-may_be_free-via-then-may_be_free+else-may_begin, else-may_be_free-via-else-may_be_free}
+use Rattle.mn_lsr.proofs.parts.Parts.free_before.Goals as goal
+use Rattle.mn_lsr.proofs.parts.Parts.free_before.Goals.{else-may_be_free-via-then-may_be_free+else-may_begin, else-may_be_free-via-else-may_be_free}
 
 -- where no FEC is free none is found
 none_free : (known : Known) (labels : Labels) (tick q n : ℕ) → ((fec : ℕ) → is_free known tick fec ≡ false) →
@@ -24,5 +24,5 @@ returns-else-may_be_free c = λ some. elim c.else-may_be_free.branch [
   | else-may_be_free-via-then-may_be_free+else-may_begin w ↦ absurd (some (w.may_begin.ensures.none w.if-may_begin.false))
   | else-may_be_free-via-else-may_be_free w ↦
       ap numbers c.new.ensures.items
-      ∙ sym (none_free c.args.bindings.now c.args.labels.now.labels c.args.tick 0 c.args.count (c.may_be_free.ensures.none w.if-may_be_free.false))
+      ∙ sym (none_free c.args.self.now.lib c.args.self.now.labels.labels c.args.tick 0 c.args.self.now.view.nodes (c.may_be_free.ensures.none w.if-may_be_free.false))
 ]
