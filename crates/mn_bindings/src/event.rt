@@ -1,4 +1,4 @@
-ghost use Rattle.std.specs.Prelude.{◌≡◌, ◌∷◌, [], ℕ, false, IfSome};
+ghost use Rattle.std.specs.Prelude.{◌≡◌, ◌∷◌, [], ℕ, false, IfSome, Some};
 ghost use Rattle.mn_bindings.specs.declared.event.LibEvent.TheVariants.{Opened};
 ghost use Rattle.mn_bindings.specs.Tells.{closes, opens};
 
@@ -80,7 +80,8 @@ pub(crate) fn opens_any(events: &[LibEvent]) -> bool
 
 /// The neighbour that is opened, where nothing else happens.
 pub(crate) fn opened_alone(events: &[LibEvent]) -> Option<NodeNo>
-    ensures { IfSome result (λ to. events.now ≡ Opened to ∷ []) }
+    ensures alone { IfSome result (λ to. events.now ≡ Opened to ∷ []) }
+    ensures found { (to : _) → events.now ≡ Opened to ∷ [] → result ≡ Some to }
 {
     match events {
         [LibEvent::Opened(to)] => Some(*to),

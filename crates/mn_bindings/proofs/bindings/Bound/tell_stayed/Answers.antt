@@ -16,5 +16,5 @@ returns-in-Some c =
     let to_it : told c.args.offered c.args.self.now c.args.events.now c.args.fec.0 c.in-Some.to.0 ≡ tells_of c.args.offered c.args.self.now c.args.events.now
     c.args.fec.0 =
     subst (λ es. told c.args.offered c.args.self.now es c.args.fec.0 c.in-Some.to.0 ≡ tells_of c.args.offered c.args.self.now es c.args.fec.0)
-    (sym c.in-Some.ensures) (sym (told_of-opened c.args.offered c.args.self.now c.in-Some.to c.args.fec.0 c.tell_one.ensures.rows c.requires.stayed)) in
+    (sym c.in-Some.ensures.alone) (sym (told_of-opened c.args.offered c.args.self.now c.in-Some.to c.args.fec.0 c.tell_one.ensures.rows c.requires.stayed)) in
     subst (λ xs. OnOk c.tell_one.result (c.tell_one.new.tells.items ≡ c.args.tells.now.items ++ xs)) to_it c.tell_one.ensures.told
