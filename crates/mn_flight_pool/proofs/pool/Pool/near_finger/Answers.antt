@@ -11,9 +11,11 @@ forth-requires g c = from_finger c.args.self.now c.requires.whole c.args.channel
     (omega (arith, c.if-finger-channel.false)) c.args.place c.requires.place
 
 pub returns-then-place-finger-clause-placed : goal.returns-then-place-finger-clause-placed
-returns-then-place-finger-clause-placed g c = back_by c.args.self.now c.requires.whole c.args.channel c.requires.channel c.in_ok-finger.finger c.in_ok-finger.was
+returns-then-place-finger-clause-placed g c =
+    back_by c.args.self.now c.requires.whole c.args.channel c.requires.channel c.in_ok-finger.finger c.in_ok-finger.was
     (omega (arith, c.if-finger-channel.false)) c.args.place c.requires.place c.back.result.index c.if-place-finger.true c.back.ensures.node
 
 pub returns-else-place-finger-clause-placed : goal.returns-else-place-finger-clause-placed
-returns-else-place-finger-clause-placed g c = forth_by c.args.self.now c.requires.whole c.args.channel c.requires.channel c.in_ok-finger.finger c.in_ok-finger.was
+returns-else-place-finger-clause-placed g c =
+    forth_by c.args.self.now c.requires.whole c.args.channel c.requires.channel c.in_ok-finger.finger c.in_ok-finger.was
     (omega (arith, c.if-finger-channel.false)) c.args.place c.requires.place c.forth.result.index (omega (arith, c.if-place-finger.false)) c.forth.ensures.node
