@@ -256,7 +256,8 @@ module _ (me : NodeNo) (loopbacks : List ℕ) (ends : List LinkEnds) (life : ℕ
   links-are = subst (λ xs. AreLinks (record { loopbacks = xs; ends = ends }) me.0 p.links.items) (sym h.loopbacks) h.links_are
 
   abbrev as_made : Parts
-  as_made = parts p.alloc me p.loopbacks ends p.mended p.sessions p.labels life p.attached p.links here wired-here h.sessions given-is h.given_by h.attached links-are
+  as_made = parts p.alloc me p.loopbacks ends p.mended p.sessions p.labels life p.attached p.links here wired-here h.sessions given-is h.given_by
+      h.attached links-are
 
   made-is : p ≡ as_made
   made-is =
@@ -267,7 +268,8 @@ module _ (me : NodeNo) (loopbacks : List ℕ) (ends : List LinkEnds) (life : ℕ
 
   pub made-stands : Stands p
   made-stands =
-      subst Stands (sym made-is) (stands p.alloc me p.loopbacks ends p.mended p.sessions p.labels life p.attached p.links here wired-here h.sessions given-is h.given_by
+      subst Stands (sym made-is) (stands p.alloc me p.loopbacks ends p.mended p.sessions p.labels life p.attached p.links here wired-here
+      h.sessions given-is h.given_by
       h.attached links-are mended-is)
 
   pub made-kept : kept_of p ≡ record {
@@ -279,7 +281,8 @@ module _ (me : NodeNo) (loopbacks : List ℕ) (ends : List LinkEnds) (life : ℕ
       let of : Node → Labels → Resting → Kept = λ x y z. record { node = x; labels = y; resting = z } in
       let node : node_in p ≡ fresh_node (record { loopbacks = loopbacks; ends = ends }) me.0 =
       ap node_in made-is
-      ∙ node-is p.alloc me p.loopbacks ends p.mended p.sessions p.labels life p.attached p.links here wired-here h.sessions given-is h.given_by h.attached links-are
+      ∙ node-is p.alloc me p.loopbacks ends p.mended p.sessions p.labels life p.attached p.links here wired-here h.sessions given-is h.given_by
+      h.attached links-are
       ∙ ap (λ xs. fresh_node (record { loopbacks = xs; ends = ends }) me.0) h.loopbacks in
       ap (λ x. of x p.labels.labels p.lib.resting) node
       ∙ ap (λ y. of (fresh_node (record { loopbacks = loopbacks; ends = ends }) me.0) y p.lib.resting) h.given

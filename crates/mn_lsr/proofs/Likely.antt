@@ -1,5 +1,6 @@
 -- Where loopbacks differ, an address stands where it is found; where they ascend, behind as many as are less.
-use Rattle.std.proofs.Common.{ℕ, zero, suc, ◌≡◌, ◌≢◌, ◌<◌, ◌≤◌, ◌+◌, ◌∷◌, Bool, true, false, List, [], length, get_or, arith, sym, ◌∙◌, ap, Some, None, inl, inr, cond, lt-ltb}
+use Rattle.std.proofs.Common.{ℕ, zero, suc, ◌≡◌, ◌≢◌, ◌<◌, ◌≤◌, ◌+◌, ◌∷◌, Bool, true, false, List}
+use Rattle.std.proofs.Common.{[], length, get_or, arith, sym, ◌∙◌, ap, Some, None, inl, inr, cond, lt-ltb}
 use Rattle.std.specs.Prelude.{◌==◌, position, count_by, nat_lt}
 use Rattle.std.specs.List.{position_or_len}
 use Rattle.std.proofs.lemmas.Bool.Decides.{eqb_tells}
@@ -44,7 +45,8 @@ counted_to p (x ∷ xs) zero within before behind =
 counted_to p (x ∷ xs) (suc i) within before behind =
     let first : p x ≡ true = before 0 (omega arith) in
     let rest : count_by p xs ≡ i =
-    counted_to p xs i (omega (arith, within)) (λ k h. before (suc k) (omega (arith, h))) (λ k from h. behind (suc k) (omega (arith, from)) (omega (arith, h))) in
+    counted_to p xs i (omega (arith, within)) (λ k h. before (suc k) (omega (arith, h))) (λ k from h. behind (suc k) (omega (arith, from)) (omega
+    (arith, h))) in
     let one : count_by p (x ∷ xs) ≡ 1 + count_by p xs =
     sum_by-cons (λ y. cond (p y) 1 0) x xs ∙ ap (λ b. cond b 1 0 + count_by p xs) first in
     omega (arith, one, rest)

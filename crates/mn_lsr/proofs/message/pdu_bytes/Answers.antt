@@ -13,8 +13,10 @@ use Rattle.mn_lsr.proofs.message.pdu_bytes.Goals as goal
 pub returns : goal.returns
 returns c =
     let w : Wiring = record { loopbacks = c.args.speaker.now.loopbacks.now; ends = [] } in
-    let body : LdpBody = body_of w c.args.speaker.now.me.0 (own_labels c.args.speaker.now.me.0 c.args.speaker.now.labels.now.labels) c.args.far.0 c.args.speaker.now.withdrawn (meaning c.args.message) in
-    let same : written c.id_of.result (record { id = c.args.number % 4294967296; body = c.in_ok-body.body }) ≡ written (id_of w c.args.speaker.now.me.0) (record {
+    let body : LdpBody = body_of w c.args.speaker.now.me.0 (own_labels c.args.speaker.now.me.0 c.args.speaker.now.labels.now.labels) c.args.far.0
+    c.args.speaker.now.withdrawn (meaning c.args.message) in
+    let same : written c.id_of.result (record { id = c.args.number % 4294967296; body = c.in_ok-body.body }) ≡ written (id_of w
+    c.args.speaker.now.me.0) (record {
       id =
           c.args.number;
       body = body;

@@ -38,12 +38,15 @@ loop-tell-preserved c =
           (map pdu_of c.say_to.new.out.items) c.loop-tell.sessions.items c.say_to.new.sessions.items counted said
           ∙ c.loop-tell.invariant.said;
       counted =
-          ends-one w me own c.args.speaker.now.withdrawn (said_by_tell w me) tells i none c.loop-tell-test.true c.loop-tell.sessions.items c.say_to.new.sessions.items
+          ends-one w me own c.args.speaker.now.withdrawn (said_by_tell w me) tells i none c.loop-tell-test.true c.loop-tell.sessions.items
+          c.say_to.new.sessions.items
           counted ∙ c.loop-tell.invariant.counted;
       one_each =
           ap (λ (es : List (Option Open)). length es) counted ∙ length-ends_after c.loop-tell.sessions.items (said_by_tell w me tell)
           ∙ c.loop-tell.invariant.one_each;
-      numbers = said-fits w me own c.args.speaker.now.withdrawn c.loop-tell.sessions.items c.say_to.new.sessions.items (said_by_tell w me tell) c.loop-tell.out.items
+      numbers = said-fits w me own c.args.speaker.now.withdrawn c.loop-tell.sessions.items c.say_to.new.sessions.items (said_by_tell w me tell)
+          c.loop-tell.out.items
           c.say_to.new.out.items counted said c.loop-tell.invariant.numbers;
-      may = may-rest (length c.args.speaker.now.loopbacks.now) me c.args.speaker.now.withdrawn c.args.speaker.now.labels.now.labels tells i none c.loop-tell-test.true c.loop-tell.invariant.may;
+      may = may-rest (length c.args.speaker.now.loopbacks.now) me c.args.speaker.now.withdrawn c.args.speaker.now.labels.now.labels tells i none
+          c.loop-tell-test.true c.loop-tell.invariant.may;
     }

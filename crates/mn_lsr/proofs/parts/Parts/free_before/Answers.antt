@@ -24,5 +24,6 @@ returns-else-may_be_free c = λ some. elim c.else-may_be_free.branch [
   | else-may_be_free-via-then-may_be_free+else-may_begin w ↦ absurd (some (w.may_begin.ensures.none w.if-may_begin.false))
   | else-may_be_free-via-else-may_be_free w ↦
       ap numbers c.new.ensures.items
-      ∙ sym (none_free c.args.self.now.lib c.args.self.now.labels.labels c.args.tick 0 c.args.self.now.view.nodes (c.may_be_free.ensures.none w.if-may_be_free.false))
+      ∙ sym (none_free c.args.self.now.lib c.args.self.now.labels.labels c.args.tick 0 c.args.self.now.view.nodes (c.may_be_free.ensures.none
+      w.if-may_be_free.false))
 ]

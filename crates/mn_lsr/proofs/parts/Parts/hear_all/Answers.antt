@@ -22,7 +22,8 @@ loop-message-preserved c =
     let item : d ≡ slice_index_or ms i d = c.message-item.is in
     let below = c.loop-message-test.true in
     let wiring : wiring_in q ≡ wiring_in p = ap (λ (x : Parts). wiring_in x) c.loop-message.invariant.others in
-    let kept : kept_of c.hear.new.self ≡ (after_message (wiring_in p) c.args.receipt.tick l (kept_of q) (message_in (wiring_in p) (slice_index_or ms i d).body)).kept =
+    let kept : kept_of c.hear.new.self ≡ (after_message (wiring_in p) c.args.receipt.tick l (kept_of q) (message_in (wiring_in p) (slice_index_or
+    ms i d).body)).kept =
     c.in_ok-hear.ensures.kept ∙ ap (λ (w : Wiring). (after_message w c.args.receipt.tick l (kept_of q) (message_in w d.body)).kept) wiring
     ∙ ap (λ (m : LdpMessage). (after_message (wiring_in p) c.args.receipt.tick l (kept_of q) (message_in (wiring_in p) m.body)).kept) item in
     let said : map pdu_of c.hear.new.out.items ≡ map pdu_of c.loop-message.out.items ++

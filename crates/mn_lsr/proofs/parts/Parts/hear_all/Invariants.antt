@@ -12,7 +12,8 @@ invariant-loop-message l = record {
   others : l.self ≡ record l.fn.self { sessions = l.self.sessions; lib = l.self.lib; labels = l.self.labels; lfib = l.self.lfib };
   numbers : NumbersFit l.self.sessions.items (length l.out.items);
   accepted : AcceptsAll (slice_index_or (machines_of l.self.sessions.items) l.receipt.link.0 None) l.receipt.from (drop l.message-index l.messages);
-  said : map pdu_of l.out.items ++ (after_messages (wiring_in l.fn.self) l.receipt.tick l.receipt.link.0 (kept_of l.self) (drop l.message-index l.messages)).said ≡
+  said : map pdu_of l.out.items ++ (after_messages (wiring_in l.fn.self) l.receipt.tick l.receipt.link.0 (kept_of l.self) (drop l.message-index
+      l.messages)).said ≡
       (after_messages (wiring_in l.fn.self) l.receipt.tick l.receipt.link.0 (kept_of l.fn.self) l.messages).said;
   kept : (after_messages (wiring_in l.fn.self) l.receipt.tick l.receipt.link.0 (kept_of l.self) (drop l.message-index l.messages)).kept ≡
       (after_messages (wiring_in l.fn.self) l.receipt.tick l.receipt.link.0 (kept_of l.fn.self) l.messages).kept;

@@ -35,7 +35,8 @@ reply_fits : (c : In_ok-reply) → NumbersFit c.set_session.new.self.sessions.it
 reply_fits c =
     let q = c.set_session.new.self in
     said-fits (wiring_in q) q.me.0 (own_labels q.me.0 q.labels.labels) 0 q.sessions.items c.reply.new.self.sessions.items
-    (said_on c.args.receipt.link.0 q.me.0 (replied c.in-Ok.reply)) c.args.out.now.items c.reply.new.out.items c.in_ok-reply.ensures.counted c.in_ok-reply.ensures.said
+    (said_on c.args.receipt.link.0 q.me.0 (replied c.in-Ok.reply)) c.args.out.now.items c.reply.new.out.items c.in_ok-reply.ensures.counted
+    c.in_ok-reply.ensures.said
 
 pub reply-requires-clause-numbers : goal.reply-requires-clause-numbers
 reply-requires-clause-numbers c = set_fits (goal.at.reply-requires-clause-numbers c).In_ok-set_session
@@ -58,7 +59,8 @@ abbrev event : In_ok-set_session → Event
 event c = Hears c.args.receipt.link.0 (meaning c.args.heard.0) c.args.heard.1
 
 happens : (c : In_ok-set_session) →
-    Happens c.args.self.now (event c) c.args.self.now.view.counts (option_to_list c.event_of-event.result) c.set_session.new.self.sessions.items c.args.receipt.link.0
+    Happens c.args.self.now (event c) c.args.self.now.view.counts (option_to_list c.event_of-event.result) c.set_session.new.self.sessions.items
+    c.args.receipt.link.0
     (replied c.in-Ok.reply)
     × ((labels : Labels) → MayTell (length c.args.self.now.loopbacks.items) c.args.self.now.me.0 labels c.args.heard.1
     (releases (option_to_list c.event_of-event.result)))
