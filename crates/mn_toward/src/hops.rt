@@ -41,70 +41,63 @@ fn adds_up(cost: u32, rest: u32, whole: u32) -> bool
     u64::from(cost) + u64::from(rest) == u64::from(whole)
 }
 
-/// Whether a least walk from the node, whose cost is this, goes over the link first.
-fn is_first(
-    ends: &[LinkEnds],
-    up: &[bool],
-    tree: &Tree,
-    node: NodeNo,
-    whole: u32,
-    number: LinkNo,
-) -> bool
-    requires there { IsThere ends.now (length tree.now.dists) node.0 number }
-    requires switches { length up.now ≡ length ends.now }
-    requires whole { dist_at tree.now node.0 ≡ Some whole }
-    ensures { result ≡ is_on_least (wired ends.now) up.now tree.now.dists node.0 number.0 }
+/// The least walks from a node to the root of a tree, which are of one cost, over the links that are up.
+#[derive(Clone, Copy)]
+pub(crate) struct Walks<'a> {
+    pub ends: &'a [LinkEnds],
+    pub up: &'a [bool],
+    pub tree: &'a Tree,
+    pub node: NodeNo,
+    pub whole: u32,
+}
+
+/// Whether a least walk from the node goes over the link first.
+fn is_first(walks: &Walks, number: LinkNo) -> bool
+    requires there { IsThere walks.now.ends.now (length walks.now.tree.now.dists) walks.now.node.0 number }
+    requires switches { length walks.now.up.now ≡ length walks.now.ends.now }
+    requires whole { dist_at walks.now.tree.now walks.now.node.0 ≡ Some walks.now.whole }
+    ensures { result ≡ is_on_least (wired walks.now.ends.now) walks.now.up.now walks.now.tree.now.dists walks.now.node.0 number.0 }
 {
     let at = usize::from(number.0);
-    if !up[at] {
+    if !walks.up[at] {
         return false;
     }
-    let link = ends[at];
-    match tree.dist(other_end(link, node)) {
-        Some(rest) => adds_up(link.cost, rest, whole),
+    let link = walks.ends[at];
+    match walks.tree.dist(other_end(link, walks.node)) {
+        Some(rest) => adds_up(link.cost, rest, walks.whole),
         None => false,
     }
 }
 
 /// The nearest of what was found and the neighbour over one link more.
 fn with_link(
-    ends: &[LinkEnds],
-    up: &[bool],
-    tree: &Tree,
-    node: NodeNo,
-    whole: u32,
+    walks: &Walks,
     best: Option<(NodeNo, LinkNo)>,
     number: LinkNo,
 ) -> Option<(NodeNo, LinkNo)>
-    requires there { IsThere ends.now (length tree.now.dists) node.0 number }
-    requires switches { length up.now ≡ length ends.now }
-    requires whole { dist_at tree.now node.0 ≡ Some whole }
-    ensures { as_hop result ≡ with_link (wired ends.now) up.now tree.now.dists node.0 (as_hop best) number }
+    requires there { IsThere walks.now.ends.now (length walks.now.tree.now.dists) walks.now.node.0 number }
+    requires switches { length walks.now.up.now ≡ length walks.now.ends.now }
+    requires whole { dist_at walks.now.tree.now walks.now.node.0 ≡ Some walks.now.whole }
+    ensures { as_hop result ≡ with_link (wired walks.now.ends.now) walks.now.up.now walks.now.tree.now.dists walks.now.node.0 (as_hop best) number }
 {
-    if is_first(ends, up, tree, node, whole, number) {
-        nearer(best, (other_end(ends[usize::from(number.0)], node), number))
+    if is_first(walks, number) {
+        let link = walks.ends[usize::from(number.0)];
+        nearer(best, (other_end(link, walks.node), number))
     } else {
         best
     }
 }
 
-/// The nearest neighbour over these links at a node, whose cost is this.
-pub(crate) fn nearest_of(
-    ends: &[LinkEnds],
-    up: &[bool],
-    tree: &Tree,
-    node: NodeNo,
-    whole: u32,
-    links: &[LinkNo],
-) -> Option<(NodeNo, LinkNo)>
-    requires there { All (λ l. IsThere ends.now (length tree.now.dists) node.0 l) links.now }
-    requires switches { length up.now ≡ length ends.now }
-    requires whole { dist_at tree.now node.0 ≡ Some whole }
-    ensures { as_hop result ≡ nearest_over (wired ends.now) up.now tree.now.dists node.0 links.now }
+/// The nearest neighbour over these links at the node.
+pub(crate) fn nearest_of(walks: &Walks, links: &[LinkNo]) -> Option<(NodeNo, LinkNo)>
+    requires there { All (λ l. IsThere walks.now.ends.now (length walks.now.tree.now.dists) walks.now.node.0 l) links.now }
+    requires switches { length walks.now.up.now ≡ length walks.now.ends.now }
+    requires whole { dist_at walks.now.tree.now walks.now.node.0 ≡ Some walks.now.whole }
+    ensures { as_hop result ≡ nearest_over (wired walks.now.ends.now) walks.now.up.now walks.now.tree.now.dists walks.now.node.0 links.now }
 {
     let mut best = None;
     for number in links {
-        best = with_link(ends, up, tree, node, whole, best, *number);
+        best = with_link(walks, best, *number);
     }
     best
 }

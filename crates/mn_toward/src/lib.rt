@@ -20,7 +20,7 @@ ghost use Rattle.mn_toward.specs.Toward.{wired, as_hop, IsThere, nearest_over};
 
 mod hops;
 
-use crate::hops::nearest_of;
+use crate::hops::{Walks, nearest_of};
 use mn_base::{LinkNo, NodeNo};
 use mn_linkdb::Tree;
 use mn_wiring::LinkEnds;
@@ -41,7 +41,16 @@ pub fn next_toward(
     ensures { as_hop result ≡ nearest_over (wired ends.now) up.now tree.now.dists node.0 links.now }
 {
     match tree.dist(node) {
-        Some(whole) => nearest_of(ends, up, tree, node, whole, links),
+        Some(whole) => {
+            let walks = Walks {
+                ends,
+                up,
+                tree,
+                node,
+                whole,
+            };
+            nearest_of(&walks, links)
+        }
         None => None,
     }
 }
