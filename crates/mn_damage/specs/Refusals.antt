@@ -1,13 +1,14 @@
 -- Why a damage is refused: the first cause that holds.
-use Rattle.std.specs.Prelude.{◌≡◌, ◌≢◌, ℕ, Bool, true, false, List, [], ◌∷◌, length, Option, Some, None}
+use Rattle.std.specs.Prelude.{◌≡◌, ◌≢◌, ℕ, Bool, true, false, List, [], ◌∷◌, length, Option, Some, None, Ok, IsTrue}
 use Rattle.std.specs.Result.{is_ok}
 use Rattle.mn_topo.specs.Network.{Network}
 use Rattle.mn_topo.specs.Steps.{fits}
 use Rattle.mn_topo.specs.declared.steps.Damage.{Damage}
 use Rattle.mn_topo.specs.declared.steps.Damage.TheVariants.{Ldp, Bgp}
 use Rattle.mn_topo.specs.declared.steps.JournalEntry.{JournalEntry}
-use Rattle.mn_ldp_wire.specs.Reading.{pdu_of}
-use Rattle.mn_bgp_wire.specs.Reading.{message_of}
+use Rattle.mn_ldp_wire.specs.Reading.{has_header, pdu_of}
+use Rattle.mn_bgp_wire.specs.Grammar.{update_kind}
+use Rattle.mn_bgp_wire.specs.Reading.{header_of, message_of}
 use Rattle.mn_ledger.specs.declared.refused.Refused.{Refused}
 use Rattle.mn_ledger.specs.declared.refused.Refused.TheVariants.{Empty, StillReads}
 use Rattle.mn_ledger.specs.World.{World}
@@ -20,6 +21,11 @@ use Rattle.mn_damage.specs.Damages.{hearing, ending, damage_fits}
 abbrev pub still_reads : Damage → List ℕ → Bool
 still_reads (Ldp link dir number) bytes = is_ok (pdu_of bytes)
 still_reads (Bgp a b number) bytes = is_ok (message_of bytes)
+
+-- the message's reader reads its header, and may want memory for what is behind it: in BGP for an UPDATE alone
+abbrev pub IsHeaderRead : Damage → List ℕ → Type 0
+IsHeaderRead (Ldp link dir number) bytes = IsTrue (has_header bytes)
+IsHeaderRead (Bgp a b number) bytes = header_of bytes ≡ Ok update_kind
 
 -- no message is there to be damaged; its bytes can be read; or what limits the step that it also is
 abbrev pub damage_refusal_at : Network → World → Packets → ℕ → Damage → List ℕ → Option Refused

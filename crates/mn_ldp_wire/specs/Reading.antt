@@ -177,6 +177,10 @@ messages_from (suc most) bytes =
 unfoldable pub messages_of : List ℕ → Result (List LdpMessage) WireBad
 messages_of bytes = messages_from (length bytes) bytes
 
+-- The PDU's header is right: version 1, and a length that counts all bytes after it, with some messages among them.
+abbrev pub has_header : List ℕ → Bool
+has_header bytes = nat_lt 10 (length bytes) && (big_number 2 bytes == 1) && (size_at bytes == length bytes - 4)
+
 -- The whole of the bytes as one PDU.
 unfoldable pub pdu_of : List ℕ → Result PduContents WireBad
 pdu_of bytes =

@@ -1,10 +1,10 @@
 // A PDU, read from the front: its header, and then its messages in order, each with its TLVs in order.
-ghost use Rattle.std.specs.Prelude.{◌≡◌, ◌≤◌, ◌<◌, ◌==◌, List, All, length, MatchOption, Some, None, Ok, IfOk};
+ghost use Rattle.std.specs.Prelude.{◌≡◌, ◌≤◌, ◌<◌, ◌==◌, List, All, length, MatchOption, Some, None, Ok, IfOk, IsErrOf, IsTrue};
 ghost use Rattle.byteorder.specs.Endian.{big_number};
 ghost use Rattle.mn_ldp_wire.specs.declared.message.LdpId.{LdpId};
 ghost use Rattle.mn_ldp_wire.specs.declared.message.LdpMessage.{LdpMessage};
 ghost use Rattle.mn_ldp_wire.specs.Grammar.{is_known_message, IsPdu, IsLawful};
-ghost use Rattle.mn_ldp_wire.specs.Reading.{Gives, Answers, front_of, mandatory_at, are_passed_over, prefix_of, read_label, is_label, addresses_of, is_address_list, notification_of, initialization_of, address_message_of, binding_of, body_of, said_of, message_at, messages_of, pdu_of, id_at, asked};
+ghost use Rattle.mn_ldp_wire.specs.Reading.{Gives, Answers, front_of, mandatory_at, are_passed_over, prefix_of, read_label, is_label, addresses_of, is_address_list, notification_of, initialization_of, address_message_of, binding_of, body_of, said_of, message_at, messages_of, has_header, pdu_of, id_at, asked};
 
 use crate::message::{
     ADDRESS_SIZE, Addresses, ELEMENT_HEADER, FAMILY_SIZE, FIRST_LABEL, FRAME_HEADER, IMPLICIT_NULL,
@@ -32,6 +32,8 @@ pub fn read_pdu(alloc: Global, bytes: &[u8]) -> Result<Pdu, WireBad>
         Answers (λ pdu. pdu) result (Ok (record { from = from; messages = messages })) }
     // What isn't is refused by the first rule that it breaks.
     ensures refuses { Answers (λ pdu. pdu) result (pdu_of bytes.now) }
+    // Only where its header is right is memory taken.
+    ensures memory { IsErrOf result WireBad.NoMemory → IsTrue (has_header bytes.now) }
 {
     whole(alloc, bytes)
 }
@@ -39,7 +41,8 @@ pub fn read_pdu(alloc: Global, bytes: &[u8]) -> Result<Pdu, WireBad>
 /// The whole of the bytes as one PDU.
 #[tactic(auto, unfolding(crate::specs::Reading::pdu_of))]
 fn whole(alloc: Global, bytes: &[u8]) -> Result<Pdu, WireBad>
-    ensures { Answers (λ pdu. pdu) result (pdu_of bytes.now) }
+    ensures reading { Answers (λ pdu. pdu) result (pdu_of bytes.now) }
+    ensures memory { IsErrOf result WireBad.NoMemory → IsTrue (has_header bytes.now) }
 {
     if bytes.len() < PDU_HEADER {
         return Err(WireBad::Short);

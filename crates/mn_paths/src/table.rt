@@ -1,5 +1,5 @@
 //! Where the nodes of each path are kept.
-ghost use Rattle.std.specs.Prelude.{◌≡◌, ◌<◌, ◌≤◌, ◌-◌, ◌+◌, [], ◌∷◌, ◌++◌, length, take, slice_index_or, slice_set, vec_len, IfOk, OnOk, OnErr};
+ghost use Rattle.std.specs.Prelude.{◌≡◌, ◌<◌, ◌≤◌, ◌-◌, ◌+◌, ◌*◌, ◌/◌, ◌^◌, min, [], ◌∷◌, ◌++◌, length, take, slice_index_or, slice_set, vec_len, IfOk, IsOk, OnOk, OnErr};
 ghost use Rattle.std.specs.Vec.{vec_capacity};
 ghost use Rattle.mn_paths.specs.Visits.{path_of, further};
 ghost use Rattle.mn_paths.specs.Whole.{IsWhole, visits_in};
@@ -16,6 +16,15 @@ fn make_room(list: &mut Vec<NodeNo>, more: usize) -> Result<(), AllocError>
     ensures len { vec_len list.new ≡ vec_len list.old }
     ensures room { OnOk result (vec_len list.new + more ≤ vec_capacity list.new) }
     ensures capacity { vec_capacity list.old ≤ vec_capacity list.new }
+
+    // Where there is room nothing is done, and only for want of it anything fails.
+    ensures enough { vec_len list.old + more ≤ vec_capacity list.old → IsOk result × (list.new ≡ list.old) }
+    ensures full { OnErr result (vec_capacity list.old < vec_len list.old + more) }
+    ensures err { OnErr result (vec_capacity list.new ≡ vec_capacity list.old) }
+
+    // Where all has to be copied, there is room for as much again.
+    ensures twice { OnOk result (vec_capacity list.old < vec_len list.old + more → vec_len list.old ≤ vec_capacity list.old / 8 →
+        min (2 * (vec_len list.old + more)) (2 ^ 64 - 1) ≤ vec_capacity list.new) }
 {
     let Some(needed) = list.len().checked_add(more) else {
         return Err(AllocError);

@@ -9,4 +9,4 @@ told (Err bad) is e h = h
 
 pub returns : goal.returns
 unfolding pdu_of
-returns c = told c.still_reads.result _ refl c.still_reads.ensures
+returns c = told c.still_reads.result _ refl c.still_reads.ensures.reads
