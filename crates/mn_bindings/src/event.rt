@@ -1,4 +1,4 @@
-ghost use Rattle.std.specs.Prelude.{◌≡◌, ◌∷◌, [], ℕ, false, IfSome, Some};
+ghost use Rattle.std.specs.Prelude.{true, ◌≡◌, ◌∷◌, [], ℕ, false, IfSome, Some};
 ghost use Rattle.mn_bindings.specs.declared.event.LibEvent.TheVariants.{Opened};
 ghost use Rattle.mn_bindings.specs.Tells.{closes, opens};
 
@@ -68,7 +68,8 @@ pub(crate) fn opens(events: &[LibEvent], from: NodeNo) -> bool
 
 /// Whether any neighbour is opened in these events.
 pub(crate) fn opens_any(events: &[LibEvent]) -> bool
-    ensures { result ≡ false → (neighbour : ℕ) → opens events.now neighbour ≡ false }
+    ensures none { result ≡ false → (neighbour : ℕ) → opens events.now neighbour ≡ false }
+    ensures some { result ≡ true → (neighbour : ℕ) × (opens events.now neighbour ≡ true) }
 {
     for event in events {
         if let LibEvent::Opened(_) = event {
