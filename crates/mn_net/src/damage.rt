@@ -1,5 +1,5 @@
 //! Sessions that end by a damaged message.
-ghost use Rattle.std.specs.Prelude.{◌≡◌, ◌≢◌, ◌<◌, ℕ, List, [], true, false, length, Some, IfOk, OnOk, IsErrOf};
+ghost use Rattle.std.specs.Prelude.{◌≡◌, ◌≢◌, ◌<◌, ℕ, List, [], true, false, length, Some, Err, IfOk, OnOk, IsErrOf};
 ghost use Rattle.mn_ledger.specs.Prelude.{refusal};
 ghost use Rattle.mn_ledger.specs.declared.refused.Refused.TheVariants as why;
 ghost use Rattle.mn_damage.specs.Damages.{damage_fits, hearing};
@@ -22,6 +22,9 @@ impl Net {
     pub fn damage(&mut self, damage: Damage, packet: &[u8]) -> Result<Done, Refused>
         requires fits { damage_fits self.old.topology damage ≡ true }
         ensures answer { (inputs : List (List ℕ)) → StandsFor self.old inputs → Answers (damage_refusal self.old.topology self.old.journal inputs damage packet.now) result }
+        // That no message is there is answered without memory.
+        ensures refused { self.old.failed ≡ false → (inputs : List (List ℕ)) → StandsFor self.old inputs →
+            refusal self.old.topology self.old.journal inputs (hearing damage) [] ≡ Some why.Empty → result ≡ Err why.Empty }
         ensures longer { OnOk result (IsDamaged self.old self.new damage) }
         ensures stands { OnOk result ((inputs : List (List ℕ)) → StandsFor self.old inputs → StandsFor self.new inputs) }
         ensures labels { OnOk result ((inputs : List (List ℕ)) → StandsFor self.new inputs → LabelsMean self.new inputs) }

@@ -58,3 +58,12 @@ returns-clause-stands c = (ended_so _ _ _ c.args.damage _ _ c.ending-step.ensure
 
 pub returns-clause-labels : goal.returns-clause-labels
 returns-clause-labels c = λ ps h. labels_mean _ ps h
+
+pub returns-then-reads-clause-refused : goal.returns-then-reads-clause-refused
+returns-then-reads-clause-refused c = λ works ps h e. absurd (c.has_no_message.ensures.one c.if-has_no_message.false ps h e)
+
+pub returns-in_err-refusal-clause-refused : goal.returns-in_err-refusal-clause-refused
+returns-in_err-refusal-clause-refused c = λ works ps h e. absurd (c.has_no_message.ensures.one c.if-has_no_message.false ps h e)
+
+pub returns-clause-refused : goal.returns-clause-refused
+returns-clause-refused c = λ works ps h e. absurd (c.has_no_message.ensures.one c.if-has_no_message.false ps h e)
