@@ -5,6 +5,7 @@ ghost use Rattle.mn_course_laws.specs.declared.coming.Ending.TheVariants as endi
 ghost use Rattle.mn_sched.specs.Watching.{Together};
 ghost use Rattle.mn_sched.specs.Playing.{past_of, IsDelivery, Arrives, After, Caused, GoesTo, IsGone, IsFirstPart, IsOneLonger, IsPaced, limit_of};
 ghost use Rattle.mn_sched.specs.Arriving.{ArrivesNext};
+ghost use Rattle.mn_net.specs.Prelude.{HasRoom};
 
 use mn_course_laws::{Arrivals, Coming, Kind};
 use mn_ledger::Refused;
@@ -77,6 +78,7 @@ pub(crate) fn set_clock(net: &mut Net, arrivals: Arrivals, due: u64)
     ensures early { net.new.tick ≤ 2 ^ 62 }
     ensures clock { net.new.tick ≤ max net.old.tick due }
     ensures stands { (inputs : List (List ℕ)) → StandsFor net.old inputs → StandsFor net.new inputs }
+    ensures room { (more : ℕ) → HasRoom net.old more → HasRoom net.new more }
 {
     if let Arrivals::News = arrivals {
         return;

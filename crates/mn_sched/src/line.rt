@@ -1,11 +1,13 @@
 ghost use Rattle.std.specs.Prelude.{◌≡◌, ◌≢◌, ◌≤◌, ◌<◌, ◌+◌, ◌^◌, ℕ, List, [], true, false, None, Some, IfOk, IfErr, OnOk, OnErr};
 ghost use Rattle.std.specs.Option.{ForSome};
 ghost use Rattle.mn_sched.specs.Prelude.{damage_fits, command_fits, delivery, next_arrival, ends, one_by_one, is_journal_full, deliver, played, stepped, all, most_of, inputs_of, IsOpen, StandsFor};
-ghost use Rattle.mn_ledger.specs.Prelude.{injects, fits, SiteNo};
+ghost use Rattle.mn_ledger.specs.Prelude.{injects, fits, flight_of, SiteNo};
 ghost use Rattle.mn_course_laws.specs.declared.coming.Ending.TheVariants as ending;
 ghost use Rattle.mn_sched.specs.Draining.{DrainsBy};
 ghost use Rattle.mn_sched.specs.Watching.{Together, Stood, MadeLast, LastFits};
 ghost use Rattle.mn_sched.specs.declared.line.Stopped.TheVariants as stopped;
+ghost use Rattle.mn_net.specs.Prelude.{HasRoom, is_of_frames};
+ghost use Rattle.mn_net.specs.Tables.{count_of};
 
 use crate::arrivals::{delivery, next_arrival, set_clock};
 use crate::watch::{Watch, WatchBad};
@@ -120,6 +122,7 @@ fn deliver_one<W: Watch>(
     ensures goes_on { W.goes_on watch.old watch.new }
     ensures cause { Caused (W.packets watch.old ≡ None)
         (W.reads watch.old, W.writes watch.old) (W.reads watch.new, W.writes watch.new) result }
+    ensures room { is_of_frames (delivery item) ≡ true → (more : ℕ) → HasRoom net.old (more + 1) → HasRoom net.new more }
 {
     set_clock(net, arrivals, item.due);
     let step = delivery(item);
@@ -135,6 +138,9 @@ fn keep_room(net: &mut Net, arrivals: Arrivals, left: u32) -> Result<u32, Stoppe
     ensures topology { net.new.topology ≡ net.old.topology }
     ensures stands { (inputs : List (List ℕ)) → StandsFor net.old inputs → StandsFor net.new inputs }
     ensures memory { IfErr result (λ why. why ≡ stopped.NoMemory) }
+    // By `flush` there is memory for this step and what is left where a frame flies.
+    ensures room { arrivals ≡ Arrivals.AllFrames → (0 < left → HasRoom net.old left) → (inputs : List (List ℕ)) → StandsFor net.old inputs →
+        0 < count_of Kind.Frame (flight_of net.old.topology net.old.journal inputs).items → IfOk result (λ rest. HasRoom net.new (rest + 1)) }
 {
     if left > 0 {
         return Ok(left - 1);
@@ -177,6 +183,8 @@ fn deliver<W: Watch>(
     ensures goes_on { W.goes_on watch.old watch.new }
     ensures cause { Caused (W.packets watch.old ≡ None)
         (W.reads watch.old, W.writes watch.old) (W.reads watch.new, W.writes watch.new) result }
+    // By `flush` no step runs out of memory: it is made room for before, so it is making room that does, or the watch.
+    ensures works { arrivals ≡ Arrivals.AllFrames → (capture : List (List ℕ)) → StandsFor net.old (inputs_of capture net.old.journal) → net.new.failed ≡ false }
 {
     let mut left = 0;
     for turn in 0..most {
@@ -369,6 +377,8 @@ pub fn play<W: Watch>(net: &mut Net, command: &Command, watch: &mut W) -> Result
     ensures after { After net.new (W.packets watch.old) (W.stands watch.new) (W.begins watch.new) result }
     // For every watch: that there is no such record is answered exactly there, but for faults and out of memory.
     ensures missing { MissingIff (names_no_record (W.records watch.old) command.now) result }
+    // By `flush` no step runs out of memory: making room for it does, or the watch. So the network works on.
+    ensures works { command.now ≡ Command.Flush → (capture : List (List ℕ)) → StandsFor net.old (inputs_of capture net.old.journal) → net.new.failed ≡ false }
     ensures topology { net.new.topology ≡ net.old.topology }
     // A line that isn't done leaves the network as it was, and is refused neither for a full journal nor because memory ran out.
     ensures kept { IfOk result (λ played. played ≢ Played.All → net.new ≡ net.old) }

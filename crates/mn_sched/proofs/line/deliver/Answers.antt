@@ -3,6 +3,7 @@ use Rattle.std.proofs.lemmas.Result.{err_from_is_err_and}
 use Rattle.mn_course_laws.specs.Course.{Past, Course, deliver, next_now, inputs_of, is_journal_full, one_by_one}
 use Rattle.mn_sched.specs.Playing.{past_of, Arrives, IsFirstPart}
 use Rattle.mn_sched.proofs.Delivering.{first_part_refl, first_part_trans, next_turn, one_then, one_stops, deliver_more, told_now, keeps, stands_on}
+use Rattle.mn_sched.proofs.Flushing.{flush_comes}
 use Rattle.mn_sched.proofs.Telling.{caused_after}
 use Rattle.mn_sched.proofs.line.deliver.Goals as goal
 
@@ -54,6 +55,13 @@ loop-turn-preserved g c =
           ∙ sym (next_turn c.args.net.now.topology all c.args.arrivals c.args.most l.turn (past_of l.net) (Some c.in-Some.item) c.loop-turn-test.true some)
           ∙ l.invariant.course all before;
       standing = λ all before. done.standing all (stands_on net l.net all past c.keep_room.ensures.stands (l.invariant.standing all before));
+      room = λ flush all before some.
+          let comes = flush_comes c.args.net.now.topology all l.net c.args.arrivals c.in-Some.item l.invariant.topology flush
+          (told_now c.args.net.now.topology all c.args.arrivals net l.net (Some c.in-Some.item) past (c.keep_room.ensures.topology ∙ l.invariant.topology)
+          (sym (c.next_arrival.ensures.value (inputs_of all net.journal)
+          (stands_on net l.net all past c.keep_room.ensures.stands (l.invariant.standing all before))) ∙ c.in-Some.is)) in
+          done.room comes.0 _
+          (c.in_ok-left.ensures.room flush (l.invariant.room flush all before) (inputs_of all l.net.journal) (l.invariant.standing all before) comes.1);
       together = λ all told. done.after all (sym done.packets ∙ told);
       topology = done.topology ∙ c.keep_room.ensures.topology ∙ l.invariant.topology;
       grown = first_part_trans _ _ _ l.invariant.grown (subst (λ es. IsFirstPart es c.deliver_one.new.net.journal) journal done.grown);
@@ -118,6 +126,7 @@ loop-turn-init g c = record {
   course = λ capture before. ap (λ n. deliver c.args.net.now.topology capture c.args.arrivals n (past_of c.args.net.now))
       (let e : c.args.most - 0 ≡ c.args.most = omega arith in e);
   standing = λ all before. before;
+  room = λ flush all before some. absurd (omega (arith, some));
   together = c.requires.together;
   topology = refl;
   grown = first_part_refl c.args.net.now.journal;
@@ -160,3 +169,28 @@ pub returns-in_default-clause-standing : goal.returns-in_default-clause-standing
 returns-in_default-clause-standing g c = λ all before.
     let l = c.loop-turn in
     stands_on c.keep_room.new.net l.net all c.keep_room.ensures.past c.keep_room.ensures.stands (l.invariant.standing all before)
+
+pub returns-in_default-clause-works : goal.returns-in_default-clause-works
+returns-in_default-clause-works g c = λ flush all before.
+    let l = c.loop-turn in
+    (stands_on c.keep_room.new.net l.net all c.keep_room.ensures.past c.keep_room.ensures.stands (l.invariant.standing all before)).works
+
+pub returns-in_err-left-clause-works : goal.returns-in_err-left-clause-works
+returns-in_err-left-clause-works g c = λ flush all before.
+    let l = c.loop-turn in
+    (stands_on c.keep_room.new.net l.net all c.keep_room.ensures.past c.keep_room.ensures.stands (l.invariant.standing all before)).works
+
+pub returns-in_err-deliver_one-clause-works : goal.returns-in_err-deliver_one-clause-works
+returns-in_err-deliver_one-clause-works g c = λ flush all before.
+    let l = c.loop-turn in
+    let net = c.keep_room.new.net in
+    let past : past_of net ≡ past_of l.net = c.keep_room.ensures.past in
+    let comes = flush_comes c.args.net.now.topology all l.net c.args.arrivals c.in-Some.item l.invariant.topology flush
+    (told_now c.args.net.now.topology all c.args.arrivals net l.net (Some c.in-Some.item) past (c.keep_room.ensures.topology ∙ l.invariant.topology)
+    (sym (c.next_arrival.ensures.value (inputs_of all net.journal)
+    (stands_on net l.net all past c.keep_room.ensures.stands (l.invariant.standing all before))) ∙ c.in-Some.is)) in
+    (c.in_err-deliver_one.ensures.room comes.0 _
+    (c.in_ok-left.ensures.room flush (l.invariant.room flush all before) (inputs_of all l.net.journal) (l.invariant.standing all before) comes.1)).works
+
+pub returns-clause-works : goal.returns-clause-works
+returns-clause-works g c = λ flush all before. (c.loop-turn.invariant.standing all before).works

@@ -1,7 +1,9 @@
 use Rattle.std.proofs.Common.{◌≡◌, ◌≤◌, ◌<◌, ◌^◌, ◌-◌, ◌+◌, ℕ, List, length}
 use Rattle.mn_base.specs.Limits.{most_steps}
 use Rattle.mn_course_laws.specs.Course.{deliver, inputs_of}
+use Rattle.mn_course_laws.specs.declared.coming.Arrivals.TheVariants.{AllFrames}
 use Rattle.mn_net.specs.Now.{StandsFor}
+use Rattle.mn_net.specs.Prelude.{HasRoom}
 use Rattle.mn_sched.specs.Watching.{Together}
 use Rattle.mn_sched.specs.Playing.{past_of, GoesOnFor, IsFirstPart, IsPaced}
 use Rattle.mn_sched.proofs.line.deliver.Given as goal
@@ -13,6 +15,7 @@ invariant-loop-turn g l = record {
       (past_of l.fn.net);
   standing : GoesOnFor l.fn.net l.net;
   together : Together l.net (g.W.Watch.packets l.watch) (g.W.Watch.stands l.watch);
+  room : l.arrivals ≡ AllFrames → (capture : List (List ℕ)) → StandsFor l.fn.net (inputs_of capture l.fn.net.journal) → 0 < l.left → HasRoom l.net l.left;
   topology : l.net.topology ≡ l.fn.net.topology;
   grown : IsFirstPart l.fn.net.journal l.net.journal;
   clock : IsPaced 0 l.fn.net l.net;

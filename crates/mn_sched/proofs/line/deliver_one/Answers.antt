@@ -1,4 +1,4 @@
-use Rattle.std.proofs.Common.{◌≡◌, ℕ, List, [], true, false, sym, ◌∙◌, ap, subst, arith}
+use Rattle.std.proofs.Common.{◌≡◌, ◌+◌, ℕ, List, [], true, false, sym, ◌∙◌, ap, subst, arith}
 use Rattle.mn_topo.specs.Steps.{fits}
 use Rattle.mn_ledger.specs.Ledger.{injects}
 use Rattle.mn_ledger.specs.Time.{ticks_in}
@@ -8,6 +8,8 @@ use Rattle.mn_sched.proofs.Growing.{err_then}
 use Rattle.mn_sched.proofs.Telling.{leaves, made_last, last_fits, set_on, stood, same_journal, takes_no_input, one_arrives, after_one, opens_then, one_goes_on}
 use Rattle.mn_sched.specs.Playing.{IsFirstPart}
 use Rattle.mn_sched.proofs.Telling.{one_paced, one_longer, one_early, step_grown}
+use Rattle.mn_net.specs.Prelude.{is_of_frames}
+use Rattle.mn_sched.proofs.Flushing.{room_left}
 use Rattle.mn_sched.proofs.line.deliver_one.Goals as goal
 
 pub finish-played-requires : goal.finish-played-requires
@@ -95,3 +97,8 @@ returns-clause-standing g c =
     rw c.arrived_by.ensures
     (one_goes_on c.step-stepped.result c.finish-played.result c.args.net.now c.set_clock.new.net c.step-stepped.new.self c.delivery-step.result journal
     c.set_clock.ensures.stands plain c.step-stepped.ensures.longer c.step-stepped.ensures.stands c.finish-played.ensures.ended)
+
+pub returns-clause-room : goal.returns-clause-room
+returns-clause-room g c = λ frames more h.
+    room_left c.step-stepped.result c.set_clock.new.net c.step-stepped.new.self (c.step-stepped.ensures.room (ap is_of_frames c.delivery-step.ensures ∙ frames))
+    (leaves _ _ _ c.step-stepped.ensures.left c.step-stepped.ensures.for_good) more (c.set_clock.ensures.room (more + 1) h)
