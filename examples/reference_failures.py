@@ -12,7 +12,8 @@ PARTS = {
     "node down": ["node"],
 }
 EACH = {"each link": [], "each ldp": [], "each node": [], "each bgp": []}
-SETTINGS = {"sessions end": [], "sessions stay": [], "losses": [], "counts": [], "ttl": [(2, 255)]}
+RESOLVE = {"resolve topology": [], "resolve no": [], "resolve label": []}
+SETTINGS = {"sessions end": [], "sessions stay": [], "losses": [], "counts": [], "ttl": [(2, 255)]} | RESOLVE
 LONE = EACH | SETTINGS
 
 

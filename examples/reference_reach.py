@@ -5,13 +5,15 @@ packets go over it, which routes a VRF holds, what becomes of each pair, the lin
 this is the network at rest. reference.py calls it; the inputs are read by reference_inputs.py and reference_failures.py.
 """
 
-from reference_failures import SETTINGS, failures_of
+from dataclasses import replace
+
+from reference_failures import RESOLVE, SETTINGS, failures_of
 from reference_inputs import Refused, contains, is_unicast, prefix_text
 from reference_routes import Route, eligible
 from reference_walks import costs_to, first_hop
 
 PAIRS, FIRST_HOST = 100_000, 0x01000001
-PROFILE = "profile equal least edges one order least interior no resolve topology sync no control ordered bare avoid labels site sessions "
+PROFILE = "profile equal least edges one order least interior no resolve {} sync no control ordered bare avoid labels site sessions {}"
 
 
 # Pairs
@@ -125,7 +127,7 @@ class Report:
         self.topology, self.pairs = topology, pairs_of(topology)
         if len(self.pairs) > PAIRS:
             raise Refused("too large pairs")
-        self.ttl, self.counts, self.sessions_end = 64, False, False
+        self.ttl, self.counts, self.sessions_end, self.resolve = 64, False, False, "topology"
         self.lines, self.whole = [], None  # the verdicts without a failure, None until they are told as things are now
         self.failures = self.lost = self.moved = 0
 
@@ -136,11 +138,17 @@ class Report:
             self.ttl = given[0]
         elif verb in ("losses", "counts"):
             self.counts = verb == "counts"
+        elif verb in RESOLVE:
+            self.resolve = verb.split()[1]
         else:
             self.sessions_end = verb == "sessions end"
 
+    def resolves(self):
+        """The topology's key `resolve`, or what a line sets in its place."""
+        return {"no": False, "label": True}.get(self.resolve, self.topology.resolve)
+
     def verdicts(self, parts):
-        network = AtRest(self.topology, parts, self.sessions_end)
+        network = AtRest(replace(self.topology, resolve=self.resolves()), parts, self.sessions_end)
         return [network.verdict(site, at, self.ttl) for site, _, at in self.pairs]
 
     def named(self):
@@ -150,7 +158,7 @@ class Report:
         """What becomes of each pair without a failure, where that isn't told yet."""
         if self.whole is None:
             self.whole = self.verdicts([])
-            self.lines.append(PROFILE + ("end" if self.sessions_end else "stay"))
+            self.lines.append(PROFILE.format(self.resolve, "end" if self.sessions_end else "stay"))
             self.lines += [f"pair {name} {verdict}" for name, verdict in zip(self.named(), self.whole)]
 
     def tell(self, line, parts):

@@ -13,10 +13,10 @@ TARGETS = ["65000:1", "65000:2", "10.0.0.1:7"]
 COSTS = [[10], [1, 2], [10, 10, 10, 20], [5, 10, 100], [1, 65535]]
 LINES = {
     "fail": 50, "each link": 4, "each ldp": 4, "each node": 4, "each bgp": 4, "each 2 links": 4, "each 3 links": 2, "sessions end": 4, "sessions stay": 2,
-    "counts": 4, "losses": 3, "ttl": 4,
+    "resolve topology": 2, "resolve no": 3, "resolve label": 4, "counts": 4, "losses": 3, "ttl": 4,
 }  # fmt: skip
 WRONG = """
-each site|each|each 4 links|each 2 links from 0|each 2 links from 0 to 1024|each 2 links until 5|sessions|sessions down|counts 1|ttl 1|ttl 256|ttl
+each site|each|each 4 links|each 2 links from 0|each 2 links from 0 to 1024|each 2 links until 5|sessions|sessions down|resolve|resolve labels|resolve no 1|counts 1|ttl 1|ttl 256|ttl
 profile frr|node up nobody|node down nobody|link down|,|bgp down a a|link down a b,|node down a, each link
 """.replace("\n", "|").strip("|").split("|")
 

@@ -33,6 +33,7 @@ class State:
     parts: list
     ttl: int
     sessions_end: bool
+    resolves: bool
     words: str  # of the failure's line
     whole: list  # verdicts without the failure
     changed: dict = field(default_factory=dict)  # verdicts by pair that have changed
@@ -64,9 +65,9 @@ def states_of(settings, commands, names, told):
         if settings.whole is None:
             told.take("profile")
             settings.whole = [told.take("pair").removeprefix(f"pair {name} ") for name in names]
-            yield State([], settings.ttl, settings.sessions_end, "no failure", settings.whole)
+            yield State([], settings.ttl, settings.sessions_end, settings.resolves(), "no failure", settings.whole)
         for parts in failures_of(settings.topology, verb, *given) if verb != "end" else ():
-            state = State(parts, settings.ttl, settings.sessions_end, told.take("failure"), settings.whole)
+            state = State(parts, settings.ttl, settings.sessions_end, settings.resolves(), told.take("failure"), settings.whole)
             yield failure_told(state, settings.counts, names, told)
 
 
@@ -135,9 +136,9 @@ def inputs_of(topology, pairs, states, rng):
     return "\n".join(lines).encode(), HEAD + b"".join(struct.pack("<4I", 0, 0, len(one), len(one)) + one for one in packets)
 
 
-def without_losses(topology_bytes):
-    """The topology's text, in which links lose no frames."""
-    top = tomllib.loads(topology_bytes.decode())
+def topology_for(topology_bytes, resolves):
+    """The topology's text with that key, in which links lose no frames."""
+    top = tomllib.loads(topology_bytes.decode()) | {"resolve": resolves}
     for link in top.get("link", []):
         link.pop("loss", None)
     return toml_text(top).encode()
@@ -154,6 +155,18 @@ def verdicts_of(report):
         verdict = words[8:]
         at = verdict.index("path", 4)
         yield " ".join(verdict[:4] + verdict[at:] if verdict[0] == "delivered" else verdict[:at])
+
+
+def found_by(run, inputs, topology, pairs, states, rng):
+    """The verdicts of each state's packets, by its place: a run has one way to resolve next hops, so there are two runs at most."""
+    found = {}
+    for resolves in {state.resolves for state in states}:
+        places = [at for at, state in enumerate(states) if state.resolves == resolves]
+        verdicts = list(verdicts_of(run(topology_for(inputs[0], resolves), *inputs_of(topology, pairs, [states[at] for at in places], rng))))
+        if len(verdicts) != len(places) * len(pairs):
+            raise Differs(f"{len(places)} states of {len(pairs)} pairs, and {len(verdicts)} packets")
+        found |= {at: verdicts[of * len(pairs) : (of + 1) * len(pairs)] for of, at in enumerate(places)}
+    return found
 
 
 def compare(state, names, found):
@@ -180,10 +193,8 @@ def difference(inputs, report, run, seed=0):
     told, names = Told(report), settings.named()
     try:
         states = list(states_of(settings, commands, names, told))
-        found = list(verdicts_of(run(without_losses(inputs[0]), *inputs_of(topology, settings.pairs, states, random.Random(seed)))))
-        if len(found) != len(states) * len(names):
-            raise Differs(f"{len(states)} states of {len(names)} pairs, and {len(found)} packets")
-        sums = [compare(state, names, found[at * len(names) :]) for at, state in enumerate(states)]
+        found = found_by(run, inputs, topology, settings.pairs, states, random.Random(seed))
+        sums = [compare(state, names, found[at]) for at, state in enumerate(states)]
         lost, moved = (sum(one[at] for one in sums) for at in range(2))
         failures = sum(state.words != "no failure" for state in states)
         due = f"total pairs {len(names)} failures {failures} verdicts {len(names) * failures} lost {lost} part 0 moved {moved}"
@@ -191,4 +202,4 @@ def difference(inputs, report, run, seed=0):
             raise Differs(f"the total due is {due}, and there is {told.lines}")
     except Differs as differs:
         return str(differs), 0
-    return None, len(found)
+    return None, len(states) * len(names)

@@ -69,6 +69,17 @@ class Failures(unittest.TestCase):
         first = [END, A, B, "failure 1 line 2 node down p", *ended, STAY, A, B, "failure 2 line 4 node down p", *stayed]
         self.assertEqual([*first, END, A, B, "failure 3 line 6 ldp off pe1 p", *without, "total pairs 2 failures 3 verdicts 6 lost 6 part 0 moved 0"], told)
 
+    def test_next_hops_are_resolved_by_a_line(self):
+        """10.2.0.0/16 is at n2 and at n3, and the way to n2 has no label: the route of n3 is taken, if that of n2 stands aside."""
+        top = square(at_node(3, 3, "c", ["10.2.0.0/16"]))
+        lost, moved = "lost 1 a 10.2.0.0/16 NoLsp at n0", "moved 1 a 10.2.0.0/16 delivered c ttl 62 path n0 n3"
+        for key, line, word, told in (
+            ("", "", "topology", lost), ("", "resolve label", "label", moved), ("", "resolve no", "no", lost), ("resolve = true", "", "topology", moved),
+            ("resolve = true", "resolve no", "no", lost), ("resolve = true", "resolve topology", "topology", moved),
+        ):  # fmt: skip
+            of = report(f"{key}\n".encode() + top, line, "ldp off n1 n2")
+            self.assertEqual((STAY.replace("topology", word), told), (of[0], next(one for one in of if one.split()[1:4] == ["1", "a", "10.2.0.0/16"])))
+
     def test_a_packet_that_moves(self):
         """Of two ways of one cost the neighbour of less number is next; a way through more nodes leaves less TTL."""
         told = report(square(), "link down n1 n0", "ldp off n1 n2", "each ldp")
@@ -191,6 +202,7 @@ class Lines(unittest.TestCase):
             ("down pe1 p", "S1 UnknownWord"), ("link up pe1 p", "S1 UnknownWord"), ("node up p", "S1 UnknownWord"), ("each site", "S1 UnknownWord"),
             ("each 2", "S1 UnknownWord"), ("each 2 nodes", "S1 UnknownWord"), ("each 2 links to 5", "S1 UnknownWord"),
             ("each 2 links from 5 until 9", "S1 UnknownWord"), ("sessions ended", "S1 UnknownWord"), ("profile frr", "S1 UnknownWord"),
+            ("resolve labels", "S1 UnknownWord"), ("resolve yes no", "S1 UnknownWord"), ("resolve", "S2 WrongCount"), ("resolve no 1", "S2 WrongCount"),
             ("node down p, each link", "S1 UnknownWord"), ("counts, node down p", "S1 UnknownWord"), ("node down p,# and p", "S1 UnknownWord"),
             ("node down p, pe1", "S1 UnknownWord"), ("each 2 links until", "S1 UnknownWord"), ("node p\x0b", "S1 UnknownWord"), ("link", "S2 WrongCount"),
             ("link down pe1", "S2 WrongCount"), ("link down pe1 p pe2", "S2 WrongCount"), ("each", "S2 WrongCount"), ("each link links", "S2 WrongCount"),
@@ -331,13 +343,13 @@ class Compare(unittest.TestCase):
         return ran.returncode, ran.stdout, ran.stderr
 
     def test_the_stored_failures(self):
-        self.assertEqual(17, len(STORED))
-        self.assertEqual((0, "17 runs: program and reference leave what is expected\n", ""), self.compare(*STORED))
+        self.assertEqual(20, len(STORED))
+        self.assertEqual((0, "20 runs: program and reference leave what is expected\n", ""), self.compare(*STORED))
 
     def test_random_failures(self):
         status, said, err = self.compare("--random", "5", "--command", "reach", "--simulate")
         self.assertEqual((0, "5 random runs of reach, 0 differences", ""), (status, said.splitlines()[0], err))
-        for what in ("failure of node down", "lost NoLsp", "moved delivered", "pair delivered", "table profile", "verdicts that a run comes to"):
+        for what in ("failure of bgp down", "lost NoLsp", "moved delivered", "pair delivered", "table profile", "verdicts that a run comes to"):
             self.assertIn(f" {what}\n", said)
 
     def test_failures_that_differ_are_told_and_kept(self):

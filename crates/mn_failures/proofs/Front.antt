@@ -6,7 +6,8 @@ use Rattle.mn_topo.specs.Network.{Network}
 use Rattle.mn_failures.specs.declared.command.Each.{Each}
 use Rattle.mn_failures.specs.declared.command.Each.TheVariants as each
 use Rattle.mn_failures.specs.Language.{link_part, ldp_part, bgp_part, node_part, part_says}
-use Rattle.mn_failures.specs.Language.{one_of, all_links, links_between, links_line, each_line, sessions_line, losses_line, counts_line, ttl_line, is_lone}
+use Rattle.mn_failures.specs.Language.{one_of, all_links, links_between, links_line, each_line, sessions_line, resolve_as, resolve_line}
+use Rattle.mn_failures.specs.Language.{losses_line, counts_line, ttl_line, is_lone}
 use Rattle.mn_failures.specs.Language.{lone_line}
 
 -- eight words and more
@@ -96,6 +97,14 @@ sessions_more : (a b c d e f g h : List ℕ) (ws : List (List ℕ)) → sessions
 unfolding sessions_line
 sessions_more a b c d e f g h ws = rw (many a b c d e f g h ws 1 (lit< tt), many a b c d e f g h ws 2 (lit< tt)) refl
 
+resolve_as_more : (a b c d e f g h : List ℕ) (ws : List (List ℕ)) → resolve_as (eight a b c d e f g h ws) ≡ resolve_as (eight a b c d e f g h [])
+unfolding resolve_as
+resolve_as_more a b c d e f g h ws = rw (many a b c d e f g h ws 1 (lit< tt)) refl
+
+resolve_more : (a b c d e f g h : List ℕ) (ws : List (List ℕ)) → resolve_line (eight a b c d e f g h ws) ≡ resolve_line (eight a b c d e f g h [])
+unfolding resolve_line
+resolve_more a b c d e f g h ws = rw (resolve_as_more a b c d e f g h ws, many a b c d e f g h ws 2 (lit< tt)) refl
+
 losses_more : (a b c d e f g h : List ℕ) (ws : List (List ℕ)) → losses_line (eight a b c d e f g h ws) ≡ losses_line (eight a b c d e f g h [])
 unfolding losses_line
 losses_more a b c d e f g h ws = rw (many a b c d e f g h ws 1 (lit< tt)) refl
@@ -114,6 +123,7 @@ lone_more a b c d e f g h ws =
     rw (
       each_more a b c d e f g h ws,
       sessions_more a b c d e f g h ws,
+      resolve_more a b c d e f g h ws,
       losses_more a b c d e f g h ws,
       counts_more a b c d e f g h ws,
       ttl_more a b c d e f g h ws,

@@ -13,6 +13,8 @@ use Rattle.mn_failures.specs.declared.command.Part.{Part}
 use Rattle.mn_failures.specs.declared.command.Part.TheVariants.{LinkDown, LdpOff, BgpDown, NodeDown}
 use Rattle.mn_failures.specs.declared.command.Each.{Each}
 use Rattle.mn_failures.specs.declared.command.Each.TheVariants as each
+use Rattle.mn_failures.specs.declared.command.Resolve.{Resolve}
+use Rattle.mn_failures.specs.declared.command.Resolve.TheVariants.{AsTopology, Never, ByLabel}
 use Rattle.mn_failures.specs.declared.command.FailureCommand.{FailureCommand}
 use Rattle.mn_failures.specs.declared.command.FailureCommand.TheVariants as command
 use Rattle.mn_failures.specs.declared.command.FailureLine.{FailureLine}
@@ -137,6 +139,22 @@ sessions_line ws = do
   full ← counted ws 2
   Ok (command.Sessions end)
 
+-- how next hops are resolved, by the second word
+unfoldable pub resolve_as : List (List ℕ) → Result Resolve ScriptRule
+resolve_as ws =
+    if length ws == 1 then Err WrongCount
+    else if is_word ws 1 (codes "topology") then Ok AsTopology
+    else if is_word ws 1 (codes "no") then Ok Never
+    else if is_word ws 1 (codes "label") then Ok ByLabel
+    else Err UnknownWord
+
+-- resolve topology, resolve no, resolve label
+unfoldable pub resolve_line : List (List ℕ) → Result FailureCommand ScriptRule
+resolve_line ws = do
+  found ← resolve_as ws
+  full ← counted ws 2
+  Ok (command.Resolve found)
+
 -- losses
 unfoldable pub losses_line : List (List ℕ) → Result FailureCommand ScriptRule
 losses_line ws = do
@@ -159,14 +177,15 @@ ttl_line ws = do
 -- the first word is that of a line that is no failure of its own
 abbrev pub is_lone : List (List ℕ) → Bool
 is_lone ws =
-    is_word ws 0 (codes "each") || (is_word ws 0
-    (codes "sessions") || (is_word ws 0 (codes "losses") || (is_word ws 0 (codes "counts") || is_word ws 0 (codes "ttl"))))
+    is_word ws 0 (codes "each") || (is_word ws 0 (codes "sessions") || (is_word ws 0 (codes "resolve")
+    || (is_word ws 0 (codes "losses") || (is_word ws 0 (codes "counts") || is_word ws 0 (codes "ttl")))))
 
 -- such a line, by its first word
 unfoldable pub lone_line : List (List ℕ) → Result FailureCommand ScriptRule
 lone_line ws =
     if is_word ws 0 (codes "each") then each_line ws >>= (λ found. Ok (command.Each found))
     else if is_word ws 0 (codes "sessions") then sessions_line ws
+    else if is_word ws 0 (codes "resolve") then resolve_line ws
     else if is_word ws 0 (codes "losses") then losses_line ws
     else if is_word ws 0 (codes "counts") then counts_line ws
     else ttl_line ws

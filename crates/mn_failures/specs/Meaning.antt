@@ -32,6 +32,7 @@ command_fits network (command.Fail parts) =
     list_all (part_fits network) parts && ((nat_le 1 (length parts) && nat_le (length parts) 1024) && not (is_twice parts))
 command_fits network (command.Each found) = each_fits found
 command_fits network (command.Sessions end) = true
+command_fits network (command.Resolve how) = true
 command_fits network command.Losses = true
 command_fits network command.Counts = true
 command_fits network (command.Ttl ttl) = nat_le 2 ttl && nat_le ttl 255

@@ -75,6 +75,17 @@ pub enum Each {
     Links { many: u8, from: u16, to: u16 },
 }
 
+/// Whether routes to whose edge no label path leads stand aside for the others.
+#[derive(Clone, Copy, Debug, PartialEq, Eq)]
+pub enum Resolve {
+    /// As the topology says.
+    AsTopology,
+    /// They don't.
+    Never,
+    /// They do.
+    ByLabel,
+}
+
 /// What a line asks for.
 #[derive(Debug, Drop)]
 pub enum FailureCommand {
@@ -84,6 +95,8 @@ pub enum FailureCommand {
     Each(Each),
     /// That from here on sessions end between edges that no links join, or that they stay.
     Sessions { end: bool },
+    /// That from here on next hops are resolved so.
+    Resolve(Resolve),
     /// That from here on each loss is reported.
     Losses,
     /// That from here on only the number of losses is reported.

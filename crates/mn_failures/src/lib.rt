@@ -5,6 +5,7 @@
 //! ldp off A B         LDP is off on it                         each 2 links, each 3 links
 //! bgp down A B        the BGP session of two edges is down     each 2 links from 0 to 63
 //! node down N         all links of a node are down             sessions end, sessions stay
+//!                                                              resolve topology, resolve no, resolve label
 //!                                                              losses, counts
 //! link down p1 p2, node down pe3    both at once               ttl N
 //! ```
@@ -28,6 +29,6 @@ mod part_lines;
 mod read;
 mod sessions;
 
-pub use command::{Each, FailureCommand, FailureLine, Part, Parts};
+pub use command::{Each, FailureCommand, FailureLine, Part, Parts, Resolve};
 pub use read::read_failures;
 pub use sessions::exchange;

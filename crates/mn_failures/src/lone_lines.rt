@@ -2,10 +2,10 @@
 ghost use Rattle.std.specs.Prelude.{◌≡◌, true, IfOk};
 ghost use Rattle.mn_topo.specs.Network.{Network};
 ghost use Rattle.mn_script.specs.Words.{texts};
-ghost use Rattle.mn_failures.specs.Language.{one_of, all_links, links_between, links_line, each_line, sessions_line, losses_line, counts_line, ttl_line, is_lone, lone_line};
+ghost use Rattle.mn_failures.specs.Language.{one_of, all_links, links_between, links_line, each_line, sessions_line, resolve_as, resolve_line, losses_line, counts_line, ttl_line, is_lone, lone_line};
 ghost use Rattle.mn_failures.specs.Meaning.{each_fits, command_fits};
 
-use crate::command::{Each, FailureCommand};
+use crate::command::{Each, FailureCommand, Resolve};
 use crate::part_lines::has_word;
 use mn_script::{ScriptRule, choice, counted, is_word, number_in, word_at};
 
@@ -102,6 +102,35 @@ fn sessions_line(words: &[&[u8]]) -> Result<FailureCommand, ScriptRule>
     Ok(FailureCommand::Sessions { end })
 }
 
+/// How next hops are resolved, by the second word.
+#[tactic(auto, unfolding(crate::specs::Language::resolve_as))]
+fn resolve_as(words: &[&[u8]]) -> Result<Resolve, ScriptRule>
+    ensures { result ≡ resolve_as (texts words.now) }
+{
+    if words.len() == 1 {
+        Err(ScriptRule::WrongCount)
+    } else if is_word(words, 1, "topology") {
+        Ok(Resolve::AsTopology)
+    } else if is_word(words, 1, "no") {
+        Ok(Resolve::Never)
+    } else if is_word(words, 1, "label") {
+        Ok(Resolve::ByLabel)
+    } else {
+        Err(ScriptRule::UnknownWord)
+    }
+}
+
+/// `resolve topology`, `resolve no`, `resolve label`.
+#[tactic(auto, unfolding(crate::specs::Language::resolve_line))]
+fn resolve_line(words: &[&[u8]]) -> Result<FailureCommand, ScriptRule>
+    ensures value { result ≡ resolve_line (texts words.now) }
+    ensures fits { (network : Network) → IfOk result (λ command. command_fits network command ≡ true) }
+{
+    let resolve = resolve_as(words)?;
+    counted(words, 2)?;
+    Ok(FailureCommand::Resolve(resolve))
+}
+
 /// `losses`.
 #[tactic(auto, unfolding(crate::specs::Language::losses_line))]
 fn losses_line(words: &[&[u8]]) -> Result<FailureCommand, ScriptRule>
@@ -139,6 +168,7 @@ pub(crate) fn is_lone(words: &[&[u8]]) -> bool
 {
     is_word(words, 0, "each")
         || is_word(words, 0, "sessions")
+        || is_word(words, 0, "resolve")
         || is_word(words, 0, "losses")
         || is_word(words, 0, "counts")
         || is_word(words, 0, "ttl")
@@ -155,6 +185,8 @@ pub(crate) fn lone_line(words: &[&[u8]]) -> Result<FailureCommand, ScriptRule>
         Ok(FailureCommand::Each(each))
     } else if is_word(words, 0, "sessions") {
         sessions_line(words)
+    } else if is_word(words, 0, "resolve") {
+        resolve_line(words)
     } else if is_word(words, 0, "losses") {
         losses_line(words)
     } else if is_word(words, 0, "counts") {

@@ -1,4 +1,5 @@
 pub mod Left
+pub mod Resolved
 pub mod Asked
 pub mod Choosing
 pub mod Ending

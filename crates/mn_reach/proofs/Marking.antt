@@ -44,6 +44,8 @@ use Rattle.mn_reach.specs.Plans.{IsOf, home_at, links_between, pairs_at, prospec
 use Rattle.mn_reach.specs.Reaching.{Reaching, failure_of, is_between}
 use Rattle.mn_reach.specs.Spared.{is_whole, is_spared}
 use Rattle.mn_reach.specs.Touched.{AreMarked, KeepMarks, is_marked}
+use Rattle.mn_reach.specs.Verdicts.{resolving}
+use Rattle.mn_reach.proofs.Resolved.{of_so}
 use Rattle.mn_reach.proofs.Staying.{Spares, spared_stays}
 
 -- 1. Marks stay
@@ -178,7 +180,8 @@ module _ (t : Network) (r : Reaching) (of : IsOf t r.plan) (marks : List Bool)
   all_marked law each = record {
     each = each;
     spared = spared;
-    stays = λ k ttl there unmarked. spared_stays t r of law k there (spared k there unmarked) ttl;
+    stays = λ k resolve ttl there unmarked.
+        spared_stays (resolving t resolve) r (of_so t resolve r.plan of) law k there (spared k there unmarked) ttl;
   }
 
 -- 5. Link by link

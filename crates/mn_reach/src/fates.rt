@@ -10,11 +10,11 @@ ghost use Rattle.mn_failure_laws.specs.Failures.{config_under, is_session_off};
 ghost use Rattle.mn_failure_laws.specs.Fates.{fate_under};
 ghost use Rattle.mn_reach.specs.Plans.{IsOf, IsPlaced, held_in, pair_at};
 ghost use Rattle.mn_reach.specs.Reaching.{failure_of, is_between};
-ghost use Rattle.mn_reach.specs.Verdicts.{fate_as};
+ghost use Rattle.mn_reach.specs.Verdicts.{fate_as, resolving};
 
 use crate::plan::Candidate;
 use crate::reach::Reach;
-use crate::verdict::Verdict;
+use crate::verdict::{Terms, Verdict};
 use mn_base::NodeNo;
 use mn_drops::Rule;
 use mn_topo::Topology;
@@ -181,31 +181,31 @@ impl Reach {
         }
     }
 
-    /// What becomes of a pair's packets that are sent with this time to live.
+    /// What becomes of a pair's packets that are sent on these terms.
     pub fn fate(
         &self,
         topology: &Topology,
         pair: usize,
-        ttl: u32,
+        terms: Terms,
         into: &mut Verdict,
     ) -> Result<(), AllocError>
         requires sound { self.now.failed ≡ false }
         requires of { IsOf topology.now self.now.plan }
         requires pair { pair < length self.now.plan.pairs }
-        requires least { 2 ≤ ttl }
-        requires most { ttl ≤ 255 }
-        ensures { OnOk result (fate_as into.new
-            ≡ fate_under topology.now (failure_of self.now) (pair_at self.now.plan pair).site.0 ttl (pair_at self.now.plan pair).address) }
+        requires least { 2 ≤ terms.ttl }
+        requires most { terms.ttl ≤ 255 }
+        ensures { OnOk result (fate_as into.new ≡ fate_under (resolving topology.now terms.resolve) (failure_of self.now)
+            (pair_at self.now.plan pair).site.0 terms.ttl (pair_at self.now.plan pair).address) }
     {
         let home = topology.home_of(self.pairs[pair].site);
         let candidates = self.prospects[pair].candidates.as_slice();
         into.path.clear();
-        if !topology.resolve() {
-            return self.put_told(home, candidates, ttl, into);
+        if !terms.resolve {
+            return self.put_told(home, candidates, terms.ttl, into);
         }
-        if self.put_first_reached(home, candidates, ttl, into)? {
+        if self.put_first_reached(home, candidates, terms.ttl, into)? {
             return Ok(());
         }
-        self.put_told(home, candidates, ttl, into)
+        self.put_told(home, candidates, terms.ttl, into)
     }
 }

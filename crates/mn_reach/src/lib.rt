@@ -29,4 +29,4 @@ mod touched;
 mod verdict;
 
 pub use reach::Reach;
-pub use verdict::{End, Verdict};
+pub use verdict::{End, Terms, Verdict};

@@ -80,27 +80,33 @@ fn links_to(
     Ok(links)
 }
 
+/// A topology, the ways over it, and its edges.
+#[derive(Clone, Copy)]
+struct Ground<'g> {
+    topology: &'g Topology,
+    ways: &'g Ways,
+    edges: &'g [NodeNo],
+}
+
 /// What is found of a pair, of the routes of its VRF.
 fn prospect_for(
     alloc: Global,
-    topology: &Topology,
-    ways: &Ways,
-    edges: &[NodeNo],
+    ground: Ground<'_>,
     routes: &[Route],
     pair: Pair,
 ) -> Result<Prospect, AllocError>
-    requires fresh { IsFresh topology.now ways.now }
-    requires edges { numbers_of edges.now ≡ edges_of topology.now }
-    requires site { pair.site.0 < length topology.now.sites }
-    requires routes { map held_as routes.now ≡ routes_for topology.now (vrf_of topology.now pair.site.0) }
-    ensures { IfOk result (IsFor topology.now (edges_of topology.now) pair) }
+    requires fresh { IsFresh ground.topology.now ground.ways.now }
+    requires edges { numbers_of ground.edges.now ≡ edges_of ground.topology.now }
+    requires site { pair.site.0 < length ground.topology.now.sites }
+    requires routes { map held_as routes.now ≡ routes_for ground.topology.now (vrf_of ground.topology.now pair.site.0) }
+    ensures { IfOk result (IsFor ground.entry.topology.now (edges_of ground.entry.topology.now) pair) }
 {
-    topology.laws();
+    ground.topology.laws();
     routes_are_the_ledgers();
-    let home = topology.home_of(pair.site);
+    let home = ground.topology.home_of(pair.site);
     let found = candidates(alloc, routes, pair.address)?;
-    let candidates = placed(alloc, edges, found.as_slice())?;
-    let links = links_to(alloc, ways, home, candidates.as_slice())?;
+    let candidates = placed(alloc, ground.edges, found.as_slice())?;
+    let links = links_to(alloc, ground.ways, home, candidates.as_slice())?;
     Ok(Prospect {
         candidates: ListOf::from_vec(candidates),
         links: ListOf::from_vec(links),
@@ -120,6 +126,11 @@ pub(crate) fn prospects_of(
     requires sites { All (λ pair. pair.site.0 < length topology.now.sites) pairs.now }
     ensures { IfOk result (λ found. AreFound topology.now pairs.now (length pairs.now) found.items) }
 {
+    let ground = Ground {
+        topology,
+        ways,
+        edges,
+    };
     let mut found = Vec::with_capacity(alloc, pairs.len())?;
     let mut known = Known {
         vrf: None,
@@ -127,7 +138,7 @@ pub(crate) fn prospects_of(
     };
     for pair in pairs {
         known.ask(alloc, topology, topology.vrf_of(pair.site))?;
-        found.push(prospect_for(alloc, topology, ways, edges, known.routes.as_slice(), *pair)?)?;
+        found.push(prospect_for(alloc, ground, known.routes.as_slice(), *pair)?)?;
     }
     Ok(found)
 }

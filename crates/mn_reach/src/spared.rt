@@ -1,5 +1,5 @@
 //! Pairs whose packets need nothing that failed.
-ghost use Rattle.std.specs.Prelude.{ℕ, ◌≡◌, ◌<◌, ◌&&◌, length, not, true};
+ghost use Rattle.std.specs.Prelude.{ℕ, Bool, ◌≡◌, ◌<◌, ◌&&◌, length, not, true};
 ghost use Rattle.std.specs.List.{list_all};
 ghost use Rattle.mn_topo.specs.Homes.{home_of};
 ghost use Rattle.mn_failure_laws.specs.Failures.{is_session_off};
@@ -7,6 +7,7 @@ ghost use Rattle.mn_failure_laws.specs.Fates.{fate_under};
 ghost use Rattle.mn_reach.specs.Plans.{IsOf, pair_at};
 ghost use Rattle.mn_reach.specs.Reaching.{failure_of, nothing_gone};
 ghost use Rattle.mn_reach.specs.Spared.{is_whole, is_spared};
+ghost use Rattle.mn_reach.specs.Verdicts.{resolving};
 
 use crate::plan::Candidate;
 use crate::reach::Reach;
@@ -58,13 +59,15 @@ impl Reach {
         self.ended.is_empty() || self.keeps_each(topology.home_of(site), candidates)
     }
 
-    /// Whether nothing failed of what a pair's packets may need: they then fare as if nothing had failed at all.
+    /// Whether nothing failed of what a pair's packets may need: on any terms they then fare as if nothing had failed at all.
     pub fn is_spared(&self, topology: &Topology, pair: usize) -> bool
         requires of { IsOf topology.now self.now.plan }
         requires pair { pair < length self.now.plan.pairs }
         ensures exact { result ≡ is_spared topology.now self.now pair }
-        ensures stays { result ≡ true → (ttl : ℕ) → fate_under topology.now (failure_of self.now) (pair_at self.now.plan pair).site.0 ttl (pair_at self.now.plan pair).address
-            ≡ fate_under topology.now (nothing_gone self.now.ends) (pair_at self.now.plan pair).site.0 ttl (pair_at self.now.plan pair).address }
+        ensures stays { result ≡ true → (resolve : Bool) (ttl : ℕ) →
+            fate_under (resolving topology.now resolve) (failure_of self.now) (pair_at self.now.plan pair).site.0 ttl (pair_at self.now.plan pair).address
+            ≡ fate_under (resolving topology.now resolve) (nothing_gone self.now.ends) (pair_at self.now.plan pair).site.0 ttl
+            (pair_at self.now.plan pair).address }
     {
         a_path_that_is_spared_stays();
         let prospect = &self.prospects[pair];

@@ -9,6 +9,15 @@ use mn_base::{NodeNo, SiteNo};
 use mn_drops::Rule;
 use std::alloc::{AllocError, Global};
 
+/// On what terms packets are sent.
+#[derive(Clone, Copy)]
+pub struct Terms {
+    /// Their time to live, 2 to 255.
+    pub ttl: u32,
+    /// Whether routes to whose edge no label path leads stand aside for the others.
+    pub resolve: bool,
+}
+
 /// Where packets end.
 #[derive(Clone, Copy)]
 pub enum End {

@@ -9,13 +9,14 @@ use Rattle.mn_candidates.specs.Pairs.{pairs_of, most_pairs}
 use Rattle.mn_failure_laws.specs.Fates.{AllComeToTheirFates}
 use Rattle.mn_failures.specs.declared.command.FailureLine.{FailureLine}
 use Rattle.mn_failures.specs.declared.command.Part.{Part}
+use Rattle.mn_failures.specs.declared.command.Resolve.{Resolve}
 use Rattle.mn_answer.specs.declared.outcome.Outcome.{Outcome}
 use Rattle.mn_answer.specs.declared.outcome.Limit.TheVariants.{Pairs}
 use Rattle.mn_answer.specs.declared.outcome.Outcome.TheVariants.{Done, TooLarge}
 use Rattle.mn_answer.specs.Answer.{Answer, refusal_of}
 use Rattle.mn_answer.specs.Endings.{TextIs, OutcomeIs}
 use Rattle.mn_answer.proofs.Ending.{WritesNone}
-use Rattle.mn_reach_run.specs.Fates.{failure_under}
+use Rattle.mn_reach_run.specs.Fates.{failure_under, network_by}
 use Rattle.mn_reach_run.specs.Report.{report}
 use Rattle.mn_reach_run.specs.Answer.{told, reach_done}
 use Rattle.mn_reach_run.specs.Headline.{AreRead, AreFailuresTold, IsReachTold}
@@ -29,7 +30,8 @@ reach_told topology name failures files before written _ read kept = tt
 -- pairs are too many, or their report stands
 pub failures_told : (topology : Network) (failures : Option (List ℕ)) (lines : List FailureLine) (files : Files) (before : List ℕ) (written : Option (List ℕ))
     (o : Outcome) →
-    AreRead topology failures files lines → ((ends : Bool) (parts : List Part) → AllComeToTheirFates topology (failure_under topology ends parts)) →
+    AreRead topology failures files lines →
+    ((resolve : Resolve) (ends : Bool) (parts : List Part) → AllComeToTheirFates (network_by topology resolve) (failure_under topology ends parts)) →
     TextIs (Some (reach_done topology lines)) before written o → OutcomeIs (Some (reach_done topology lines)) o →
     AreFailuresTold topology failures files before written o
 failures_told topology failures lines files before written Done read fates text outcome =

@@ -14,19 +14,31 @@ use Rattle.mn_candidates.specs.Pairs.{pairs_of}
 use Rattle.mn_failures.specs.declared.command.Part.{Part}
 use Rattle.mn_failures.specs.Meaning.{is_down, is_ldp_off}
 use Rattle.mn_reach.specs.Plans.{no_pair, pair_at}
+use Rattle.mn_failures.specs.declared.command.Resolve.{Resolve}
 use Rattle.mn_reach.specs.Reaching.{Reaching, failure_of, nothing_gone}
+use Rattle.mn_reach.specs.Verdicts.{resolving}
+use Rattle.mn_reach.proofs.Resolved.{lawful_so}
 use Rattle.mn_reach_run.specs.declared.settings.Settings.{Settings}
 use Rattle.mn_reach_run.specs.declared.change.Change.TheVariants.{Nothing, Moved}
-use Rattle.mn_reach_run.specs.Fates.{failure_under, fate_of, change_between}
+use Rattle.mn_reach_run.specs.Fates.{failure_under, resolves, network_by, fate_of, change_between}
 use Rattle.mn_reach_run.specs.Playing.{HaveFailed, IsReady}
 
 not_not : (b : Bool) → not (not b) ≡ b
 not_not true = refl
 not_not false = refl
 
-pub are_alike : (topology : Network) (ends : Bool) (parts : List Part) (reaching : Reaching) → HaveFailed topology ends parts reaching →
-    AreAlike topology (failure_of reaching) (failure_under topology ends parts)
-are_alike topology ends parts reaching h = record {
+-- resolution changes nothing of what is lawful
+pub lawful_by : (topology : Network) (resolve : Resolve) → IsLawful topology → IsLawful (network_by topology resolve)
+lawful_by topology resolve is = lawful_so topology (resolves resolve topology.resolve) is
+
+-- alike failures have the same fates
+abbrev pub HasFates : Network → Type 0
+HasFates topology = (failure other : Failure) (s ttl address : ℕ) → IsLawful topology → AreAlike topology failure other → s < length topology.sites →
+    fate_under topology failure s ttl address ≡ fate_under topology other s ttl address
+
+pub are_alike : (topology : Network) (resolve : Resolve) (ends : Bool) (parts : List Part) (reaching : Reaching) → HaveFailed topology ends parts reaching →
+    AreAlike (network_by topology resolve) (failure_of reaching) (failure_under topology ends parts)
+are_alike topology resolve ends parts reaching h = record {
   links = λ l below. ap not (h.up l below) ∙ not_not (is_down topology parts l);
   ldp = λ l below. ap not (h.ldp l below) ∙ not_not (is_ldp_off parts l);
   sessions = λ edge peer less one other. h.sessions edge peer;
@@ -41,21 +53,33 @@ site_there topology reaching ready k below = ready.of.sites k no_pair (subst (λ
 -- a verdict under the failure that was made is the one under its parts
 module _ (topology : Network) (settings : Settings) (parts : List Part) (reaching : Reaching) (ready : IsReady topology reaching)
     (failed : HaveFailed topology settings.ends parts reaching) (k : ℕ) (below : k < length (pairs_of topology))
-    (alike : (failure other : Failure) (s ttl address : ℕ) → IsLawful topology → AreAlike topology failure other → s < length topology.sites →
-    fate_under topology failure s ttl address ≡ fate_under topology other s ttl address) where
-  pub under_parts : fate_under topology (failure_of reaching) (pair_at reaching.plan k).site.0 settings.ttl (pair_at reaching.plan k).address
+    (alike : HasFates (network_by topology settings.resolve)) where
+  -- on the terms of the settings
+  pub on_terms : (resolve : Bool) (fate : Fate) → resolve ≡ resolves settings.resolve topology.resolve →
+      fate ≡ fate_under (resolving topology resolve) (failure_of reaching) (pair_at reaching.plan k).site.0 settings.ttl (pair_at reaching.plan k).address →
+      fate ≡ fate_under (network_by topology settings.resolve) (failure_of reaching) (pair_at reaching.plan k).site.0 settings.ttl
+      (pair_at reaching.plan k).address
+  on_terms resolve fate is fated =
+      fated ∙ ap (λ r. fate_under (resolving topology r) (failure_of reaching) (pair_at reaching.plan k).site.0 settings.ttl
+      (pair_at reaching.plan k).address) is
+
+  pub under_parts : fate_under (network_by topology settings.resolve) (failure_of reaching) (pair_at reaching.plan k).site.0 settings.ttl
+      (pair_at reaching.plan k).address
       ≡ fate_of topology settings parts (pair_at reaching.plan k)
   under_parts =
       alike (failure_of reaching) (failure_under topology settings.ends parts) (pair_at reaching.plan k).site.0 settings.ttl (pair_at reaching.plan k).address
-      ready.of.lawful (are_alike topology settings.ends parts reaching failed) (site_there topology reaching ready k below)
+      (lawful_by topology settings.resolve ready.of.lawful) (are_alike topology settings.resolve settings.ends parts reaching failed)
+      (site_there topology reaching ready k below)
 
   -- and one with nothing failed is the one under no parts
-  pub under_none : fate_under topology (nothing_gone reaching.ends) (pair_at reaching.plan k).site.0 settings.ttl (pair_at reaching.plan k).address
+  pub under_none : fate_under (network_by topology settings.resolve) (nothing_gone reaching.ends) (pair_at reaching.plan k).site.0 settings.ttl
+      (pair_at reaching.plan k).address
       ≡ fate_of topology settings [] (pair_at reaching.plan k)
   under_none =
       alike (nothing_gone reaching.ends) (failure_under topology settings.ends []) (pair_at reaching.plan k).site.0 settings.ttl
       (pair_at reaching.plan k).address
-      ready.of.lawful (record { links = λ l there. refl; ldp = λ l there. refl; sessions = λ edge peer less one other. refl; ends = failed.ending })
+      (lawful_by topology settings.resolve ready.of.lawful)
+      (record { links = λ l there. refl; ldp = λ l there. refl; sessions = λ edge peer less one other. refl; ends = failed.ending })
       (site_there topology reaching ready k below)
 
 -- 2. What was found with nothing failed, by its place

@@ -6,9 +6,7 @@ use Rattle.std.specs.List.{flat_map}
 use Rattle.std.proofs.lemmas.List.Filters.{length-filter_more}
 use Rattle.std.proofs.lemmas.List.{get_or_default, length-map, map-append, take_more}
 use Rattle.mn_topo.specs.Network.{Network}
-use Rattle.mn_topo.specs.Lawful.{IsLawful}
 use Rattle.mn_fate_laws.specs.Fate.{Fate}
-use Rattle.mn_failure_laws.specs.Failures.{Failure, AreAlike}
 use Rattle.mn_failure_laws.specs.Fates.{fate_under}
 use Rattle.mn_candidates.specs.declared.pairs.Pair.{Pair}
 use Rattle.mn_candidates.specs.Pairs.{pairs_of}
@@ -24,13 +22,13 @@ use Rattle.mn_reach_run.specs.declared.change.Change.TheVariants.{Nothing}
 use Rattle.mn_reach_run.specs.declared.settings.Settings.{Settings}
 use Rattle.mn_reach_run.specs.declared.sums.Sums.{Sums}
 use Rattle.mn_reach_run.specs.declared.tell.Changes.{Changes}
-use Rattle.mn_reach_run.specs.Fates.{fate_of, change_between, change_of, is_lost, is_moved}
+use Rattle.mn_reach_run.specs.Fates.{resolves, network_by, fate_of, change_between, change_of, is_lost, is_moved}
 use Rattle.mn_reach_run.specs.Lines.{pair_line, change_line, failure_text, changes_count_text}
 use Rattle.mn_reach_run.specs.Report.{Under, change_at, lost_among, moved_among, under_text, plus, capped, sums_of}
 use Rattle.mn_reach_run.specs.Telling.{pair_told, told_change, told_changes, head_text, with_change, AreCounted}
 use Rattle.mn_reach_run.specs.Playing.{HaveFailed, IsReady, IsKnown}
 use Rattle.mn_reach_run.proofs.Counting.{capped_plus}
-use Rattle.mn_reach_run.proofs.Fated.{found_at, under_parts, under_none, no_change}
+use Rattle.mn_reach_run.proofs.Fated.{HasFates, found_at, under_parts, under_none, no_change}
 
 pub on_ok : {T E : Type 0} (r : Result T E) (P : Type 0) → P → OnOk r P
 on_ok (Ok x) P p = p
@@ -166,21 +164,26 @@ by_losses topology settings count line parts is =
 -- 7. What a failure changes for a pair
 
 -- it has no mark
-pub unmarked_stays : (topology : Network) (found : Found) → IsReady topology found.reach → AreMarked topology found.reach found.touched.items → (k ttl : ℕ)
+pub unmarked_stays : (topology : Network) (settings : Settings) (found : Found) → IsReady topology found.reach →
+    AreMarked topology found.reach found.touched.items → (k : ℕ)
     (mark : Bool) → k < length (pairs_of topology) → mark ≡ get_or found.touched.items k mark → mark ≡ false →
-    fate_under topology (failure_of found.reach) (pair_at found.reach.plan k).site.0 ttl (pair_at found.reach.plan k).address
-    ≡ fate_under topology (nothing_gone found.reach.ends) (pair_at found.reach.plan k).site.0 ttl (pair_at found.reach.plan k).address
-unmarked_stays topology found ready marked k ttl mark below is off =
+    fate_under (network_by topology settings.resolve) (failure_of found.reach) (pair_at found.reach.plan k).site.0 settings.ttl
+    (pair_at found.reach.plan k).address
+    ≡ fate_under (network_by topology settings.resolve) (nothing_gone found.reach.ends) (pair_at found.reach.plan k).site.0 settings.ttl
+    (pair_at found.reach.plan k).address
+unmarked_stays topology settings found ready marked k mark below is off =
     let there : k < length found.reach.plan.pairs = subst (λ (ps : List Pair). k < length ps) (sym ready.pairs) below in
-    marked.stays k ttl there (get_or_default found.touched.items k false mark (subst (λ n. k < n) (sym marked.each) there) ∙ sym is ∙ off)
+    marked.stays k (resolves settings.resolve topology.resolve) settings.ttl there (
+    get_or_default found.touched.items k false mark (subst (λ n. k < n) (sym marked.each) there) ∙ sym is ∙ off)
 
 module _ (topology : Network) (settings : Settings) (parts : List Part) (found : Found) (known : IsKnown topology settings parts found)
-    (alike : (failure other : Failure) (s ttl address : ℕ) → IsLawful topology → AreAlike topology failure other → s < length topology.sites →
-    fate_under topology failure s ttl address ≡ fate_under topology other s ttl address) (k : ℕ) (below : k < length (pairs_of topology)) where
+    (alike : HasFates (network_by topology settings.resolve)) (k : ℕ) (below : k < length (pairs_of topology)) where
   -- it is spared
   pub spared_nothing :
-      fate_under topology (failure_of found.reach) (pair_at found.reach.plan k).site.0 settings.ttl (pair_at found.reach.plan k).address
-      ≡ fate_under topology (nothing_gone found.reach.ends) (pair_at found.reach.plan k).site.0 settings.ttl (pair_at found.reach.plan k).address →
+      fate_under (network_by topology settings.resolve) (failure_of found.reach) (pair_at found.reach.plan k).site.0 settings.ttl
+      (pair_at found.reach.plan k).address
+      ≡ fate_under (network_by topology settings.resolve) (nothing_gone found.reach.ends) (pair_at found.reach.plan k).site.0 settings.ttl
+      (pair_at found.reach.plan k).address →
       Nothing ≡ change_of topology settings parts (pair_at found.reach.plan k)
   spared_nothing stays =
       sym (ap (change_between (fate_of topology settings [] (pair_at found.reach.plan k)))
@@ -195,7 +198,7 @@ module _ (topology : Network) (settings : Settings) (parts : List Part) (found :
 
   -- its verdict was found
   module _ (verdict whole : Verdict) (change : Change)
-      (is : fate_as verdict ≡ fate_under topology (failure_of found.reach) (pair_at found.reach.plan k).site.0 settings.ttl
+      (is : fate_as verdict ≡ fate_under (network_by topology settings.resolve) (failure_of found.reach) (pair_at found.reach.plan k).site.0 settings.ttl
       (pair_at found.reach.plan k).address)
       (was : whole ≡ get_or found.whole.items k whole) (changed : change ≡ change_between (fate_as whole) (fate_as verdict)) where
     now_is : fate_as verdict ≡ fate_of topology settings parts (pair_at found.reach.plan k)

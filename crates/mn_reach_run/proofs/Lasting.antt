@@ -119,6 +119,7 @@ module _ (topology : Network) (manner : Manner) (line : FailureLine) where
       by (command.Fail parts) = all (failures_of topology (command.Fail parts))
       by (command.Each each) = all (failures_of topology (command.Each each))
       by (command.Sessions end) = refl
+      by (command.Resolve resolve) = refl
       by command.Losses = refl
       by command.Counts = refl
       by (command.Ttl ttl) = refl
@@ -129,6 +130,7 @@ pub settings_kept : (settings : Settings) (told : FailureCommand) â†’ is_setting
 settings_kept settings (command.Fail parts) is = refl
 settings_kept settings (command.Each each) is = refl
 settings_kept settings (command.Sessions end) is = cc
+settings_kept settings (command.Resolve resolve) is = cc
 settings_kept settings command.Losses is = cc
 settings_kept settings command.Counts is = cc
 settings_kept settings (command.Ttl ttl) is = cc
@@ -138,6 +140,7 @@ ttl_fits : (topology : Network) (settings : Settings) (told : FailureCommand) â†
 ttl_fits topology settings (command.Fail parts) fits least most = (least, most)
 ttl_fits topology settings (command.Each each) fits least most = (least, most)
 ttl_fits topology settings (command.Sessions end) fits least most = (least, most)
+ttl_fits topology settings (command.Resolve resolve) fits least most = (least, most)
 ttl_fits topology settings command.Losses fits least most = (least, most)
 ttl_fits topology settings command.Counts fits least most = (least, most)
 ttl_fits topology settings (command.Ttl ttl) fits least most =

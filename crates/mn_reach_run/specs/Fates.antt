@@ -7,7 +7,10 @@ use Rattle.mn_failure_laws.specs.Failures.{Failure}
 use Rattle.mn_failure_laws.specs.Fates.{fate_under}
 use Rattle.mn_candidates.specs.declared.pairs.Pair.{Pair}
 use Rattle.mn_failures.specs.declared.command.Part.{Part}
+use Rattle.mn_failures.specs.declared.command.Resolve.{Resolve}
+use Rattle.mn_failures.specs.declared.command.Resolve.TheVariants.{AsTopology, Never, ByLabel}
 use Rattle.mn_failures.specs.Meaning.{is_down, is_ldp_off, is_bgp_off}
+use Rattle.mn_reach.specs.Verdicts.{resolving}
 use Rattle.mn_reach_run.specs.declared.settings.Settings.{Settings}
 use Rattle.mn_reach_run.specs.declared.change.Change.{Change}
 use Rattle.mn_reach_run.specs.declared.change.Change.TheVariants.{Nothing, Lost, Moved}
@@ -21,9 +24,20 @@ failure_under topology ends parts = record {
   ends = ends;
 }
 
+-- whether routes to whose edge no label path leads stand aside for the others, where the topology says so or doesn't
+abbrev pub resolves : Resolve → Bool → Bool
+resolves AsTopology said = said
+resolves Never said = false
+resolves ByLabel said = true
+
+-- the network as it is, with that key of its topology set
+abbrev pub network_by : Network → Resolve → Network
+network_by topology resolve = resolving topology (resolves resolve topology.resolve)
+
 -- what becomes of each packet of the pair, once the network is at rest under them
 abbrev pub fate_of : Network → Settings → List Part → Pair → Fate
-fate_of topology settings parts pair = fate_under topology (failure_under topology settings.ends parts) pair.site.0 settings.ttl pair.address
+fate_of topology settings parts pair =
+    fate_under (network_by topology settings.resolve) (failure_under topology settings.ends parts) pair.site.0 settings.ttl pair.address
 
 -- of the same site, TTL and path
 abbrev pub is_same_way : ℕ → ℕ → List ℕ → ℕ → ℕ → List ℕ → Bool

@@ -13,6 +13,8 @@ use Rattle.mn_fate_laws.specs.Fate.{Fate, Arrives, Falls}
 use Rattle.mn_candidates.specs.declared.pairs.Pair.{Pair}
 use Rattle.mn_failures.specs.declared.command.Part.{Part}
 use Rattle.mn_failures.specs.declared.command.Part.TheVariants.{LinkDown, LdpOff, BgpDown, NodeDown}
+use Rattle.mn_failures.specs.declared.command.Resolve.{Resolve}
+use Rattle.mn_failures.specs.declared.command.Resolve.TheVariants.{AsTopology, Never, ByLabel}
 use Rattle.mn_reach_run.specs.declared.change.Change.{Change}
 use Rattle.mn_reach_run.specs.declared.change.Change.TheVariants.{Lost, Moved}
 
@@ -80,10 +82,20 @@ change_line topology number pair _ _ = []
 
 -- 3. The first line and the last
 
--- the choices that this tells by, of which sessions alone can be changed
-abbrev pub profile_line : Bool → List ℕ
-profile_line true = codes "profile equal least edges one order least interior no resolve topology sync no control ordered bare avoid labels site sessions end\n"
-profile_line false = codes "profile equal least edges one order least interior no resolve topology sync no control ordered bare avoid labels site sessions stay\n"
+abbrev pub resolve_word : Resolve → List ℕ
+resolve_word AsTopology = codes "topology"
+resolve_word Never = codes "no"
+resolve_word ByLabel = codes "label"
+
+abbrev pub sessions_word : Bool → List ℕ
+sessions_word true = codes "end"
+sessions_word false = codes "stay"
+
+-- the choices that this tells by, of which those of resolve and sessions alone can be changed
+abbrev pub profile_line : Resolve → Bool → List ℕ
+profile_line resolve ends =
+    text (codes "profile equal least edges one order least interior no resolve " ∷ resolve_word resolve
+    ∷ codes " sync no control ordered bare avoid labels site sessions " ∷ sessions_word ends ∷ codes "\n" ∷ [])
 
 abbrev pub total_line : ℕ → ℕ → ℕ → ℕ → ℕ → List ℕ
 total_line pairs failures verdicts lost moved =

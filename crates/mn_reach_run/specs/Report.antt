@@ -6,6 +6,7 @@ use Rattle.mn_topo.specs.Network.{Network}
 use Rattle.mn_candidates.specs.declared.pairs.Pair.{Pair}
 use Rattle.mn_candidates.specs.Pairs.{pairs_of}
 use Rattle.mn_failures.specs.declared.command.Part.{Part}
+use Rattle.mn_failures.specs.declared.command.Resolve.TheVariants.{AsTopology}
 use Rattle.mn_failures.specs.declared.command.FailureCommand.{FailureCommand}
 use Rattle.mn_failures.specs.declared.command.FailureCommand.TheVariants as command
 use Rattle.mn_failures.specs.declared.command.FailureLine.{FailureLine}
@@ -17,9 +18,9 @@ use Rattle.mn_reach_run.specs.Lines.{pair_line, change_line, failure_text, chang
 
 -- 1. Settings
 
--- TTL 64, each loss is told, and sessions stay
+-- TTL 64, each loss is told, sessions stay, and next hops are resolved as the topology says
 abbrev pub first_settings : Settings
-first_settings = record { ttl = 64; counts = false; ends = false }
+first_settings = record { ttl = 64; counts = false; ends = false; resolve = AsTopology }
 
 -- the command says how failures are reported from there on; else it stands for failures
 abbrev pub is_setting : FailureCommand → Bool
@@ -29,6 +30,7 @@ is_setting _ = true
 
 abbrev pub settings_after : Settings → FailureCommand → Settings
 settings_after settings (command.Sessions end) = record settings { ends = end }
+settings_after settings (command.Resolve resolve) = record settings { resolve = resolve }
 settings_after settings command.Losses = record settings { counts = false }
 settings_after settings command.Counts = record settings { counts = true }
 settings_after settings (command.Ttl ttl) = record settings { ttl = ttl }
@@ -42,7 +44,7 @@ pub data Task : Type 0 where
 
 abbrev pub whole_text : Network → Settings → List ℕ
 whole_text topology settings =
-    profile_line settings.ends ++ flat_map (λ pair. pair_line topology pair (fate_of topology settings [] pair)) (pairs_of topology)
+    profile_line settings.resolve settings.ends ++ flat_map (λ pair. pair_line topology pair (fate_of topology settings [] pair)) (pairs_of topology)
 
 -- how many pairs of these are lost, and how many are moved
 abbrev pub lost_among : Network → Settings → List Part → List Pair → ℕ

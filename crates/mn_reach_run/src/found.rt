@@ -13,13 +13,15 @@ ghost use Rattle.mn_reach_run.specs.Playing.{HaveFailed, IsReady, IsKnown};
 use crate::change::{Change, change_between};
 use crate::settings::Settings;
 use mn_failure_laws::alike_failures_have_the_same_fates;
-use mn_reach::{Reach, Verdict};
+use mn_reach::{Reach, Terms, Verdict};
 use mn_topo::Topology;
 use std::alloc::{AllocError, Global};
 
 /// Pairs, and what becomes of them.
 #[derive(Drop)]
 pub struct Found {
+    /// Verdicts take their memory from here.
+    pub alloc: Global,
     pub reach: Reach,
     /// What becomes of each with nothing failed.
     pub whole: Vec<Verdict>,
@@ -44,13 +46,16 @@ fn whole_of(
 {
     alike_failures_have_the_same_fates();
     let mut verdict = Verdict::new(alloc);
-    reach.fate(topology, pair, settings.ttl, &mut verdict)?;
+    let terms = Terms {
+        ttl: settings.ttl,
+        resolve: settings.resolves(topology),
+    };
+    reach.fate(topology, pair, terms, &mut verdict)?;
     Ok(verdict)
 }
 
 /// Finds what becomes of each pair with nothing failed.
 pub(crate) fn find_whole(
-    alloc: Global,
     topology: &Topology,
     found: &mut Found,
     settings: Settings,
@@ -63,7 +68,7 @@ pub(crate) fn find_whole(
 {
     found.whole.clear();
     for pair in 0..found.reach.pairs().len() {
-        let verdict = whole_of(alloc, topology, &found.reach, settings, pair)?;
+        let verdict = whole_of(found.alloc, topology, &found.reach, settings, pair)?;
         found.whole.push(verdict)?;
     }
     Ok(())
@@ -97,6 +102,10 @@ pub(crate) fn change_of(
     if found.reach.is_spared(topology, pair) {
         return Ok(Change::Nothing);
     }
-    found.reach.fate(topology, pair, settings.ttl, verdict)?;
+    let terms = Terms {
+        ttl: settings.ttl,
+        resolve: settings.resolves(topology),
+    };
+    found.reach.fate(topology, pair, terms, verdict)?;
     Ok(change_between(&found.whole[pair], verdict))
 }

@@ -10,7 +10,7 @@
 //! The pairs are planned once. For each failure its parts are switched off, the pairs that it may touch are looked at again, and its parts
 //! are switched on again; a pair that isn't named is as with nothing failed.
 //!
-//! - `settings`: how failures are reported; `sums`: counts of what was told
+//! - `settings`: how failures are reported; `sums`: counts of what was told; `case`: where in the file, and which failure
 //! - `line`: the texts of which lines are made
 //! - `failing`: parts fail, and are mended; `found`: what becomes of each pair; `change`: what a failure changes for one
 //! - `tell`: what is told of all pairs, and of one failure
@@ -18,6 +18,7 @@
 //! - `load`: the file of failures; `run`: the whole command, over a shelf of files and a sink
 #![tactic(auto)]
 
+mod case;
 mod change;
 mod failing;
 mod found;

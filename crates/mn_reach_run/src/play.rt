@@ -8,17 +8,18 @@ ghost use Rattle.mn_reach_run.specs.Lines.{total_line};
 ghost use Rattle.mn_reach_run.specs.Playing.{HaveFailed, IsReady, IsKnown, now_at, Goes, Plays};
 ghost use Rattle.mn_reach_run.specs.Lasting.{first_manner, stage_of, manner_after, Lasts};
 
+use crate::case::At;
 use crate::found::Found;
 use crate::settings::{Settings, is_setting};
 use crate::sums::Sums;
-use crate::sweep::{At, Player, play_failures};
-use crate::tell::{Draft, tell_whole};
+use crate::sweep::{Player, play_failures};
+use crate::tell::{Desk, tell_whole};
 use itoa::Buffer;
 use mn_candidates::Pair;
 use mn_edge::{DeviceBad, Sink};
 use mn_failures::FailureLine;
 use mn_lines::Page;
-use mn_reach::{Reach, Verdict};
+use mn_reach::Reach;
 use mn_tables::put_pieces;
 use mn_topo::Topology;
 use std::alloc::{AllocError, Global};
@@ -44,61 +45,54 @@ impl Manner {
 
 /// Tells all pairs with nothing failed, where they weren't told so.
 fn tell_if_new<O: Sink>(
-    alloc: Global,
     topology: &Topology,
     player: &mut Player,
     manner: Manner,
     out: &mut O,
-    page: &mut Page,
 ) -> Result<(), DeviceBad>
     requires lasts { Lasts topology.now manner player.old.found }
     ensures told { Plays topology.now (λ number. whole_if_new (stage_of manner number))
-        (now_at player.old.sums (standing page.old (O.written out.old) (O.faults out.old)))
-        (now_at player.new.sums (standing page.new (O.written out.new) (O.faults out.new))) result }
+        (now_at player.old.sums (standing player.old.desk.page (O.written out.old) (O.faults out.old)))
+        (now_at player.new.sums (standing player.new.desk.page (O.written out.new) (O.faults out.new))) result }
     ensures known { OnOk result (IsKnown topology.now manner.settings [] player.new.found) }
 {
     if manner.is_told {
         return Ok(());
     }
-    let line = &mut player.draft.line;
     tell_whole(
-        alloc,
         topology,
-        &mut player.found,
         manner.settings,
-        line,
+        &mut player.found,
         out,
-        page,
+        &mut player.desk,
     )
 }
 
 /// Plays a line.
 fn play_line<O: Sink>(
-    alloc: Global,
     topology: &Topology,
     player: &mut Player,
     manner: Manner,
     line: &FailureLine,
     out: &mut O,
-    page: &mut Page,
 ) -> Result<(), DeviceBad>
     requires fits { command_fits topology.now line.now.command ≡ true }
     requires lasts { Lasts topology.now manner player.old.found }
     ensures told { Plays topology.now (λ number. tasks_of_line topology.now (stage_of manner number) line.now)
-        (now_at player.old.sums (standing page.old (O.written out.old) (O.faults out.old)))
-        (now_at player.new.sums (standing page.new (O.written out.new) (O.faults out.new))) result }
+        (now_at player.old.sums (standing player.old.desk.page (O.written out.old) (O.faults out.old)))
+        (now_at player.new.sums (standing player.new.desk.page (O.written out.new) (O.faults out.new))) result }
     ensures lasts { OnOk result (Lasts topology.now (manner_after manner line.now) player.new.found) }
 {
     if is_setting(&line.command) {
         return Ok(());
     }
-    tell_if_new(alloc, topology, player, manner, out, page)?;
+    tell_if_new(topology, player, manner, out)?;
     let at = At {
         topology,
         settings: manner.settings,
         line: line.number,
     };
-    play_failures(player, at, &line.command, out, page)
+    play_failures(player, at, &line.command, out)
 }
 
 /// How failures are reported behind a line.
@@ -113,26 +107,24 @@ fn manner_after(manner: Manner, line: &FailureLine) -> Manner
 
 /// Plays lines, and tells all pairs behind the last one where they weren't told so.
 fn play<O: Sink>(
-    alloc: Global,
     topology: &Topology,
     player: &mut Player,
     lines: &[FailureLine],
     out: &mut O,
-    page: &mut Page,
 ) -> Result<(), DeviceBad>
     requires ready { IsReady topology.now player.old.found.reach }
     requires whole { HaveFailed topology.now false [] player.old.found.reach }
     requires start { player.old.sums ≡ no_sums }
     requires fit { All (λ line. command_fits topology.now line.command ≡ true) lines.now }
-    ensures { Goes topology.now (tasks_of topology.now lines.now) (standing page.old (O.written out.old) (O.faults out.old))
-        (now_at player.new.sums (standing page.new (O.written out.new) (O.faults out.new))) result }
+    ensures { Goes topology.now (tasks_of topology.now lines.now) (standing player.old.desk.page (O.written out.old) (O.faults out.old))
+        (now_at player.new.sums (standing player.new.desk.page (O.written out.new) (O.faults out.new))) result }
 {
     let mut manner = Manner::first();
     for line in lines {
-        play_line(alloc, topology, player, manner, line, out, page)?;
+        play_line(topology, player, manner, line, out)?;
         manner = manner_after(manner, line);
     }
-    tell_if_new(alloc, topology, player, manner, out, page)
+    tell_if_new(topology, player, manner, out)
 }
 
 /// Puts the last line.
@@ -167,45 +159,47 @@ fn put_total<O: Sink>(out: &mut O, page: &mut Page, pairs: u64, sums: Sums) -> R
 }
 
 /// A player of these pairs, with nothing failed and nothing told.
-fn new_player(alloc: Global, topology: &Topology, pairs: Vec<Pair>) -> Result<Player, AllocError>
+pub(crate) fn new_player(
+    alloc: Global,
+    topology: &Topology,
+    pairs: Vec<Pair>,
+) -> Result<Player, AllocError>
     requires pairs { pairs.items ≡ pairs_of topology.now }
     requires few { length pairs.items ≤ most_pairs }
     ensures ready { IfOk result (λ player. IsReady topology.now player.found.reach) }
     ensures whole { IfOk result (λ player. HaveFailed topology.now false [] player.found.reach) }
     ensures start { IfOk result (λ player. player.sums ≡ no_sums) }
+    ensures page { IfOk result (λ player. player.desk.page ≡ []) }
 {
+    let desk = Desk::new(alloc)?;
     let reach = Reach::new(alloc, topology, pairs)?;
     Ok(Player {
         found: Found {
+            alloc,
             reach,
             whole: Vec::new(alloc),
             touched: Vec::new(alloc),
         },
-        draft: Draft {
-            line: Vec::new(alloc),
-            verdict: Verdict::new(alloc),
-        },
+        desk,
         sums: Sums::new(),
     })
 }
 
-/// Puts the report of a file of failures for these pairs.
+/// Puts the report of a file of failures.
 pub(crate) fn put_report<O: Sink>(
-    alloc: Global,
     topology: &Topology,
-    pairs: Vec<Pair>,
+    player: &mut Player,
     lines: &[FailureLine],
     out: &mut O,
-    page: &mut Page,
 ) -> Result<(), DeviceBad>
-    requires pairs { pairs.items ≡ pairs_of topology.now }
-    requires few { length pairs.items ≤ most_pairs }
+    requires ready { IsReady topology.now player.old.found.reach }
+    requires whole { HaveFailed topology.now false [] player.old.found.reach }
+    requires start { player.old.sums ≡ no_sums }
     requires fit { All (λ line. command_fits topology.now line.command ≡ true) lines.now }
-    ensures { Tells (report topology.now lines.now)
-        (standing page.old (O.written out.old) (O.faults out.old)) (standing page.new (O.written out.new) (O.faults out.new)) result }
+    ensures { Tells (report topology.now lines.now) (standing player.old.desk.page (O.written out.old) (O.faults out.old))
+        (standing player.new.desk.page (O.written out.new) (O.faults out.new)) result }
 {
-    let count = pairs.as_slice().len() as u64;
-    let mut player = new_player(alloc, topology, pairs)?;
-    play(alloc, topology, &mut player, lines, out, page)?;
-    put_total(out, page, count, player.sums)
+    let count = player.found.reach.pairs().len() as u64;
+    play(topology, player, lines, out)?;
+    put_total(out, &mut player.desk.page, count, player.sums)
 }

@@ -11,13 +11,12 @@ ghost use Rattle.mn_reach_run.specs.Answer.{name_of, told, reach_done, reach_ove
 ghost use Rattle.mn_reach_run.specs.Headline.{AreFailuresTold, IsReachTold};
 
 use crate::load::load_failures;
-use crate::play::put_report;
+use crate::play::{new_player, put_report};
 use mn_answer::{Limit, Outcome, load_topology, refuse, too_large};
 use mn_candidates::{MOST_PAIRS, Pair, pairs_of};
 use mn_edge::{DeviceBad, Shelf, Sink};
 use mn_failure_laws::each_packet_comes_to_its_fate;
 use mn_failures::FailureLine;
-use mn_lines::Page;
 use mn_topo::Topology;
 use std::alloc::Global;
 
@@ -38,9 +37,9 @@ fn put_all<O: Sink>(
         PartPut (report topology.now lines.now) before (O.written out.new))) }
     ensures cause { Counted (O.faults out.old) (O.faults out.new) result }
 {
-    let mut page = Page::new(alloc)?;
-    put_report(alloc, topology, pairs, lines, out, &mut page)?;
-    page.end(out)?;
+    let mut player = new_player(alloc, topology, pairs)?;
+    put_report(topology, &mut player, lines, out)?;
+    player.desk.page.end(out)?;
     Ok(())
 }
 

@@ -8,15 +8,14 @@ ghost use Rattle.mn_failures.specs.Meaning.{part_fits, command_fits};
 ghost use Rattle.mn_reach_run.specs.Playing.{AreApart, IsKnown, now_at, Sweeps};
 ghost use Rattle.mn_reach_run.specs.Sweeping.{part_of, alone, count_of};
 
+use crate::case::{At, Case, Failing};
 use crate::failing::{fail, link_count, mend};
 use crate::found::Found;
-use crate::settings::Settings;
 use crate::sums::Sums;
-use crate::tell::{Draft, Failing, tell_failure};
+use crate::tell::{Desk, tell_failure};
 use mn_base::{LinkNo, NodeNo};
 use mn_edge::{DeviceBad, Sink};
 use mn_failures::{Each, FailureCommand, Part, exchange};
-use mn_lines::Page;
 use mn_topo::Topology;
 use mn_wiring::Dir;
 
@@ -24,16 +23,8 @@ use mn_wiring::Dir;
 #[derive(Drop)]
 pub struct Player {
     pub found: Found,
-    pub draft: Draft,
+    pub desk: Desk,
     pub sums: Sums,
-}
-
-/// A line of the file, and how failures are reported there.
-#[derive(Clone, Copy)]
-pub struct At<'t> {
-    pub topology: &'t Topology,
-    pub settings: Settings,
-    pub line: u32,
 }
 
 /// How many links fail at once, 2 or 3, and which may be the first.
@@ -56,38 +47,24 @@ pub enum Kind {
 fn play_with<O: Sink>(
     player: &mut Player,
     at: At<'_>,
-    front: &[Part],
-    more: &[Part],
-    parts: &[Part],
+    failing: Failing<'_>,
     out: &mut O,
-    page: &mut Page,
 ) -> Result<(), DeviceBad>
-    requires fit { list_all (part_fits at.topology.now) parts.now ≡ true }
-    requires more_fit { list_all (part_fits at.topology.now) more.now ≡ true }
-    requires parts { parts.now ≡ front.now ++ more.now }
-    requires apart { AreApart at.topology.now front.now more.now }
-    requires known { IsKnown at.topology.now at.settings front.now player.old.found }
-    ensures told { Sweeps at.entry.topology.now at.entry.settings at.entry.line (parts.now ∷ [])
-        (now_at player.old.sums (standing page.old (O.written out.old) (O.faults out.old)))
-        (now_at player.new.sums (standing page.new (O.written out.new) (O.faults out.new))) result }
-    ensures known { OnOk result (IsKnown at.entry.topology.now at.entry.settings front.now player.new.found) }
+    requires fit { list_all (part_fits at.topology.now) failing.parts.now ≡ true }
+    requires more_fit { list_all (part_fits at.topology.now) failing.more.now ≡ true }
+    requires parts { failing.parts.now ≡ failing.front.now ++ failing.more.now }
+    requires apart { AreApart at.topology.now failing.front.now failing.more.now }
+    requires known { IsKnown at.topology.now at.settings failing.front.now player.old.found }
+    ensures told { Sweeps at.entry.topology.now at.entry.settings at.entry.line (failing.entry.parts.now ∷ [])
+        (now_at player.old.sums (standing player.old.desk.page (O.written out.old) (O.faults out.old)))
+        (now_at player.new.sums (standing player.new.desk.page (O.written out.new) (O.faults out.new))) result }
+    ensures known { OnOk result (IsKnown at.entry.topology.now at.entry.settings failing.entry.front.now player.new.found) }
 {
-    let failing = Failing {
+    let case = Case {
+        at,
         number: player.sums.failures.saturating_add(1),
-        line: at.line,
-        parts,
-        front,
-        more,
     };
-    let changes = tell_failure(
-        out,
-        page,
-        &mut player.draft,
-        at.topology,
-        &mut player.found,
-        at.settings,
-        failing,
-    )?;
+    let changes = tell_failure(out, &mut player.desk, case, &mut player.found, failing)?;
     player.sums = player.sums.plus(Sums {
         failures: 1,
         verdicts: player.found.reach.pairs().len() as u64,
@@ -103,16 +80,20 @@ fn play_one<O: Sink>(
     at: At<'_>,
     parts: &[Part],
     out: &mut O,
-    page: &mut Page,
 ) -> Result<(), DeviceBad>
     requires fit { list_all (part_fits at.topology.now) parts.now ≡ true }
     requires known { IsKnown at.topology.now at.settings [] player.old.found }
     ensures told { Sweeps at.entry.topology.now at.entry.settings at.entry.line (parts.now ∷ [])
-        (now_at player.old.sums (standing page.old (O.written out.old) (O.faults out.old)))
-        (now_at player.new.sums (standing page.new (O.written out.new) (O.faults out.new))) result }
+        (now_at player.old.sums (standing player.old.desk.page (O.written out.old) (O.faults out.old)))
+        (now_at player.new.sums (standing player.new.desk.page (O.written out.new) (O.faults out.new))) result }
     ensures known { OnOk result (IsKnown at.entry.topology.now at.entry.settings [] player.new.found) }
 {
-    play_with(player, at, &[], parts, parts, out, page)
+    let failing = Failing {
+        parts,
+        front: &[],
+        more: parts,
+    };
+    play_with(player, at, failing, out)
 }
 
 /// The part of a kind by its number.
@@ -143,16 +124,15 @@ fn play_kind<O: Sink>(
     at: At<'_>,
     kind: Kind,
     out: &mut O,
-    page: &mut Page,
 ) -> Result<(), DeviceBad>
     requires known { IsKnown at.topology.now at.settings [] player.old.found }
     ensures told { Sweeps at.entry.topology.now at.entry.settings at.entry.line (flat_map (alone kind) (range_with_len 0 (count_of at.entry.topology.now kind)))
-        (now_at player.old.sums (standing page.old (O.written out.old) (O.faults out.old)))
-        (now_at player.new.sums (standing page.new (O.written out.new) (O.faults out.new))) result }
+        (now_at player.old.sums (standing player.old.desk.page (O.written out.old) (O.faults out.old)))
+        (now_at player.new.sums (standing player.new.desk.page (O.written out.new) (O.faults out.new))) result }
     ensures known { OnOk result (IsKnown at.entry.topology.now at.entry.settings [] player.new.found) }
 {
     for number in 0..count_of(at.topology, kind) {
-        play_one(player, at, &[part_of(kind, number)], out, page)?;
+        play_one(player, at, &[part_of(kind, number)], out)?;
     }
     Ok(())
 }
@@ -171,21 +151,20 @@ fn play_session<O: Sink>(
     one: u16,
     other: u16,
     out: &mut O,
-    page: &mut Page,
 ) -> Result<(), DeviceBad>
     requires one { is_edge at.topology.now.vrfs one ≡ true }
     requires other { other < length at.topology.now.loopbacks }
     requires known { IsKnown at.topology.now at.settings [] player.old.found }
     ensures told { Sweeps at.entry.topology.now at.entry.settings at.entry.line (session_of at.entry.topology.now one other)
-        (now_at player.old.sums (standing page.old (O.written out.old) (O.faults out.old)))
-        (now_at player.new.sums (standing page.new (O.written out.new) (O.faults out.new))) result }
+        (now_at player.old.sums (standing player.old.desk.page (O.written out.old) (O.faults out.old)))
+        (now_at player.new.sums (standing player.new.desk.page (O.written out.new) (O.faults out.new))) result }
     ensures known { OnOk result (IsKnown at.entry.topology.now at.entry.settings [] player.new.found) }
 {
     if !is_session(at.topology, one, other) {
         return Ok(());
     }
     let part = Part::BgpDown(NodeNo(one), NodeNo(other));
-    play_one(player, at, &[part], out, page)
+    play_one(player, at, &[part], out)
 }
 
 /// How many nodes there are: at most 256.
@@ -202,38 +181,32 @@ fn play_sessions_of<O: Sink>(
     at: At<'_>,
     one: u16,
     out: &mut O,
-    page: &mut Page,
 ) -> Result<(), DeviceBad>
     requires known { IsKnown at.topology.now at.settings [] player.old.found }
     ensures told { Sweeps at.entry.topology.now at.entry.settings at.entry.line (edge_of at.entry.topology.now one)
-        (now_at player.old.sums (standing page.old (O.written out.old) (O.faults out.old)))
-        (now_at player.new.sums (standing page.new (O.written out.new) (O.faults out.new))) result }
+        (now_at player.old.sums (standing player.old.desk.page (O.written out.old) (O.faults out.old)))
+        (now_at player.new.sums (standing player.new.desk.page (O.written out.new) (O.faults out.new))) result }
     ensures known { OnOk result (IsKnown at.entry.topology.now at.entry.settings [] player.new.found) }
 {
     if !at.topology.is_edge(NodeNo(one)) {
         return Ok(());
     }
     for other in 0..node_count(at.topology) {
-        play_session(player, at, one, other, out, page)?;
+        play_session(player, at, one, other, out)?;
     }
     Ok(())
 }
 
 /// Plays each session of two edges that exchange routes.
-fn play_sessions<O: Sink>(
-    player: &mut Player,
-    at: At<'_>,
-    out: &mut O,
-    page: &mut Page,
-) -> Result<(), DeviceBad>
+fn play_sessions<O: Sink>(player: &mut Player, at: At<'_>, out: &mut O) -> Result<(), DeviceBad>
     requires known { IsKnown at.topology.now at.settings [] player.old.found }
     ensures told { Sweeps at.entry.topology.now at.entry.settings at.entry.line (each_bgp at.entry.topology.now)
-        (now_at player.old.sums (standing page.old (O.written out.old) (O.faults out.old)))
-        (now_at player.new.sums (standing page.new (O.written out.new) (O.faults out.new))) result }
+        (now_at player.old.sums (standing player.old.desk.page (O.written out.old) (O.faults out.old)))
+        (now_at player.new.sums (standing player.new.desk.page (O.written out.new) (O.faults out.new))) result }
     ensures known { OnOk result (IsKnown at.entry.topology.now at.entry.settings [] player.new.found) }
 {
     for one in 0..node_count(at.topology) {
-        play_sessions_of(player, at, one, out, page)?;
+        play_sessions_of(player, at, one, out)?;
     }
     Ok(())
 }
@@ -250,20 +223,24 @@ fn play_seconds<O: Sink>(
     at: At<'_>,
     first: u16,
     out: &mut O,
-    page: &mut Page,
 ) -> Result<(), DeviceBad>
     requires there { first < length at.topology.now.links }
     requires known { IsKnown at.topology.now at.settings (link_down first ∷ []) player.old.found }
     ensures told { Sweeps at.entry.topology.now at.entry.settings at.entry.line (two_with at.entry.topology.now first)
-        (now_at player.old.sums (standing page.old (O.written out.old) (O.faults out.old)))
-        (now_at player.new.sums (standing page.new (O.written out.new) (O.faults out.new))) result }
+        (now_at player.old.sums (standing player.old.desk.page (O.written out.old) (O.faults out.old)))
+        (now_at player.new.sums (standing player.new.desk.page (O.written out.new) (O.faults out.new))) result }
     ensures known { OnOk result (IsKnown at.entry.topology.now at.entry.settings (link_down first ∷ []) player.new.found) }
 {
     let links = link_count(at.topology);
     for second in first + 1..links {
         let one = link_down(first);
         let two = link_down(second);
-        play_with(player, at, &[one], &[two], &[one, two], out, page)?;
+        let failing = Failing {
+            parts: &[one, two],
+            front: &[one],
+            more: &[two],
+        };
+        play_with(player, at, failing, out)?;
     }
     Ok(())
 }
@@ -274,17 +251,16 @@ fn play_two<O: Sink>(
     at: At<'_>,
     first: u16,
     out: &mut O,
-    page: &mut Page,
 ) -> Result<(), DeviceBad>
     requires there { first < length at.topology.now.links }
     requires known { IsKnown at.topology.now at.settings [] player.old.found }
     ensures told { Sweeps at.entry.topology.now at.entry.settings at.entry.line (two_with at.entry.topology.now first)
-        (now_at player.old.sums (standing page.old (O.written out.old) (O.faults out.old)))
-        (now_at player.new.sums (standing page.new (O.written out.new) (O.faults out.new))) result }
+        (now_at player.old.sums (standing player.old.desk.page (O.written out.old) (O.faults out.old)))
+        (now_at player.new.sums (standing player.new.desk.page (O.written out.new) (O.faults out.new))) result }
     ensures known { OnOk result (IsKnown at.entry.topology.now at.entry.settings [] player.new.found) }
 {
     fail(&mut player.found.reach, at.topology, &[link_down(first)])?;
-    play_seconds(player, at, first, out, page)?;
+    play_seconds(player, at, first, out)?;
     mend(&mut player.found.reach, at.topology, &[link_down(first)])?;
     Ok(())
 }
@@ -296,15 +272,14 @@ fn play_thirds<O: Sink>(
     first: u16,
     second: u16,
     out: &mut O,
-    page: &mut Page,
 ) -> Result<(), DeviceBad>
     requires first { first < length at.topology.now.links }
     requires second { second < length at.topology.now.links }
     requires behind { first < second }
     requires known { IsKnown at.topology.now at.settings (link_down first ∷ link_down second ∷ []) player.old.found }
     ensures told { Sweeps at.entry.topology.now at.entry.settings at.entry.line (third_with at.entry.topology.now first second)
-        (now_at player.old.sums (standing page.old (O.written out.old) (O.faults out.old)))
-        (now_at player.new.sums (standing page.new (O.written out.new) (O.faults out.new))) result }
+        (now_at player.old.sums (standing player.old.desk.page (O.written out.old) (O.faults out.old)))
+        (now_at player.new.sums (standing player.new.desk.page (O.written out.new) (O.faults out.new))) result }
     ensures known { OnOk result (IsKnown at.entry.topology.now at.entry.settings (link_down first ∷ link_down second ∷ []) player.new.found) }
 {
     let links = link_count(at.topology);
@@ -312,15 +287,12 @@ fn play_thirds<O: Sink>(
         let one = link_down(first);
         let two = link_down(second);
         let three = link_down(third);
-        play_with(
-            player,
-            at,
-            &[one, two],
-            &[three],
-            &[one, two, three],
-            out,
-            page,
-        )?;
+        let failing = Failing {
+            parts: &[one, two, three],
+            front: &[one, two],
+            more: &[three],
+        };
+        play_with(player, at, failing, out)?;
     }
     Ok(())
 }
@@ -332,19 +304,18 @@ fn play_middle<O: Sink>(
     first: u16,
     second: u16,
     out: &mut O,
-    page: &mut Page,
 ) -> Result<(), DeviceBad>
     requires first { first < length at.topology.now.links }
     requires second { second < length at.topology.now.links }
     requires behind { first < second }
     requires known { IsKnown at.topology.now at.settings (link_down first ∷ []) player.old.found }
     ensures told { Sweeps at.entry.topology.now at.entry.settings at.entry.line (third_with at.entry.topology.now first second)
-        (now_at player.old.sums (standing page.old (O.written out.old) (O.faults out.old)))
-        (now_at player.new.sums (standing page.new (O.written out.new) (O.faults out.new))) result }
+        (now_at player.old.sums (standing player.old.desk.page (O.written out.old) (O.faults out.old)))
+        (now_at player.new.sums (standing player.new.desk.page (O.written out.new) (O.faults out.new))) result }
     ensures known { OnOk result (IsKnown at.entry.topology.now at.entry.settings (link_down first ∷ []) player.new.found) }
 {
     fail(&mut player.found.reach, at.topology, &[link_down(second)])?;
-    play_thirds(player, at, first, second, out, page)?;
+    play_thirds(player, at, first, second, out)?;
     mend(&mut player.found.reach, at.topology, &[link_down(second)])?;
     Ok(())
 }
@@ -355,18 +326,17 @@ fn play_middles<O: Sink>(
     at: At<'_>,
     first: u16,
     out: &mut O,
-    page: &mut Page,
 ) -> Result<(), DeviceBad>
     requires there { first < length at.topology.now.links }
     requires known { IsKnown at.topology.now at.settings (link_down first ∷ []) player.old.found }
     ensures told { Sweeps at.entry.topology.now at.entry.settings at.entry.line (three_with at.entry.topology.now first)
-        (now_at player.old.sums (standing page.old (O.written out.old) (O.faults out.old)))
-        (now_at player.new.sums (standing page.new (O.written out.new) (O.faults out.new))) result }
+        (now_at player.old.sums (standing player.old.desk.page (O.written out.old) (O.faults out.old)))
+        (now_at player.new.sums (standing player.new.desk.page (O.written out.new) (O.faults out.new))) result }
     ensures known { OnOk result (IsKnown at.entry.topology.now at.entry.settings (link_down first ∷ []) player.new.found) }
 {
     let links = link_count(at.topology);
     for second in first + 1..links {
-        play_middle(player, at, first, second, out, page)?;
+        play_middle(player, at, first, second, out)?;
     }
     Ok(())
 }
@@ -377,17 +347,16 @@ fn play_three<O: Sink>(
     at: At<'_>,
     first: u16,
     out: &mut O,
-    page: &mut Page,
 ) -> Result<(), DeviceBad>
     requires there { first < length at.topology.now.links }
     requires known { IsKnown at.topology.now at.settings [] player.old.found }
     ensures told { Sweeps at.entry.topology.now at.entry.settings at.entry.line (three_with at.entry.topology.now first)
-        (now_at player.old.sums (standing page.old (O.written out.old) (O.faults out.old)))
-        (now_at player.new.sums (standing page.new (O.written out.new) (O.faults out.new))) result }
+        (now_at player.old.sums (standing player.old.desk.page (O.written out.old) (O.faults out.old)))
+        (now_at player.new.sums (standing player.new.desk.page (O.written out.new) (O.faults out.new))) result }
     ensures known { OnOk result (IsKnown at.entry.topology.now at.entry.settings [] player.new.found) }
 {
     fail(&mut player.found.reach, at.topology, &[link_down(first)])?;
-    play_middles(player, at, first, out, page)?;
+    play_middles(player, at, first, out)?;
     mend(&mut player.found.reach, at.topology, &[link_down(first)])?;
     Ok(())
 }
@@ -406,22 +375,21 @@ fn play_first<O: Sink>(
     asked: Asked,
     first: u16,
     out: &mut O,
-    page: &mut Page,
 ) -> Result<(), DeviceBad>
     requires there { first < length at.topology.now.links }
     requires known { IsKnown at.topology.now at.settings [] player.old.found }
     ensures told { Sweeps at.entry.topology.now at.entry.settings at.entry.line (first_with at.entry.topology.now asked.many asked.from asked.to first)
-        (now_at player.old.sums (standing page.old (O.written out.old) (O.faults out.old)))
-        (now_at player.new.sums (standing page.new (O.written out.new) (O.faults out.new))) result }
+        (now_at player.old.sums (standing player.old.desk.page (O.written out.old) (O.faults out.old)))
+        (now_at player.new.sums (standing player.new.desk.page (O.written out.new) (O.faults out.new))) result }
     ensures known { OnOk result (IsKnown at.entry.topology.now at.entry.settings [] player.new.found) }
 {
     if is_outside(asked, first) {
         return Ok(());
     }
     if asked.many == 2 {
-        play_two(player, at, first, out, page)
+        play_two(player, at, first, out)
     } else {
-        play_three(player, at, first, out, page)
+        play_three(player, at, first, out)
     }
 }
 
@@ -431,16 +399,15 @@ fn play_many<O: Sink>(
     at: At<'_>,
     asked: Asked,
     out: &mut O,
-    page: &mut Page,
 ) -> Result<(), DeviceBad>
     requires known { IsKnown at.topology.now at.settings [] player.old.found }
     ensures told { Sweeps at.entry.topology.now at.entry.settings at.entry.line (each_many at.entry.topology.now asked.many asked.from asked.to)
-        (now_at player.old.sums (standing page.old (O.written out.old) (O.faults out.old)))
-        (now_at player.new.sums (standing page.new (O.written out.new) (O.faults out.new))) result }
+        (now_at player.old.sums (standing player.old.desk.page (O.written out.old) (O.faults out.old)))
+        (now_at player.new.sums (standing player.new.desk.page (O.written out.new) (O.faults out.new))) result }
     ensures known { OnOk result (IsKnown at.entry.topology.now at.entry.settings [] player.new.found) }
 {
     for first in 0..link_count(at.topology) {
-        play_first(player, at, asked, first, out, page)?;
+        play_first(player, at, asked, first, out)?;
     }
     Ok(())
 }
@@ -451,22 +418,21 @@ fn play_each<O: Sink>(
     at: At<'_>,
     each: Each,
     out: &mut O,
-    page: &mut Page,
 ) -> Result<(), DeviceBad>
     requires known { IsKnown at.topology.now at.settings [] player.old.found }
     ensures told { Sweeps at.entry.topology.now at.entry.settings at.entry.line (each_of at.entry.topology.now each)
-        (now_at player.old.sums (standing page.old (O.written out.old) (O.faults out.old)))
-        (now_at player.new.sums (standing page.new (O.written out.new) (O.faults out.new))) result }
+        (now_at player.old.sums (standing player.old.desk.page (O.written out.old) (O.faults out.old)))
+        (now_at player.new.sums (standing player.new.desk.page (O.written out.new) (O.faults out.new))) result }
     ensures known { OnOk result (IsKnown at.entry.topology.now at.entry.settings [] player.new.found) }
 {
     match each {
-        Each::Link => play_kind(player, at, Kind::Link, out, page),
-        Each::Ldp => play_kind(player, at, Kind::Ldp, out, page),
-        Each::Node => play_kind(player, at, Kind::Node, out, page),
-        Each::Bgp => play_sessions(player, at, out, page),
+        Each::Link => play_kind(player, at, Kind::Link, out),
+        Each::Ldp => play_kind(player, at, Kind::Ldp, out),
+        Each::Node => play_kind(player, at, Kind::Node, out),
+        Each::Bgp => play_sessions(player, at, out),
         Each::Links { many, from, to } => {
             let asked = Asked { many, from, to };
-            play_many(player, at, asked, out, page)
+            play_many(player, at, asked, out)
         }
     }
 }
@@ -477,19 +443,19 @@ pub(crate) fn play_failures<O: Sink>(
     at: At<'_>,
     command: &FailureCommand,
     out: &mut O,
-    page: &mut Page,
 ) -> Result<(), DeviceBad>
     requires fits { command_fits at.topology.now command.now ≡ true }
     requires known { IsKnown at.topology.now at.settings [] player.old.found }
     ensures told { Sweeps at.entry.topology.now at.entry.settings at.entry.line (failures_of at.entry.topology.now command.now)
-        (now_at player.old.sums (standing page.old (O.written out.old) (O.faults out.old)))
-        (now_at player.new.sums (standing page.new (O.written out.new) (O.faults out.new))) result }
+        (now_at player.old.sums (standing player.old.desk.page (O.written out.old) (O.faults out.old)))
+        (now_at player.new.sums (standing player.new.desk.page (O.written out.new) (O.faults out.new))) result }
     ensures known { OnOk result (IsKnown at.entry.topology.now at.entry.settings [] player.new.found) }
 {
     match command {
-        FailureCommand::Fail(parts) => play_one(player, at, parts.as_slice(), out, page),
-        FailureCommand::Each(each) => play_each(player, at, *each, out, page),
+        FailureCommand::Fail(parts) => play_one(player, at, parts.as_slice(), out),
+        FailureCommand::Each(each) => play_each(player, at, *each, out),
         FailureCommand::Sessions { .. }
+        | FailureCommand::Resolve(_)
         | FailureCommand::Losses
         | FailureCommand::Counts
         | FailureCommand::Ttl(_) => Ok(()),

@@ -10,11 +10,12 @@ ghost use Rattle.mn_reach.specs.Plans.{pair_at};
 ghost use Rattle.mn_reach.specs.Touched.{AreMarked};
 ghost use Rattle.mn_reach.specs.Verdicts.{fate_as};
 ghost use Rattle.mn_reach_run.specs.Fates.{change_of};
-ghost use Rattle.mn_reach_run.specs.Lines.{pair_line, change_line, profile_line};
+ghost use Rattle.mn_reach_run.specs.Lines.{pair_line, change_line, resolve_word, sessions_word, profile_line};
 ghost use Rattle.mn_reach_run.specs.Report.{whole_text, under_text};
 ghost use Rattle.mn_reach_run.specs.Playing.{AreApart, HaveFailed, IsReady, IsKnown};
 ghost use Rattle.mn_reach_run.specs.Telling.{pairs_text, told_change, told_changes, head_text, no_changes, with_change, AreCounted};
 
+use crate::case::{Case, Failing};
 use crate::change::Change;
 use crate::failing::{fail, mend};
 use crate::found::{Found, change_of, find_whole};
@@ -23,30 +24,32 @@ use crate::settings::Settings;
 use itoa::Buffer;
 use mn_candidates::Pair;
 use mn_edge::{DeviceBad, Sink};
-use mn_failures::Part;
+use mn_failures::{Part, Resolve};
 use mn_lines::{Page, put_pieces as put_words};
 use mn_reach::{End, Verdict};
 use mn_tables::put_pieces;
 use mn_topo::Topology;
 use std::alloc::{AllocError, Global};
 
-/// A line before it is put, and the verdict of which it tells.
+/// The page on which is told, a line before it stands there, and the verdict of which it tells.
 #[derive(Drop)]
-pub struct Draft {
+pub struct Desk {
+    pub page: Page,
     pub line: Vec<u8>,
     pub verdict: Verdict,
 }
 
-/// A failure: its number through the file, from 1, its line, and its parts.
-#[derive(Clone, Copy)]
-pub struct Failing<'p> {
-    pub number: u64,
-    pub line: u32,
-    pub parts: &'p [Part],
-    /// Those of the parts that have failed already, and will stay so.
-    pub front: &'p [Part],
-    /// The others, behind these.
-    pub more: &'p [Part],
+impl Desk {
+    /// Nothing is told yet.
+    pub(crate) fn new(alloc: Global) -> Result<Desk, AllocError>
+        ensures { IfOk result (λ desk. desk.page ≡ []) }
+    {
+        Ok(Desk {
+            page: Page::new(alloc)?,
+            line: Vec::new(alloc),
+            verdict: Verdict::new(alloc),
+        })
+    }
 }
 
 /// How many pairs were lost, and how many moved.
@@ -112,71 +115,94 @@ fn write_pair(
 /// Puts the line of a pair.
 fn tell_pair<O: Sink>(
     out: &mut O,
-    page: &mut Page,
-    line: &mut Vec<u8>,
+    desk: &mut Desk,
     topology: &Topology,
     pair: Pair,
     verdict: &Verdict,
 ) -> Result<(), DeviceBad>
     ensures { Tells (pair_line topology.now pair (fate_as verdict.now))
-        (standing page.old (O.written out.old) (O.faults out.old)) (standing page.new (O.written out.new) (O.faults out.new)) result }
+        (standing desk.old.page (O.written out.old) (O.faults out.old)) (standing desk.new.page (O.written out.new) (O.faults out.new)) result }
 {
-    write_pair(line, topology, pair, verdict)?;
-    put_pieces(out, page, &[line.as_slice()])
+    write_pair(&mut desk.line, topology, pair, verdict)?;
+    put_pieces(out, &mut desk.page, &[desk.line.as_slice()])
 }
 
 /// Puts the lines of all pairs.
 fn tell_pairs<O: Sink>(
     out: &mut O,
-    page: &mut Page,
-    line: &mut Vec<u8>,
+    desk: &mut Desk,
     topology: &Topology,
     found: &Found,
 ) -> Result<(), DeviceBad>
     requires { length found.now.whole.items ≡ length found.now.reach.plan.pairs }
     ensures { (settings : Settings) → IsKnown topology.now settings [] found.now → Tells (pairs_text topology.now settings)
-        (standing page.old (O.written out.old) (O.faults out.old)) (standing page.new (O.written out.new) (O.faults out.new)) result }
+        (standing desk.old.page (O.written out.old) (O.faults out.old)) (standing desk.new.page (O.written out.new) (O.faults out.new)) result }
 {
     let pairs = found.reach.pairs();
     for pair in 0..pairs.len() {
-        tell_pair(out, page, line, topology, pairs[pair], &found.whole[pair])?;
+        tell_pair(out, desk, topology, pairs[pair], &found.whole[pair])?;
     }
     Ok(())
 }
 
-/// The line of the choices by which is told.
-fn profile_line(ends: bool) -> &'static str
-    ensures { result.now ≡ profile_line ends }
+/// The word of how next hops are resolved.
+fn resolve_word(resolve: Resolve) -> &'static str
+    ensures { result.now ≡ resolve_word resolve }
 {
-    if ends {
-        "profile equal least edges one order least interior no resolve topology sync no control ordered bare avoid labels site sessions end\n"
-    } else {
-        "profile equal least edges one order least interior no resolve topology sync no control ordered bare avoid labels site sessions stay\n"
+    match resolve {
+        Resolve::AsTopology => "topology",
+        Resolve::Never => "no",
+        Resolve::ByLabel => "label",
     }
+}
+
+/// The word of whether sessions end between edges that no links join.
+fn sessions_word(ends: bool) -> &'static str
+    ensures { result.now ≡ sessions_word ends }
+{
+    if ends { "end" } else { "stay" }
+}
+
+/// Puts the line of the choices by which is told.
+fn tell_profile<O: Sink>(out: &mut O, page: &mut Page, settings: Settings) -> Result<(), DeviceBad>
+    ensures { Tells (profile_line settings.resolve settings.ends)
+        (standing page.old (O.written out.old) (O.faults out.old)) (standing page.new (O.written out.new) (O.faults out.new)) result }
+{
+    let resolve = resolve_word(settings.resolve).as_bytes();
+    let sessions = sessions_word(settings.ends).as_bytes();
+    put_pieces(
+        out,
+        page,
+        &[
+            b"profile equal least edges one order least interior no resolve ",
+            resolve,
+            b" sync no control ordered bare avoid labels site sessions ",
+            sessions,
+            b"\n",
+        ],
+    )
 }
 
 /// Finds what becomes of each pair with nothing failed, and puts it.
 pub(crate) fn tell_whole<O: Sink>(
-    alloc: Global,
     topology: &Topology,
-    found: &mut Found,
     settings: Settings,
-    line: &mut Vec<u8>,
+    found: &mut Found,
     out: &mut O,
-    page: &mut Page,
+    desk: &mut Desk,
 ) -> Result<(), DeviceBad>
     requires ready { IsReady topology.now found.old.reach }
     requires whole { (ends : Bool) × HaveFailed topology.now ends [] found.old.reach }
     requires least { 2 ≤ settings.ttl }
     requires most { settings.ttl ≤ 255 }
     ensures told { Tells (whole_text topology.now settings)
-        (standing page.old (O.written out.old) (O.faults out.old)) (standing page.new (O.written out.new) (O.faults out.new)) result }
+        (standing desk.old.page (O.written out.old) (O.faults out.old)) (standing desk.new.page (O.written out.new) (O.faults out.new)) result }
     ensures known { OnOk result (IsKnown topology.now settings [] found.new) }
 {
     found.reach.set_ends(settings.ends);
-    find_whole(alloc, topology, found, settings)?;
-    put_pieces(out, page, &[profile_line(settings.ends).as_bytes()])?;
-    tell_pairs(out, page, line, topology, found)
+    find_whole(topology, found, settings)?;
+    tell_profile(out, &mut desk.page, settings)?;
+    tell_pairs(out, desk, topology, found)
 }
 
 // 2. One failure
@@ -184,17 +210,17 @@ pub(crate) fn tell_whole<O: Sink>(
 /// Writes the line of a pair that a failure changes.
 fn write_change(
     line: &mut Vec<u8>,
-    topology: &Topology,
-    number: u64,
+    case: Case<'_>,
     pair: Pair,
     change: Change,
     verdict: &Verdict,
 ) -> Result<(), AllocError>
-    ensures { (count : ℕ) → number ≡ u64_saturate count →
-        OnOk result (line.new.items ≡ change_line topology.now count pair change (fate_as verdict.now)) }
+    ensures { (count : ℕ) → case.entry.number ≡ u64_saturate count →
+        OnOk result (line.new.items ≡ change_line case.entry.at.topology.now count pair change (fate_as verdict.now)) }
 {
     let mut buffer = Buffer::new();
-    let number = buffer.format(number).as_bytes();
+    let number = buffer.format(case.number).as_bytes();
+    let topology = case.at.topology;
     line.clear();
     match (change, verdict.end) {
         (Change::Lost, End::Falls { rule, node }) => {
@@ -214,94 +240,81 @@ fn write_change(
 /// Puts the line of a pair that a failure changes.
 fn tell_change<O: Sink>(
     out: &mut O,
-    page: &mut Page,
-    draft: &mut Draft,
-    topology: &Topology,
-    number: u64,
+    desk: &mut Desk,
+    case: Case<'_>,
     pair: Pair,
     change: Change,
 ) -> Result<(), DeviceBad>
-    ensures { (count : ℕ) → number ≡ u64_saturate count → Tells (change_line topology.now count pair change (fate_as draft.old.verdict))
-        (standing page.old (O.written out.old) (O.faults out.old)) (standing page.new (O.written out.new) (O.faults out.new)) result }
+    ensures { (count : ℕ) → case.entry.number ≡ u64_saturate count →
+        Tells (change_line case.entry.at.topology.now count pair change (fate_as desk.old.verdict))
+        (standing desk.old.page (O.written out.old) (O.faults out.old)) (standing desk.new.page (O.written out.new) (O.faults out.new)) result }
 {
     if let Change::Nothing = change {
         return Ok(());
     }
-    write_change(
-        &mut draft.line,
-        topology,
-        number,
-        pair,
-        change,
-        &draft.verdict,
-    )?;
-    put_pieces(out, page, &[draft.line.as_slice()])
+    write_change(&mut desk.line, case, pair, change, &desk.verdict)?;
+    put_pieces(out, &mut desk.page, &[desk.line.as_slice()])
 }
 
 /// Finds what a failure changes for a pair, and puts it where each loss is told.
 fn try_pair<O: Sink>(
     out: &mut O,
-    page: &mut Page,
-    draft: &mut Draft,
-    topology: &Topology,
+    desk: &mut Desk,
+    case: Case<'_>,
     found: &Found,
-    settings: Settings,
-    number: u64,
     pair: usize,
 ) -> Result<Change, DeviceBad>
-    requires ready { IsReady topology.now found.now.reach }
+    requires ready { IsReady case.at.topology.now found.now.reach }
     requires sound { found.now.reach.failed ≡ false }
-    requires marked { AreMarked topology.now found.now.reach found.now.touched.items }
-    requires each { length found.now.whole.items ≡ length (pairs_of topology.now) }
-    requires pair { pair < length (pairs_of topology.now) }
-    requires least { 2 ≤ settings.ttl }
-    requires most { settings.ttl ≤ 255 }
-    ensures told { (parts : List Part) → IsKnown topology.now settings parts found.now → (count : ℕ) → number ≡ u64_saturate count →
-        Tells (told_change topology.now settings count parts (pair_at found.now.reach.plan pair))
-        (standing page.old (O.written out.old) (O.faults out.old)) (standing page.new (O.written out.new) (O.faults out.new)) result }
-    ensures change { (parts : List Part) → IsKnown topology.now settings parts found.now →
-        IfOk result (λ change. change ≡ change_of topology.now settings parts (pair_at found.now.reach.plan pair)) }
+    requires marked { AreMarked case.at.topology.now found.now.reach found.now.touched.items }
+    requires each { length found.now.whole.items ≡ length (pairs_of case.at.topology.now) }
+    requires pair { pair < length (pairs_of case.at.topology.now) }
+    requires least { 2 ≤ case.at.settings.ttl }
+    requires most { case.at.settings.ttl ≤ 255 }
+    ensures told { (parts : List Part) → IsKnown case.entry.at.topology.now case.entry.at.settings parts found.now →
+        (count : ℕ) → case.entry.number ≡ u64_saturate count →
+        Tells (told_change case.entry.at.topology.now case.entry.at.settings count parts (pair_at found.now.reach.plan pair))
+        (standing desk.old.page (O.written out.old) (O.faults out.old)) (standing desk.new.page (O.written out.new) (O.faults out.new)) result }
+    ensures change { (parts : List Part) → IsKnown case.entry.at.topology.now case.entry.at.settings parts found.now →
+        IfOk result (λ change. change ≡ change_of case.entry.at.topology.now case.entry.at.settings parts (pair_at found.now.reach.plan pair)) }
 {
-    let change = change_of(topology, found, settings, pair, &mut draft.verdict)?;
-    if settings.counts {
+    let change = change_of(
+        case.at.topology,
+        found,
+        case.at.settings,
+        pair,
+        &mut desk.verdict,
+    )?;
+    if case.at.settings.counts {
         return Ok(change);
     }
-    tell_change(
-        out,
-        page,
-        draft,
-        topology,
-        number,
-        found.reach.pairs()[pair],
-        change,
-    )?;
+    tell_change(out, desk, case, found.reach.pairs()[pair], change)?;
     Ok(change)
 }
 
 /// Finds what a failure changes for each pair, counts it, and puts it where each loss is told.
 fn tell_changes<O: Sink>(
     out: &mut O,
-    page: &mut Page,
-    draft: &mut Draft,
-    topology: &Topology,
+    desk: &mut Desk,
+    case: Case<'_>,
     found: &Found,
-    settings: Settings,
-    number: u64,
 ) -> Result<Changes, DeviceBad>
-    requires ready { IsReady topology.now found.now.reach }
+    requires ready { IsReady case.at.topology.now found.now.reach }
     requires sound { found.now.reach.failed ≡ false }
-    requires marked { AreMarked topology.now found.now.reach found.now.touched.items }
-    requires each { length found.now.whole.items ≡ length (pairs_of topology.now) }
-    requires least { 2 ≤ settings.ttl }
-    requires most { settings.ttl ≤ 255 }
-    ensures told { (parts : List Part) → IsKnown topology.now settings parts found.now → (count : ℕ) → number ≡ u64_saturate count →
-        Tells (told_changes topology.now settings count parts)
-        (standing page.old (O.written out.old) (O.faults out.old)) (standing page.new (O.written out.new) (O.faults out.new)) result }
-    ensures counted { (parts : List Part) → IsKnown topology.now settings parts found.now → IfOk result (AreCounted topology.now settings parts (pairs_of topology.now)) }
+    requires marked { AreMarked case.at.topology.now found.now.reach found.now.touched.items }
+    requires each { length found.now.whole.items ≡ length (pairs_of case.at.topology.now) }
+    requires least { 2 ≤ case.at.settings.ttl }
+    requires most { case.at.settings.ttl ≤ 255 }
+    ensures told { (parts : List Part) → IsKnown case.entry.at.topology.now case.entry.at.settings parts found.now →
+        (count : ℕ) → case.entry.number ≡ u64_saturate count →
+        Tells (told_changes case.entry.at.topology.now case.entry.at.settings count parts)
+        (standing desk.old.page (O.written out.old) (O.faults out.old)) (standing desk.new.page (O.written out.new) (O.faults out.new)) result }
+    ensures counted { (parts : List Part) → IsKnown case.entry.at.topology.now case.entry.at.settings parts found.now →
+        IfOk result (AreCounted case.entry.at.topology.now case.entry.at.settings parts (pairs_of case.entry.at.topology.now)) }
 {
     let mut changes = Changes::new();
     for pair in 0..found.reach.pairs().len() {
-        let change = try_pair(out, page, draft, topology, found, settings, number, pair)?;
+        let change = try_pair(out, desk, case, found, pair)?;
         changes = changes.with(change);
     }
     Ok(changes)
@@ -310,16 +323,16 @@ fn tell_changes<O: Sink>(
 /// Writes the line of a failure, and behind its parts what it changes where only that is told.
 fn write_head(
     line: &mut Vec<u8>,
-    topology: &Topology,
-    failing: Failing<'_>,
+    case: Case<'_>,
+    parts: &[Part],
     changes: Option<Changes>,
 ) -> Result<(), AllocError>
-    requires { list_all (part_fits topology.now) failing.parts.now ≡ true }
-    ensures { (count : ℕ) → failing.entry.number ≡ u64_saturate count →
-        OnOk result (line.new.items ≡ head_text topology.now count failing.entry.line failing.entry.parts.now changes) }
+    requires { list_all (part_fits case.at.topology.now) parts.now ≡ true }
+    ensures { (count : ℕ) → case.entry.number ≡ u64_saturate count →
+        OnOk result (line.new.items ≡ head_text case.entry.at.topology.now count case.entry.at.line parts.now changes) }
 {
     line.clear();
-    put_failure(line, topology, failing.number, failing.line, failing.parts)?;
+    put_failure(line, case.at.topology, case.number, case.at.line, parts)?;
     match changes {
         Some(changes) => put_counts(line, changes.lost, changes.moved),
         None => put_words(line, &[b"\n"]),
@@ -329,69 +342,67 @@ fn write_head(
 /// Puts the line of a failure.
 fn tell_head<O: Sink>(
     out: &mut O,
-    page: &mut Page,
-    line: &mut Vec<u8>,
-    topology: &Topology,
-    failing: Failing<'_>,
+    desk: &mut Desk,
+    case: Case<'_>,
+    parts: &[Part],
     changes: Option<Changes>,
 ) -> Result<(), DeviceBad>
-    requires { list_all (part_fits topology.now) failing.parts.now ≡ true }
-    ensures { (count : ℕ) → failing.entry.number ≡ u64_saturate count → Tells (head_text topology.now count failing.entry.line failing.entry.parts.now changes)
-        (standing page.old (O.written out.old) (O.faults out.old)) (standing page.new (O.written out.new) (O.faults out.new)) result }
+    requires { list_all (part_fits case.at.topology.now) parts.now ≡ true }
+    ensures { (count : ℕ) → case.entry.number ≡ u64_saturate count →
+        Tells (head_text case.entry.at.topology.now count case.entry.at.line parts.now changes)
+        (standing desk.old.page (O.written out.old) (O.faults out.old)) (standing desk.new.page (O.written out.new) (O.faults out.new)) result }
 {
-    write_head(line, topology, failing, changes)?;
-    put_pieces(out, page, &[line.as_slice()])
+    write_head(&mut desk.line, case, parts, changes)?;
+    put_pieces(out, &mut desk.page, &[desk.line.as_slice()])
 }
 
 /// Puts what a failure changes that has been made.
 fn tell_failed<O: Sink>(
     out: &mut O,
-    page: &mut Page,
-    draft: &mut Draft,
-    topology: &Topology,
+    desk: &mut Desk,
+    case: Case<'_>,
     found: &Found,
-    settings: Settings,
-    failing: Failing<'_>,
+    parts: &[Part],
 ) -> Result<Changes, DeviceBad>
-    requires fit { list_all (part_fits topology.now) failing.parts.now ≡ true }
-    requires known { IsKnown topology.now settings failing.parts.now found.now }
-    requires marked { AreMarked topology.now found.now.reach found.now.touched.items }
-    ensures told { (count : ℕ) → failing.entry.number ≡ u64_saturate count → Tells (under_text topology.now settings count failing.entry.line failing.entry.parts.now)
-        (standing page.old (O.written out.old) (O.faults out.old)) (standing page.new (O.written out.new) (O.faults out.new)) result }
-    ensures counted { IfOk result (AreCounted topology.now settings failing.entry.parts.now (pairs_of topology.now)) }
+    requires fit { list_all (part_fits case.at.topology.now) parts.now ≡ true }
+    requires known { IsKnown case.at.topology.now case.at.settings parts.now found.now }
+    requires marked { AreMarked case.at.topology.now found.now.reach found.now.touched.items }
+    ensures told { (count : ℕ) → case.entry.number ≡ u64_saturate count →
+        Tells (under_text case.entry.at.topology.now case.entry.at.settings count case.entry.at.line parts.now)
+        (standing desk.old.page (O.written out.old) (O.faults out.old)) (standing desk.new.page (O.written out.new) (O.faults out.new)) result }
+    ensures counted { IfOk result (AreCounted case.entry.at.topology.now case.entry.at.settings parts.now (pairs_of case.entry.at.topology.now)) }
 {
-    if settings.counts {
-        let changes = tell_changes(out, page, draft, topology, found, settings, failing.number)?;
-        tell_head(out, page, &mut draft.line, topology, failing, Some(changes))?;
+    if case.at.settings.counts {
+        let changes = tell_changes(out, desk, case, found)?;
+        tell_head(out, desk, case, parts, Some(changes))?;
         return Ok(changes);
     }
-    tell_head(out, page, &mut draft.line, topology, failing, None)?;
-    tell_changes(out, page, draft, topology, found, settings, failing.number)
+    tell_head(out, desk, case, parts, None)?;
+    tell_changes(out, desk, case, found)
 }
 
 /// Puts what a failure changes: of its parts those behind the first ones are made, and mended afterwards.
 pub(crate) fn tell_failure<O: Sink>(
     out: &mut O,
-    page: &mut Page,
-    draft: &mut Draft,
-    topology: &Topology,
+    desk: &mut Desk,
+    case: Case<'_>,
     found: &mut Found,
-    settings: Settings,
     failing: Failing<'_>,
 ) -> Result<Changes, DeviceBad>
-    requires fit { list_all (part_fits topology.now) failing.parts.now ≡ true }
-    requires more_fit { list_all (part_fits topology.now) failing.more.now ≡ true }
+    requires fit { list_all (part_fits case.at.topology.now) failing.parts.now ≡ true }
+    requires more_fit { list_all (part_fits case.at.topology.now) failing.more.now ≡ true }
     requires parts { failing.parts.now ≡ failing.front.now ++ failing.more.now }
-    requires apart { AreApart topology.now failing.front.now failing.more.now }
-    requires known { IsKnown topology.now settings failing.front.now found.old }
-    ensures told { (count : ℕ) → failing.entry.number ≡ u64_saturate count → Tells (under_text topology.now settings count failing.entry.line failing.entry.parts.now)
-        (standing page.old (O.written out.old) (O.faults out.old)) (standing page.new (O.written out.new) (O.faults out.new)) result }
-    ensures counted { IfOk result (AreCounted topology.now settings failing.entry.parts.now (pairs_of topology.now)) }
-    ensures known { OnOk result (IsKnown topology.now settings failing.entry.front.now found.new) }
+    requires apart { AreApart case.at.topology.now failing.front.now failing.more.now }
+    requires known { IsKnown case.at.topology.now case.at.settings failing.front.now found.old }
+    ensures told { (count : ℕ) → case.entry.number ≡ u64_saturate count →
+        Tells (under_text case.entry.at.topology.now case.entry.at.settings count case.entry.at.line failing.entry.parts.now)
+        (standing desk.old.page (O.written out.old) (O.faults out.old)) (standing desk.new.page (O.written out.new) (O.faults out.new)) result }
+    ensures counted { IfOk result (AreCounted case.entry.at.topology.now case.entry.at.settings failing.entry.parts.now (pairs_of case.entry.at.topology.now)) }
+    ensures known { OnOk result (IsKnown case.entry.at.topology.now case.entry.at.settings failing.entry.front.now found.new) }
 {
-    fail(&mut found.reach, topology, failing.more)?;
+    fail(&mut found.reach, case.at.topology, failing.more)?;
     found.reach.mark_touched(&mut found.touched)?;
-    let changes = tell_failed(out, page, draft, topology, found, settings, failing)?;
-    mend(&mut found.reach, topology, failing.more)?;
+    let changes = tell_failed(out, desk, case, found, failing.parts)?;
+    mend(&mut found.reach, case.at.topology, failing.more)?;
     Ok(changes)
 }

@@ -12,8 +12,9 @@ loop-line-init g c = first_at c.args.topology.now c.args.lines.now c.args.player
 pub loop-line-preserved : goal.loop-line-preserved
 loop-line-preserved g c =
     subst (λ manner. IsAt c.args.topology.now c.args.lines.now (c.loop-line.line-index + 1) manner c.play_line.new.player.found
-    (standing c.args.page.now (g.O.Sink.written c.args.out.now) (g.O.Sink.faults c.args.out.now))
-    (now_at c.play_line.new.player.sums (standing c.play_line.new.page (g.O.Sink.written c.play_line.new.out) (g.O.Sink.faults c.play_line.new.out))))
+    (standing c.args.player.now.desk.page (g.O.Sink.written c.args.out.now) (g.O.Sink.faults c.args.out.now))
+    (now_at c.play_line.new.player.sums (standing c.play_line.new.player.desk.page (g.O.Sink.written c.play_line.new.out)
+    (g.O.Sink.faults c.play_line.new.out))))
     (sym c.manner_after-manner.ensures)
     (line_done c.args.topology.now c.args.lines.now c.loop-line.line-index c.loop-line.manner c.loop-line.player.found _ _ c.loop-line.invariant
     c.line-item.result c.loop-line-test.true c.line-item.is c.play_line.new.player.found _ c.in_ok-play_line.ensures.told c.in_ok-play_line.ensures.lasts)

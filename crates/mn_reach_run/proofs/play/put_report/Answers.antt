@@ -1,18 +1,14 @@
 use Rattle.std.proofs.Common.{◌∙◌, ap, length}
-use Rattle.mn_edge.specs.declared.device.DeviceBad.TheVariants.{NoMemory}
-use Rattle.mn_tables.proofs.Telling.{tells_as, tells_err, tells_want, tells_then, tells_first}
+use Rattle.mn_tables.proofs.Telling.{tells_as, tells_then, tells_first}
 use Rattle.mn_reach_run.specs.Report.{tasks_of, tasks_text, sums_in, totals_text}
 use Rattle.mn_reach_run.specs.Lines.{total_line}
 use Rattle.mn_reach_run.proofs.play.put_report.Goals as goal
-
-pub returns-in_err-player : goal.returns-in_err-player
-returns-in_err-player g c = tells_err _ _ _ NoMemory _ c.from_residual.ensures (tells_want _ _)
 
 pub returns-in_err-play : goal.returns-in_err-play
 returns-in_err-play g c =
     let e = c.in_err-play.field-0.0 in
     tells_first (tasks_text c.args.topology.now (tasks_of c.args.topology.now c.args.lines.now))
-    (totals_text c.args.topology.now (sums_in c.args.topology.now (tasks_of c.args.topology.now c.args.lines.now))) _ _ e _ c.from_residual-in_err-play.ensures
+    (totals_text c.args.topology.now (sums_in c.args.topology.now (tasks_of c.args.topology.now c.args.lines.now))) _ _ e _ c.from_residual.ensures
     c.in_err-play.ensures
 
 pub returns : goal.returns
@@ -22,4 +18,4 @@ returns g c =
     tells_then (tasks_text t tasks) (totals_text t (sums_in t tasks)) _ _ _ c.put_total.result c.in_ok-play.ensures.told
     (tells_as _ _ _ _ c.put_total.result (c.put_total.ensures (sums_in t tasks) c.in_ok-play.ensures.sums)
     (ap (λ n. total_line n (sums_in t tasks).failures (sums_in t tasks).verdicts (sums_in t tasks).lost (sums_in t tasks).moved)
-    (ap length (c.as_slice.ensures.value ∙ c.requires.pairs))))
+    (ap length (c.pairs.ensures ∙ c.requires.ready.pairs))))

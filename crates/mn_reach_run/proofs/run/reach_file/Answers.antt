@@ -7,7 +7,8 @@ use Rattle.mn_answer.specs.Answer.{with_lines_of}
 use Rattle.mn_answer.proofs.Ending.{fault_answers, memory_answers, sink_caused, sink_answers, caused_read}
 use Rattle.mn_failures.specs.Language.{failure_says}
 use Rattle.mn_reach_run.specs.Answer.{reach_done, reach_over}
-use Rattle.mn_reach_run.specs.Fates.{failure_under}
+use Rattle.mn_reach_run.specs.Fates.{failure_under, network_by}
+use Rattle.mn_reach_run.proofs.Fated.{lawful_by}
 use Rattle.mn_reach_run.proofs.Endings.{failures_told, writes_none}
 use Rattle.mn_reach_run.proofs.run.reach_file.Goals as goal
 
@@ -16,7 +17,8 @@ returns-in-Ok-Ok-clause-told g c = λ files is before begun.
     let t = c.args.topology.now in
     let read = subst (LinesAre (failure_says t) (file files c.args.failures.now)) c.in-Ok-Ok.field-0-is (c.in-Ok-Ok.ensures.answer files is) in
     failures_told t (Some c.args.failures.now) c.in-Ok-Ok.lines.items files before _ c.reach_lines.result read.0
-    (λ ends parts. c.each_packet_comes_to_its_fate.ensures t (failure_under t ends parts) c.laws.ensures)
+    (λ resolve ends parts. c.each_packet_comes_to_its_fate.ensures (network_by t resolve) (failure_under t ends parts)
+    (lawful_by t resolve c.laws.ensures))
     (subst (λ lines. TextIs (Some (reach_done t lines)) before (g.O.Sink.written c.reach_lines.new.out) c.reach_lines.result) c.as_slice.ensures.value
     (c.reach_lines.ensures.text before begun))
     (subst (λ lines. OutcomeIs (Some (reach_done t lines)) c.reach_lines.result) c.as_slice.ensures.value c.reach_lines.ensures.outcome)

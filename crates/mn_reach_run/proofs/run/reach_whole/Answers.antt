@@ -2,7 +2,8 @@ use Rattle.std.proofs.Common.{refl, []}
 use Rattle.std.specs.Prelude.{Some, None}
 use Rattle.mn_answer.proofs.Ending.{sink_answers}
 use Rattle.mn_reach_run.specs.Answer.{reach_done}
-use Rattle.mn_reach_run.specs.Fates.{failure_under}
+use Rattle.mn_reach_run.specs.Fates.{failure_under, network_by}
+use Rattle.mn_reach_run.proofs.Fated.{lawful_by}
 use Rattle.mn_reach_run.proofs.Endings.{failures_told, writes_none}
 use Rattle.mn_reach_run.proofs.run.reach_whole.Goals as goal
 
@@ -15,5 +16,6 @@ returns-clause-answers g c = λ files is.
 pub returns-clause-told : goal.returns-clause-told
 returns-clause-told g c = λ files is before begun.
     failures_told c.args.topology.now None [] files before _ c.reach_lines.result refl
-    (λ ends parts. c.each_packet_comes_to_its_fate.ensures c.args.topology.now (failure_under c.args.topology.now ends parts) c.laws.ensures)
+    (λ resolve ends parts. c.each_packet_comes_to_its_fate.ensures (network_by c.args.topology.now resolve) (failure_under c.args.topology.now ends parts)
+    (lawful_by c.args.topology.now resolve c.laws.ensures))
     (c.reach_lines.ensures.text before begun) c.reach_lines.ensures.outcome

@@ -11,6 +11,6 @@ invariant-loop-second g l = record {
   known : IsKnown l.at.topology.now l.at.settings (link_down l.first ∷ []) l.player.found;
   told : Sweeps l.at.topology.now l.at.settings l.at.line (flat_map (third_with l.at.topology.now l.first)
       (take (l.second - (l.first + 1)) (range_with_len (l.first + 1) (length l.at.topology.now.links - (l.first + 1)))))
-      (now_at l.fn.player.sums (standing l.fn.page (g.O.Sink.written l.fn.out) (g.O.Sink.faults l.fn.out)))
-      (now_at l.player.sums (standing l.page (g.O.Sink.written l.out) (g.O.Sink.faults l.out))) (Ok tt);
+      (now_at l.fn.player.sums (standing l.fn.player.desk.page (g.O.Sink.written l.fn.out) (g.O.Sink.faults l.fn.out)))
+      (now_at l.player.sums (standing l.player.desk.page (g.O.Sink.written l.out) (g.O.Sink.faults l.out))) (Ok tt);
 }

@@ -11,6 +11,6 @@ invariant-loop-one g l = record {
   known : IsKnown l.at.topology.now l.at.settings [] l.player.found;
   told : Sweeps l.at.topology.now l.at.settings l.at.line
       (flat_map (edge_of l.at.topology.now) (take l.one (range_with_len 0 (length l.at.topology.now.loopbacks))))
-      (now_at l.fn.player.sums (standing l.fn.page (g.O.Sink.written l.fn.out) (g.O.Sink.faults l.fn.out)))
-      (now_at l.player.sums (standing l.page (g.O.Sink.written l.out) (g.O.Sink.faults l.out))) (Ok tt);
+      (now_at l.fn.player.sums (standing l.fn.player.desk.page (g.O.Sink.written l.fn.out) (g.O.Sink.faults l.fn.out)))
+      (now_at l.player.sums (standing l.player.desk.page (g.O.Sink.written l.out) (g.O.Sink.faults l.out))) (Ok tt);
 }

@@ -11,6 +11,6 @@ invariant-loop-third g l = record {
   known : IsKnown l.at.topology.now l.at.settings (link_down l.first ∷ link_down l.second ∷ []) l.player.found;
   told : Sweeps l.at.topology.now l.at.settings l.at.line (flat_map (λ n. (link_down l.first ∷ link_down l.second ∷ link_down n ∷ []) ∷ [])
       (take (l.third - (l.second + 1)) (range_with_len (l.second + 1) (length l.at.topology.now.links - (l.second + 1)))))
-      (now_at l.fn.player.sums (standing l.fn.page (g.O.Sink.written l.fn.out) (g.O.Sink.faults l.fn.out)))
-      (now_at l.player.sums (standing l.page (g.O.Sink.written l.out) (g.O.Sink.faults l.out))) (Ok tt);
+      (now_at l.fn.player.sums (standing l.fn.player.desk.page (g.O.Sink.written l.fn.out) (g.O.Sink.faults l.fn.out)))
+      (now_at l.player.sums (standing l.player.desk.page (g.O.Sink.written l.out) (g.O.Sink.faults l.out))) (Ok tt);
 }

@@ -8,7 +8,7 @@ use Rattle.mn_reach_run.proofs.tell.tell_change.Goals as goal
 pub returns-in-Nothing : goal.returns-in-Nothing
 returns-in-Nothing g c = λ count is.
     tells_as _ _ _ _ _ (tells_nothing _)
-    (sym (ap (λ change. change_line c.args.topology.now count c.args.pair change (fate_as c.args.draft.now.verdict)) c.in-Nothing.is))
+    (sym (ap (λ change. change_line c.args.case.at.topology.now count c.args.pair change (fate_as c.args.desk.now.verdict)) c.in-Nothing.is))
 
 pub returns-in_err-write_change : goal.returns-in_err-write_change
 returns-in_err-write_change g c = λ count is. tells_err _ _ _ NoMemory _ c.from_residual.ensures (tells_want _ _)

@@ -26,29 +26,29 @@ try_pair-requires-clause-pair g c =
 
 pub with-changes-requires-clause-lost : goal.with-changes-requires-clause-lost
 with-changes-requires-clause-lost g c =
-    let below : c.loop-pair.pair < length (pairs_of c.args.topology.now) =
+    let below : c.loop-pair.pair < length (pairs_of c.args.case.at.topology.now) =
     subst (λ (ps : List Pair). c.loop-pair.pair < length ps) (c.pairs-pair-end.ensures ∙ c.requires.ready.pairs) c.loop-pair-test.true in
     omega (arith, below, c.requires.ready.few, c.loop-pair.invariant.few_lost)
 
 pub with-changes-requires-clause-moved : goal.with-changes-requires-clause-moved
 with-changes-requires-clause-moved g c =
-    let below : c.loop-pair.pair < length (pairs_of c.args.topology.now) =
+    let below : c.loop-pair.pair < length (pairs_of c.args.case.at.topology.now) =
     subst (λ (ps : List Pair). c.loop-pair.pair < length ps) (c.pairs-pair-end.ensures ∙ c.requires.ready.pairs) c.loop-pair-test.true in
     omega (arith, below, c.requires.ready.few, c.loop-pair.invariant.few_moved)
 
 pub loop-pair-preserved : goal.loop-pair-preserved
 loop-pair-preserved g c =
-    let t = c.args.topology.now in
+    let t = c.args.case.at.topology.now in
     let k = c.loop-pair.pair in
     let below : k < length (pairs_of t) = subst (λ (ps : List Pair). k < length ps) (c.pairs-pair-end.ensures ∙ c.requires.ready.pairs) c.loop-pair-test.true in
     record {
       told = λ parts known count is.
-          told_next (told_change t c.args.settings count parts) (pairs_of t) k no_pair _ _ _ below (c.loop-pair.invariant.told parts known count is)
+          told_next (told_change t c.args.case.at.settings count parts) (pairs_of t) k no_pair _ _ _ below (c.loop-pair.invariant.told parts known count is)
           (tells_as _ _ _ _ (Ok tt)
           (tells_ok _ _ _ tt (told_of _ _ _ c.in_ok-change.change (c.in_ok-change.ensures.told parts known count is)))
-          (ap (told_change t c.args.settings count parts) (sym (pair_is t c.args.found.now.reach known.ready k))));
+          (ap (told_change t c.args.case.at.settings count parts) (sym (pair_is t c.args.found.now.reach known.ready k))));
       counted = λ parts known.
-          count_next t c.args.settings parts c.args.found.now known k below c.loop-pair.changes c.with-changes.result c.in_ok-change.change
+          count_next t c.args.case.at.settings parts c.args.found.now known k below c.loop-pair.changes c.with-changes.result c.in_ok-change.change
           (c.loop-pair.invariant.counted parts known) (c.in_ok-change.ensures.change parts known) c.with-changes.ensures;
       few_lost = subst (λ (n : Changes). n.lost ≤ k + 1) (sym c.with-changes.ensures)
           (few_more c.loop-pair.changes.lost k (is_lost c.in_ok-change.change) c.loop-pair.invariant.few_lost);
@@ -58,29 +58,29 @@ loop-pair-preserved g c =
 
 pub returns-in_err-change-clause-told : goal.returns-in_err-change-clause-told
 returns-in_err-change-clause-told g c = λ parts known count is.
-    let t = c.args.topology.now in
+    let t = c.args.case.at.topology.now in
     let k = c.loop-pair.pair in
     let e = c.in_err-change.field-0.0 in
     let below : k < length (pairs_of t) = subst (λ (ps : List Pair). k < length ps) (c.pairs-pair-end.ensures ∙ c.requires.ready.pairs) c.loop-pair-test.true in
     tells_out _ _ _ e _ c.from_residual.ensures
-    (tells_cut (told_change t c.args.settings count parts) (pairs_of t) k no_pair _ _ _ e (Err e) (refl, refl) below
+    (tells_cut (told_change t c.args.case.at.settings count parts) (pairs_of t) k no_pair _ _ _ e (Err e) (refl, refl) below
     (c.loop-pair.invariant.told parts known count is)
     (tells_as _ _ _ _ (Err e) (err_of _ _ _ e (c.in_err-change.ensures.told parts known count is))
-    (ap (told_change t c.args.settings count parts) (sym (pair_is t c.args.found.now.reach known.ready k)))))
+    (ap (told_change t c.args.case.at.settings count parts) (sym (pair_is t c.args.found.now.reach known.ready k)))))
 
 pub returns-clause-told : goal.returns-clause-told
 returns-clause-told g c = λ parts known count is.
-    let t = c.args.topology.now in
+    let t = c.args.case.at.topology.now in
     let past : length (pairs_of t) ≤ c.loop-pair.pair =
     subst (λ (ps : List Pair). length ps ≤ c.loop-pair.pair) (c.pairs-pair-end.ensures ∙ c.requires.ready.pairs) c.loop-pair-test.false in
     tells_ok _ _ _ c.loop-pair.changes
-    (told_by _ _ _ (tells_all (told_change t c.args.settings count parts) (pairs_of t) c.loop-pair.pair _ _ past
+    (told_by _ _ _ (tells_all (told_change t c.args.case.at.settings count parts) (pairs_of t) c.loop-pair.pair _ _ past
     (c.loop-pair.invariant.told parts known count is)))
 
 pub returns-clause-counted : goal.returns-clause-counted
 returns-clause-counted g c = λ parts known.
-    let t = c.args.topology.now in
+    let t = c.args.case.at.topology.now in
     let past : length (pairs_of t) ≤ c.loop-pair.pair =
     subst (λ (ps : List Pair). length ps ≤ c.loop-pair.pair) (c.pairs-pair-end.ensures ∙ c.requires.ready.pairs) c.loop-pair-test.false in
-    subst (λ ps. AreCounted t c.args.settings parts ps c.loop-pair.changes) (take_all c.loop-pair.pair (pairs_of t) past)
+    subst (λ ps. AreCounted t c.args.case.at.settings parts ps c.loop-pair.changes) (take_all c.loop-pair.pair (pairs_of t) past)
     (c.loop-pair.invariant.counted parts known)

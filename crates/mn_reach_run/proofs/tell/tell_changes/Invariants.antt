@@ -11,11 +11,11 @@ use Rattle.mn_reach_run.proofs.tell.tell_changes.Given as goal
 -- of the pairs before this one
 abbrev pub invariant-loop-pair : goal.invariant-loop-pair
 invariant-loop-pair g l = record {
-  told : (parts : List Part) → IsKnown l.topology l.settings parts l.found → (count : ℕ) → l.number ≡ u64_saturate count →
-      Told (flat_map (told_change l.topology l.settings count parts) (take l.pair (pairs_of l.topology)))
-      (standing l.fn.page (g.O.Sink.written l.fn.out) (g.O.Sink.faults l.fn.out)) (standing l.page (g.O.Sink.written l.out) (g.O.Sink.faults l.out));
-  counted : (parts : List Part) → IsKnown l.topology l.settings parts l.found →
-      AreCounted l.topology l.settings parts (take l.pair (pairs_of l.topology)) l.changes;
+  told : (parts : List Part) → IsKnown l.case.at.topology.now l.case.at.settings parts l.found → (count : ℕ) → l.case.number ≡ u64_saturate count →
+      Told (flat_map (told_change l.case.at.topology.now l.case.at.settings count parts) (take l.pair (pairs_of l.case.at.topology.now)))
+      (standing l.fn.desk.page (g.O.Sink.written l.fn.out) (g.O.Sink.faults l.fn.out)) (standing l.desk.page (g.O.Sink.written l.out) (g.O.Sink.faults l.out));
+  counted : (parts : List Part) → IsKnown l.case.at.topology.now l.case.at.settings parts l.found →
+      AreCounted l.case.at.topology.now l.case.at.settings parts (take l.pair (pairs_of l.case.at.topology.now)) l.changes;
   few_lost : l.changes.lost ≤ l.pair;
   few_moved : l.changes.moved ≤ l.pair;
 }

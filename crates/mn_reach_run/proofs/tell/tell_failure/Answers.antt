@@ -20,39 +20,45 @@ returns-in_err-mend-clause-told g c = λ count is.
 
 pub tell_failed-requires-clause-known : goal.tell_failed-requires-clause-known
 tell_failed-requires-clause-known g c =
-    known_so c.args.topology.now c.args.settings c.args.failing.front.now c.args.failing.parts.now c.args.found.now _ c.requires.known c.in_ok-fail.ensures.plan
+    known_so c.args.case.at.topology.now c.args.case.at.settings c.args.failing.front.now c.args.failing.parts.now c.args.found.now _ c.requires.known
+    c.in_ok-fail.ensures.plan
     refl
-    (subst (λ ps. HaveFailed c.args.topology.now c.args.settings.ends ps c.fail.new.reach) (sym c.requires.parts)
-    (failed_too c.args.topology.now c.args.settings.ends c.args.failing.front.now c.args.failing.more.now c.args.found.now.reach c.fail.new.reach
+    (subst (λ ps. HaveFailed c.args.case.at.topology.now c.args.case.at.settings.ends ps c.fail.new.reach) (sym c.requires.parts)
+    (failed_too c.args.case.at.topology.now c.args.case.at.settings.ends c.args.failing.front.now c.args.failing.more.now c.args.found.now.reach
+    c.fail.new.reach
     c.requires.known.failed c.in_ok-fail.ensures.failed))
 
 pub tell_failed-requires-clause-marked : goal.tell_failed-requires-clause-marked
 tell_failed-requires-clause-marked g c =
-    c.in_ok-mark_touched.ensures c.args.topology.now
-    (ready_so c.args.topology.now c.args.found.now.reach c.fail.new.reach c.requires.known.ready c.in_ok-fail.ensures.plan).of
+    c.in_ok-mark_touched.ensures c.args.case.at.topology.now
+    (ready_so c.args.case.at.topology.now c.args.found.now.reach c.fail.new.reach c.requires.known.ready c.in_ok-fail.ensures.plan).of
 
 pub returns-clause-known : goal.returns-clause-known
 returns-clause-known g c =
-    known_so c.args.topology.now c.args.settings c.args.failing.front.now c.args.failing.front.now c.args.found.now _ c.requires.known
+    known_so c.args.case.at.topology.now c.args.case.at.settings c.args.failing.front.now c.args.failing.front.now c.args.found.now _ c.requires.known
     (c.in_ok-mend.ensures.plan ∙ c.in_ok-fail.ensures.plan) refl
-    (mended_too c.args.topology.now c.args.settings.ends c.args.failing.front.now c.args.failing.more.now c.fail.new.reach c.mend.new.reach
-    (failed_too c.args.topology.now c.args.settings.ends c.args.failing.front.now c.args.failing.more.now c.args.found.now.reach c.fail.new.reach
+    (mended_too c.args.case.at.topology.now c.args.case.at.settings.ends c.args.failing.front.now c.args.failing.more.now c.fail.new.reach c.mend.new.reach
+    (failed_too c.args.case.at.topology.now c.args.case.at.settings.ends c.args.failing.front.now c.args.failing.more.now c.args.found.now.reach
+    c.fail.new.reach
     c.requires.known.failed c.in_ok-fail.ensures.failed) c.requires.apart c.in_ok-mend.ensures.mended)
 
 pub mend-requires-clause-sound : goal.mend-requires-clause-sound
 mend-requires-clause-sound g c =
-    let failed = failed_too c.args.topology.now c.args.settings.ends c.args.failing.front.now c.args.failing.more.now c.args.found.now.reach c.fail.new.reach
+    let failed = failed_too c.args.case.at.topology.now c.args.case.at.settings.ends c.args.failing.front.now c.args.failing.more.now
+    c.args.found.now.reach c.fail.new.reach
     c.requires.known.failed c.in_ok-fail.ensures.failed in
     failed.sound
 
 pub mend-requires-clause-up_each : goal.mend-requires-clause-up_each
 mend-requires-clause-up_each g c =
-    let failed = failed_too c.args.topology.now c.args.settings.ends c.args.failing.front.now c.args.failing.more.now c.args.found.now.reach c.fail.new.reach
+    let failed = failed_too c.args.case.at.topology.now c.args.case.at.settings.ends c.args.failing.front.now c.args.failing.more.now
+    c.args.found.now.reach c.fail.new.reach
     c.requires.known.failed c.in_ok-fail.ensures.failed in
     failed.up_each
 
 pub mend-requires-clause-ldp_each : goal.mend-requires-clause-ldp_each
 mend-requires-clause-ldp_each g c =
-    let failed = failed_too c.args.topology.now c.args.settings.ends c.args.failing.front.now c.args.failing.more.now c.args.found.now.reach c.fail.new.reach
+    let failed = failed_too c.args.case.at.topology.now c.args.case.at.settings.ends c.args.failing.front.now c.args.failing.more.now
+    c.args.found.now.reach c.fail.new.reach
     c.requires.known.failed c.in_ok-fail.ensures.failed in
     failed.ldp_each

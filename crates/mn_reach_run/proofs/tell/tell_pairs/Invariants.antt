@@ -10,4 +10,4 @@ use Rattle.mn_reach_run.proofs.tell.tell_pairs.Given as goal
 abbrev pub invariant-loop-pair : goal.invariant-loop-pair
 invariant-loop-pair g l =
     (settings : Settings) → IsKnown l.topology settings [] l.found → Told (flat_map (pair_told l.topology settings) (take l.pair (pairs_of l.topology)))
-    (standing l.fn.page (g.O.Sink.written l.fn.out) (g.O.Sink.faults l.fn.out)) (standing l.page (g.O.Sink.written l.out) (g.O.Sink.faults l.out))
+    (standing l.fn.desk.page (g.O.Sink.written l.fn.out) (g.O.Sink.faults l.fn.out)) (standing l.desk.page (g.O.Sink.written l.out) (g.O.Sink.faults l.out))

@@ -1,7 +1,6 @@
-use Rattle.std.proofs.Common.{◌∙◌, ap}
-use Rattle.std.specs.Prelude.{Ok}
+use Rattle.std.proofs.Common.{ap}
 use Rattle.mn_edge.specs.declared.device.DeviceBad.TheVariants.{NoMemory}
-use Rattle.mn_tables.proofs.Telling.{tells_as, tells_err, tells_want, tells_first, tells_then, told_by}
+use Rattle.mn_tables.proofs.Telling.{tells_err, tells_want, tells_first, tells_then, told_by}
 use Rattle.mn_reach.specs.Reaching.{Reaching}
 use Rattle.mn_reach_run.specs.Lines.{profile_line}
 use Rattle.mn_reach_run.specs.Telling.{pairs_text}
@@ -20,16 +19,17 @@ find_whole-requires-clause-failed g c =
 pub returns-in_err-find_whole-clause-told : goal.returns-in_err-find_whole-clause-told
 returns-in_err-find_whole-clause-told g c = tells_err _ _ _ NoMemory _ c.from_residual.ensures (tells_want _ _)
 
-pub returns-in_err-put_pieces-clause-told : goal.returns-in_err-put_pieces-clause-told
-returns-in_err-put_pieces-clause-told g c =
-    let e = c.in_err-put_pieces.field-0.0 in
-    tells_first (profile_line c.args.settings.ends) (pairs_text c.args.topology.now c.args.settings) _ _ e _ c.from_residual-in_err-put_pieces.ensures
-    (tells_as _ _ _ _ _ c.in_err-put_pieces.ensures (c.as_bytes.ensures.value ∙ c.profile_line.ensures))
+pub returns-in_err-tell_profile-clause-told : goal.returns-in_err-tell_profile-clause-told
+returns-in_err-tell_profile-clause-told g c =
+    let e = c.in_err-tell_profile.field-0.0 in
+    tells_first (profile_line c.args.settings.resolve c.args.settings.ends) (pairs_text c.args.topology.now c.args.settings) _ _ e _
+    c.from_residual-in_err-tell_profile.ensures
+    c.in_err-tell_profile.ensures
 
 pub returns-clause-told : goal.returns-clause-told
 returns-clause-told g c =
-    tells_then (profile_line c.args.settings.ends) (pairs_text c.args.topology.now c.args.settings) _ _ _ c.tell_pairs.result
-    (told_by _ _ _ (tells_as _ _ _ _ (Ok tt) c.in_ok-put_pieces.ensures (c.as_bytes.ensures.value ∙ c.profile_line.ensures)))
+    tells_then (profile_line c.args.settings.resolve c.args.settings.ends) (pairs_text c.args.topology.now c.args.settings) _ _ _ c.tell_pairs.result
+    (told_by _ _ _ c.in_ok-tell_profile.ensures)
     (c.tell_pairs.ensures c.args.settings c.in_ok-find_whole.ensures)
 
 pub returns-clause-known : goal.returns-clause-known
