@@ -42,6 +42,7 @@ use Rattle.mn_reach_run.specs.Headline.{IsReachTold}
 use Rattle.mn_join_run.specs.Headline.{IsJoinTold}
 use Rattle.mn_run.specs.Headline.{IsKept, KeepsItsPromise, IsGenerated}
 use Rattle.mn_run.proofs.Draining.{each_is_drained}
+use Rattle.mn_run.proofs.Moments.{all_give_labels, frames_are_young}
 
 pub promise : (topology script capture folder : List ℕ) (files : Files) (before : List ℕ) (after : Option Files) (written : Option (List ℕ))
     (inputs : Inputs) → AreRead topology script capture files inputs
@@ -70,6 +71,8 @@ promise topology script capture folder files before after written inputs read is
       arrives = it_arrives inputs.topology run.past.entries (inputs_of packets run.past.entries) is_lawful goes.past.journal;
       arrives_where_it_can = arrives_where_it_can inputs.topology run.past.entries (inputs_of packets run.past.entries) is_lawful goes.past.journal;
       drained = each_is_drained inputs.topology is_lawful packets inputs.lines.items fits few;
+      labelled = all_give_labels inputs.topology run.past.entries (inputs_of packets run.past.entries) is_lawful goes.past.journal;
+      young = frames_are_young inputs.topology packets run.past is_lawful goes.past;
       lines = text_is;
       written_files = files_are;
     }
@@ -228,6 +231,8 @@ total_told number made are is_lawful before written Done o t =
       arrives = it_arrives made.topology run.past.entries (inputs_of packets run.past.entries) is_lawful goes.past.journal;
       arrives_where_it_can = arrives_where_it_can made.topology run.past.entries (inputs_of packets run.past.entries) is_lawful goes.past.journal;
       drained = each_is_drained made.topology is_lawful packets made.lines.items are.over.fit are.over.few;
+      labelled = all_give_labels made.topology run.past.entries (inputs_of packets run.past.entries) is_lawful goes.past.journal;
+      young = frames_are_young made.topology packets run.past is_lawful goes.past;
       lines = t ∙ ap (λ b. Some (before ++ cond b (codes "too large steps\n")
           (generated_line number ++ total_line (totals_of run (packets_of made.topology run.past.entries (inputs_of packets run.past.entries)).verdicts))))
           (not_stopped run.is_stopped o);

@@ -33,6 +33,7 @@ use Rattle.mn_reach_run.specs.Headline.{TellsReach}
 use Rattle.mn_run.specs.declared.words.Job.{Job}
 use Rattle.mn_run.specs.declared.words.Job.TheVariants.{Run, Check, Flood, Reflect, Join, Reach, Generate, Nothing}
 use Rattle.mn_run.specs.Words.{word, failures_name, job_of}
+use Rattle.mn_run.specs.Moments.{AllGiveLabels, FramesAreYoung}
 use Rattle.mn_run.specs.Answer.{check_line, generated_line, job_answer}
 
 -- A line `drain` without a number, to which the script came behind these lines, does the steps of a drain, no more than its bound; where
@@ -46,7 +47,8 @@ DrainsEach topology packets script =
 
 -- the script makes a journal of lawful steps, and every packet that it sends is accounted for: it reached only the site of the
 -- best route that its VRF held as it was sent, unchanged but for TTL and checksum, or it fell to the first rule that applied, or
--- it is on its way; in a settled, connected network it arrives; each drain is bounded, and settles the network; what was put is the
+-- it is on its way; in a settled, connected network it arrives; each drain is bounded, and settles the network; at each moment no label
+-- means two things or means another FEC before it is free, and no frame in flight is older than its link's life; what was put is the
 -- report of that journal, the files are its own, and no other file changed
 pub record KeepsItsPromise (topology_name script_name capture_name folder : List ℕ) (files : Files) (before : List ℕ) (after : Option Files)
     (written : Option (List ℕ)) : Type 0 where
@@ -64,6 +66,8 @@ pub record KeepsItsPromise (topology_name script_name capture_name folder : List
   pub arrives : ItArrives topology run.past.entries (inputs_of packets run.past.entries)
   pub arrives_where_it_can : ArrivesWhereItCan topology run.past.entries (inputs_of packets run.past.entries)
   pub drained : DrainsEach topology packets script
+  pub labelled : AllGiveLabels topology run.past.entries
+  pub young : FramesAreYoung topology run.past (inputs_of packets run.past.entries)
   pub lines : written ≡ Some (before ++ report topology packets run)
   pub written_files : after ≡ Some (laid (output folder topology packets run.past.entries) files)
 
@@ -75,7 +79,7 @@ pub record TellsTopology (words : List (List ℕ)) (files : Files) (before : Lis
   pub same : after ≡ Some files
 
 -- the inputs that the generator makes of the number are accepted; their journal is lawful and accounts for every packet that the
--- script sends; what was put is the number, and what all came to
+-- script sends, and at each moment its labels and frames are as those of a run; what was put is the number, and what all came to
 pub record TellsTotal (number : ℕ) (before : List ℕ) (written : Option (List ℕ)) : Type 0 where
   pub topology : Network
   pub script : List Line
@@ -91,6 +95,8 @@ pub record TellsTotal (number : ℕ) (before : List ℕ) (written : Option (List
   pub arrives : ItArrives topology run.past.entries (inputs_of packets run.past.entries)
   pub arrives_where_it_can : ArrivesWhereItCan topology run.past.entries (inputs_of packets run.past.entries)
   pub drained : DrainsEach topology packets script
+  pub labelled : AllGiveLabels topology run.past.entries
+  pub young : FramesAreYoung topology run.past (inputs_of packets run.past.entries)
   pub lines : written ≡ Some
       (before ++ (generated_line number ++ total_line (totals_of run (packets_of topology run.past.entries (inputs_of packets run.past.entries)).verdicts)))
 

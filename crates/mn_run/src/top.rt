@@ -62,7 +62,9 @@ pub fn command<S: Shelf, O: Sink>(
     // for TTL and checksum, or it fell to the first rule that
     // applies, or it is on its way; sent in a steady stretch of a settled network with a way to its route's edge, it
     // arrives. Each `drain` without a number did no more steps than its bound, and settled the network where the journal had
-    // room for them. The journal is the script's, and lawful; report and files are its own, and no other file changed. By
+    // room for them. At each moment no label of a node means two things, a FEC keeps its label until it is free, and no frame in
+    // flight is older than its link's life. The journal is the script's, and lawful; report and files are its own, and no other file
+    // changed. By
     // `check`, the topology breaks no rule, its line tells how much it has, and no file changed. By `flood`, the report is
     // that of the script's course, its trees are those of the links that are up where no advert flies, no drain received more
     // than its bound, and no file changed. By `reflect`, the report is that of the script's course, each table that is printed
