@@ -6,7 +6,9 @@
 //! says what it was. `--help` and `--version`, alone, are answered here.
 #![tactic(auto)]
 
-ghost use Rattle.std.specs.Prelude.{◌≡◌, Ok, Err};
+ghost use Rattle.std.specs.Prelude.{◌≡◌, ◌↔◌, [], ◌∷◌, Some, Ok, Err, codes, option_map, slice_get};
+ghost use Rattle.std.specs.Process.{exit_status};
+ghost use Rattle.mn_edge.specs.Written.{texts};
 ghost use Rattle.mn_edge.specs.declared.device.DeviceBad.TheVariants as bad;
 ghost use Rattle.mn_answer.specs.declared.outcome.Outcome.TheVariants as ends;
 ghost use Rattle.mn_answer.specs.Status.{status_of};
@@ -80,11 +82,21 @@ fn words_of(rt: &HostRuntime) -> Result<Vec<String>, AllocError> {
     Ok(words)
 }
 
-/// What is put where the words ask for help or for the version, alone.
-fn told(words: &[String]) -> Option<&'static str> {
+/// What is told without a command.
+#[derive(Clone, Copy, Debug, PartialEq, Eq)]
+enum Page {
+    Help,
+    Version,
+}
+
+/// The page for which the words ask, alone.
+fn told(words: &[String]) -> Option<Page>
+    ensures help { (texts words.now ≡ codes "--help" ∷ []) ↔ (result ≡ Some Page.Help) }
+    ensures version { (texts words.now ≡ codes "--version" ∷ []) ↔ (result ≡ Some Page.Version) }
+{
     match words {
-        [word] if word.as_str() == "--help" => Some(HELP),
-        [word] if word.as_str() == "--version" => Some(VERSION),
+        [word] if word.as_str() == "--help" => Some(Page::Help),
+        [word] if word.as_str() == "--version" => Some(Page::Version),
         _ => None,
     }
 }
@@ -119,7 +131,9 @@ fn limited(is_joined: bool, which: Limit) -> (usize, &'static str) {
 }
 
 /// The word at the place, if there is one.
-fn word_at(words: &[String], place: usize) -> Option<&str> {
+fn word_at(words: &[String], place: usize) -> Option<&str>
+    ensures { option_map (λ word. word.now) result ≡ slice_get (texts words.now) place }
+{
     match words.get(place) {
         Some(word) => Some(word.as_str()),
         None => None,
@@ -177,7 +191,10 @@ fn tell<W: Write + Drop>(
     }
 }
 
-fn without_memory(rt: &HostRuntime) -> ExitCode {
+/// The status of a run that memory didn't suffice to begin.
+fn without_memory(rt: &HostRuntime) -> ExitCode
+    ensures { exit_status result ≡ status_of ends.NoMemory }
+{
     let _ = tell_of_memory(rt);
     ExitCode::from(Outcome::NoMemory.status())
 }
@@ -192,7 +209,8 @@ fn main(rt: HostRuntime) -> ExitCode {
     let mut shelf = HostShelf::new(&rt);
     let mut out = HostSink::new(buffer);
     let outcome = match told(&words) {
-        Some(text) => outcome_of_put(out.put(text.as_bytes())),
+        Some(Page::Help) => outcome_of_put(out.put(HELP.as_bytes())),
+        Some(Page::Version) => outcome_of_put(out.put(VERSION.as_bytes())),
         None => command(rt.alloc(), &words, &mut shelf, &mut out),
     };
     let flushed = out.flush();
