@@ -7,6 +7,9 @@ mod Endings
 mod Telling
 mod Legs
 mod Sent
+mod Leaving
+mod Resting
+mod AtRest
 mod Promise
 mod Told
 mod Loading

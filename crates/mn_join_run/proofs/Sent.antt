@@ -1,5 +1,5 @@
 -- What a packet was sent as stays so: over every line its number, its first leg and the bytes that were sent into each network.
-use Rattle.std.proofs.Common.{ℕ, zero, suc, ◌≡◌, ◌+◌, ◌<◌, inl, inr, Bool, true, false, List, [], ◌∷◌, ◌++◌, length, slice_set, slice_index_or, Option, Some}
+use Rattle.std.proofs.Common.{ℕ, zero, suc, ◌≡◌, ◌+◌, ◌<◌, ◌≤◌, inl, inr, Bool, true, false, List, [], ◌∷◌, ◌++◌, length, slice_set, slice_index_or, Option, Some}
 use Rattle.std.proofs.Common.{None, refl, arith}
 use Rattle.std.proofs.Common.{sym, ◌∙◌, ap, subst, append-nil}
 use Rattle.std.specs.Prelude.{slice_get, ⊤}
@@ -46,6 +46,7 @@ pub record IsKept (a b : Both) : Type 0 where
   pub number : (i : ℕ) → i < length a.travels → (travel b i).number ≡ (travel a i).number
   pub first : (i : ℕ) → i < length a.travels → (leg : Leg) → slice_get (travel a i).legs 0 ≡ Some leg → slice_get (travel b i).legs 0 ≡ Some leg
   pub inputs : (v : Which) (j : ℕ) (bytes : List ℕ) → slice_get (side a v).inputs j ≡ Some bytes → slice_get (side b v).inputs j ≡ Some bytes
+  pub longer : (i : ℕ) → i < length a.travels → length (travel a i).legs ≤ length (travel b i).legs
 
 -- the networks have moved, and nothing was sent
 alike : (a b : Both) → b.travels ≡ a.travels → ((v : Which) → (side b v).inputs ≡ (side a v).inputs) → IsKept a b
@@ -54,6 +55,7 @@ alike a b travels inputs = record {
   number = λ i below. ap (λ ts. (slice_index_or ts i no_travel).number) travels;
   first = λ i below leg e. ap (λ ts. slice_get (slice_index_or ts i no_travel).legs 0) travels ∙ e;
   inputs = λ v j bytes e. ap (λ xs. slice_get xs j) (inputs v) ∙ e;
+  longer = λ i below. omega (arith, ap (λ ts. length (slice_index_or ts i no_travel).legs) travels);
 }
 
 pub kept : (a : Both) → IsKept a a
@@ -65,6 +67,7 @@ then_kept a b c h g = record {
   number = λ i below. g.number i (subst (λ n. i < n) (sym h.as_many) below) ∙ h.number i below;
   first = λ i below leg e. g.first i (subst (λ n. i < n) (sym h.as_many) below) leg (h.first i below leg e);
   inputs = λ v j bytes e. g.inputs v j bytes (h.inputs v j bytes e);
+  longer = λ i below. omega (arith, h.longer i below, g.longer i (subst (λ n. i < n) (sym h.as_many) below));
 }
 
 marked_kept : (a : Both) (w : Which) (s : Step) (mark : Damaged) → IsKept a (with_marked a w s mark)
@@ -91,7 +94,7 @@ arrived_kept arrivals a Second item = alike a (arrived arrivals a Second item) r
     inputs First = refl
     inputs Second = refl
 
-until_kept : (end : ℕ) (w : Which) (a : Both) (how : Ending) → IsKept a (until end w a how).both
+pub until_kept : (end : ℕ) (w : Which) (a : Both) (how : Ending) → IsKept a (until end w a how).both
 until_kept end First a ending.All = alike a (until end First a ending.All).both refl inputs
   where
     inputs : (v : Which) → (side (until end First a ending.All).both v).inputs ≡ (side a v).inputs
@@ -107,8 +110,9 @@ until_kept end w a how = kept a
 -- one packet changes, but not its number nor its first leg
 changed : (a b : Both) (packet : ℕ) (new : Travel) → b.travels ≡ slice_set a.travels packet new → new.number ≡ (travel a packet).number
     → ((leg : Leg) → slice_get (travel a packet).legs 0 ≡ Some leg → slice_get new.legs 0 ≡ Some leg)
+    → length (travel a packet).legs ≤ length new.legs
     → ((v : Which) (j : ℕ) (bytes : List ℕ) → slice_get (side a v).inputs j ≡ Some bytes → slice_get (side b v).inputs j ≡ Some bytes) → IsKept a b
-changed a b packet new travels number first inputs = record {
+changed a b packet new travels number first more inputs = record {
   as_many = ap length travels ∙ length-set a.travels packet new;
   number = λ i below. elim (eqb_tells i packet) [
     | inl q ↦ ap (λ (x : Travel). x.number) (this i q.1 below) ∙ number ∙ ap (λ n. (travel a n).number) (sym q.1)
@@ -119,6 +123,10 @@ changed a b packet new travels number first inputs = record {
     | inr q ↦ ap (λ (x : Travel). slice_get x.legs 0) (other i q.1) ∙ e
   ];
   inputs = inputs;
+  longer = λ i below. elim (eqb_tells i packet) [
+    | inl q ↦ omega (arith, more, ap (λ (x : Travel). length x.legs) (this i q.1 below), ap (λ n. length (travel a n).legs) q.1)
+    | inr q ↦ omega (arith, ap (λ (x : Travel). length x.legs) (other i q.1))
+  ];
 }
   where
     this : (i : ℕ) → i ≡ packet → i < length a.travels → travel b i ≡ new
@@ -143,7 +151,8 @@ pub entered_kept : (a : Both) (w : Which) (s number : ℕ) (bytes : List ℕ) (p
 entered_kept a First s number bytes packet =
     changed a (with_injection a First s number bytes packet) packet
     (record (travel a packet) { legs = (travel a packet).legs ++ record { which = First; packet = length a.first.inputs } ∷ [] }) refl refl
-    (still_first (travel a packet).legs (record { which = First; packet = length a.first.inputs })) inputs
+    (still_first (travel a packet).legs (record { which = First; packet = length a.first.inputs }))
+    (omega (arith, length_push (travel a packet).legs (record { which = First; packet = length a.first.inputs }))) inputs
   where
     inputs : (v : Which) (j : ℕ) (x : List ℕ) → slice_get (side a v).inputs j ≡ Some x
         → slice_get (side (with_injection a First s number bytes packet) v).inputs j ≡ Some x
@@ -152,7 +161,8 @@ entered_kept a First s number bytes packet =
 entered_kept a Second s number bytes packet =
     changed a (with_injection a Second s number bytes packet) packet
     (record (travel a packet) { legs = (travel a packet).legs ++ record { which = Second; packet = length a.second.inputs } ∷ [] }) refl refl
-    (still_first (travel a packet).legs (record { which = Second; packet = length a.second.inputs })) inputs
+    (still_first (travel a packet).legs (record { which = Second; packet = length a.second.inputs }))
+    (omega (arith, length_push (travel a packet).legs (record { which = Second; packet = length a.second.inputs }))) inputs
   where
     inputs : (v : Which) (j : ℕ) (x : List ℕ) → slice_get (side a v).inputs j ≡ Some x
         → slice_get (side (with_injection a Second s number bytes packet) v).inputs j ≡ Some x
@@ -161,7 +171,7 @@ entered_kept a Second s number bytes packet =
 
 refused_kept : (a : Both) (packet : ℕ) (why : Refused) → IsKept a (with_refusal a packet why)
 refused_kept a packet why =
-    changed a (with_refusal a packet why) packet (record (travel a packet) { refused = Some why }) refl refl (λ leg e. e) inputs
+    changed a (with_refusal a packet why) packet (record (travel a packet) { refused = Some why }) refl refl (λ leg e. e) (omega arith) inputs
   where
     inputs : (v : Which) (j : ℕ) (x : List ℕ) → slice_get (side a v).inputs j ≡ Some x → slice_get (side (with_refusal a packet why) v).inputs j ≡ Some x
     inputs First = λ j x e. e
@@ -219,7 +229,7 @@ module _ (pairing : Pairing) where
       unless later ending.All h = then_kept a later (on later).both h (goes later)
       unless later how h = h
 
-  deliver_kept : (w : Which) (arrivals : Arrivals) (n : ℕ) (a : Both) → IsKept a (deliver pairing w arrivals n a).both
+  pub deliver_kept : (w : Which) (arrivals : Arrivals) (n : ℕ) (a : Both) → IsKept a (deliver pairing w arrivals n a).both
   deliver_kept w arrivals zero a = kept a
   deliver_kept w arrivals (suc n) a =
       one_kept w arrivals (λ later. deliver pairing w arrivals n later) (deliver_kept w arrivals n) a (is_journal_full (side a w).past)

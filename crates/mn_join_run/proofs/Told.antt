@@ -27,7 +27,7 @@ use Rattle.mn_join_run.specs.Course.{run_of}
 use Rattle.mn_join_run.specs.Answer.{join_done}
 use Rattle.mn_join_run.specs.Ending.{AreLawfulIfDone}
 use Rattle.mn_join_run.specs.Headline.{TellsJoin, IsJoinTold}
-use Rattle.mn_join_run.proofs.Promise.{accounts_for_legs, all_answered_for}
+use Rattle.mn_join_run.proofs.Promise.{accounts_for_legs, all_answered_for, all_out}
 
 -- it is told only where all was done
 pub told_if_done : (one two three four capture folder : List ℕ) (m : Files) (before : List ℕ) (after : Option Files) (written : Option (List ℕ)) (o : Outcome) →
@@ -79,6 +79,10 @@ module _ (one two three four capture folder : List ℕ) (m : Files) (before : Li
         each = accounts_for_legs (pairing_of first second joints) (run_of (pairing_of first second joints) packets lines).both lawful
             (subst (AreLawfulIfDone (pairing_of first second joints) (run_of (pairing_of first second joints) packets lines)) done sides);
         answered = all_answered_for (pairing_of first second joints) packets lines lawful
+            (subst (AreLawfulIfDone (pairing_of first second joints) (run_of (pairing_of first second joints) packets lines)) done sides)
+            (not_stopped (run_of (pairing_of first second joints) packets lines).is_stopped
+            (subst (OutcomeIs (Some (join_done folder (pairing_of first second joints) lines packets))) done outcome));
+        out = all_out (pairing_of first second joints) packets lines lawful
             (subst (AreLawfulIfDone (pairing_of first second joints) (run_of (pairing_of first second joints) packets lines)) done sides)
             (not_stopped (run_of (pairing_of first second joints) packets lines).is_stopped
             (subst (OutcomeIs (Some (join_done folder (pairing_of first second joints) lines packets))) done outcome));

@@ -17,12 +17,14 @@ use Rattle.mn_join_script.specs.Language.{join_says}
 use Rattle.mn_join_run.specs.Course.{JoinRun, run_of}
 use Rattle.mn_join_run.specs.Report.{no_line, report}
 use Rattle.mn_join_run.specs.Answer.{exits_files}
+use Rattle.mn_join_run.specs.Leaving.{ComeOut}
 use Rattle.mn_join_run.specs.Promise.{AccountsForLegs, IsAnsweredFor}
 
 -- the two topologies, their joints, the script's lines and the capture's packets are those of the files; the run is the script's over
 -- both networks; each network keeps what a run of it alone promises; each packet is answered for: its legs are its injections, each in the
 -- network and at the site to which the leg before was handed on, with what that delivered, and what is reported as delivered has crossed the
--- networks of all its legs; what was put is the report of the run, and the file is what came out at sites that aren't joined
+-- networks of all its legs, and left at a site that isn't joined; what came out of each network are its deliveries at such sites, each once, in the
+-- order of its steps; what was put is the report of the run, and the file is what came out
 pub record TellsJoin (first_name second_name joints_name script_name capture_name folder : List ℕ) (files : Files) (before : List ℕ)
     (after : Option Files) (written : Option (List ℕ)) : Type 0 where
   pub first : Network
@@ -40,6 +42,7 @@ pub record TellsJoin (first_name second_name joints_name script_name capture_nam
   pub each : (which : Which) → AccountsForLegs (pairing_of first second joints) run.both which
   pub answered : (k : ℕ) → k < length run.both.travels →
       IsAnsweredFor (pairing_of first second joints) packets run.both (slice_index_or run.sendings k no_line) (travel run.both k)
+  pub out : ComeOut (pairing_of first second joints) run.both run.exits
   pub told : written ≡ Some (before ++ report (pairing_of first second joints) run)
   pub written_files : after ≡ Some (laid (exits_files folder run) files)
 

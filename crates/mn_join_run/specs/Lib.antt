@@ -4,6 +4,7 @@ pub mod Playing
 pub mod Answer
 pub mod Loading
 pub mod Promise
+pub mod Leaving
 pub mod Ending
 pub mod Headline
 pub use Rattle.mn_perform.specs.Faults

@@ -12,7 +12,7 @@ use Rattle.mn_arrival_laws.specs.Arrival.{IsSentInSteadyStretch, HasAWay, ItArri
 use Rattle.mn_course_laws.specs.Course.{record_of}
 use Rattle.mn_course_laws.specs.Expansion.{SentLine}
 use Rattle.mn_join_laws.specs.declared.leg.Which.{Which}
-use Rattle.mn_join_laws.specs.Pairing.{Pairing, network, Both, side, Travel}
+use Rattle.mn_join_laws.specs.Pairing.{Pairing, network, partner, Both, side, Travel}
 use Rattle.mn_join_laws.specs.Crossing.{CrossesAll, all_nodes}
 use Rattle.mn_join_laws.specs.Legs.{SentLeg, HasLegs, passage_of, last_of}
 use Rattle.mn_join_run.specs.declared.ends.End.TheVariants.{Judged}
@@ -52,7 +52,8 @@ before_last leg (next ∷ legs) = leg ∷ before_last next legs
 
 -- Its legs are its injections: the first with the bytes of the record that its line names, each later one in the other network, at the site
 -- that is joined to the one where the leg before was delivered, with what that delivered; each node of the legs before the last has lowered
--- its TTL by one. Where it is reported as delivered it has crossed the networks of all its legs. And it is delivered, at the site of its best
+-- its TTL by one. Where it is reported as delivered it has crossed the networks of all its legs, and has left at a site that isn't joined: what is
+-- delivered at a joint has a next leg, or the other network refused it. And it is delivered, at the site of its best
 -- route, where it wasn't refused at a joint and its last leg is sent in a steady stretch of its network, with a way there and TTL enough.
 pub record IsAnsweredFor (pairing : Pairing) (capture : List (List ℕ)) (both : Both) (sending : SentLine) (packet : Travel) : Type 0 where
   pub has : HasLegs pairing both packet
@@ -61,6 +62,8 @@ pub record IsAnsweredFor (pairing : Pairing) (capture : List (List ℕ)) (both :
       ≡ ttl_of has.first.sending.bytes
   pub crosses : (which : Which) (site : SiteNo) (ttl copy : ℕ) → end_of pairing both packet ≡ Judged which (Delivered ttl site copy) →
       HasCrossed pairing both has.first.sending.bytes (has.first ∷ has.later) ttl
+  pub outside : (which : Which) (site : SiteNo) (ttl copy : ℕ) → end_of pairing both packet ≡ Judged which (Delivered ttl site copy) →
+      partner pairing which site.0 ≡ None
   pub arrives : packet.refused ≡ None → (from to : ℕ) (route : HeldRoute) →
       (let last : SentLeg = last_of has.first has.later in
       IsSentInSteadyStretch (network pairing last.which) (side both last.which).past.entries (side both last.which).inputs last.sending from to →
