@@ -299,8 +299,7 @@ module _ (pairing : Pairing) (w : Which) (old : Side) (e : JournalEntry) (b owne
           let old = stays h.packet h.ttl h.site c below h.is in
           let same : h.packet ≡ j =
           (numbered t (es ++ e ∷ []) (with_packet e.step b ps)).once c h.packet j (is_one h.packet h.there) there (ap (is_copy c) old ∙ same_test c)
-          (ap (is_copy c) is ∙ same_test c) in
-          (
+          (ap (is_copy c) is ∙ same_test c) in (
             subst (λ n. n < length ps) same below,
             ap (verdict_on before) (sym same) ∙ h.is ∙ sym old ∙ ap (verdict_on then) same ∙ is,
           )

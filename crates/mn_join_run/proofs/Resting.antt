@@ -411,8 +411,12 @@ module _ (pairing : Pairing) (left : Which → List Exit) where
     owner : (packet < length a.travels) × HasLeg w landing.packet (travel a packet).legs
     owner =
         g.holds.owner w landing.packet
-        (omega (arith, (has_landed (packets_in pairing a w) landing e).there,
-        as_many_verdicts (network pairing w) (side a w).past.entries (side a w).inputs, g.holds.each w))
+        (omega (
+          arith,
+          (has_landed (packets_in pairing a w) landing e).there,
+          as_many_verdicts (network pairing w) (side a w).past.entries (side a w).inputs,
+          g.holds.each w,
+        ))
 
     enough : 257 ≤ n + length (travel a packet).legs
     enough =
