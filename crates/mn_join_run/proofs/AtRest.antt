@@ -411,7 +411,8 @@ sent_longer a w s number bytes i below =
 
 module _ (pairing : Pairing) (capture : List (List ℕ)) where
   tried_longer : (w : Which) (a done : Both) (why : Option Refused) → IsLonger a done → IsLonger a (tried pairing w a done why).both
-  tried_longer w a done None l = then_longer a done (handed_on pairing w done).both l (kept_longer done (handed_on pairing w done).both (handed_kept pairing w done))
+  tried_longer w a done None l =
+      then_longer a done (handed_on pairing w done).both l (kept_longer done (handed_on pairing w done).both (handed_kept pairing w done))
   tried_longer w a done (Some cause.TooManySteps) l = as_long a
   tried_longer w a done (Some why) l = as_long a
 

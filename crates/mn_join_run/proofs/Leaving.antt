@@ -93,12 +93,14 @@ finds c bytes start (Dropped cause node ∷ vs) zero ttl site h = absurd (clash 
   where
     clash : Dropped cause node ≡ Delivered ttl site c → ⊥
     clash e = cc
-finds c bytes start (Dropped cause node ∷ vs) (suc j) ttl site h = further c bytes start vs j site (finds c bytes (start + 1) vs j ttl site (later_only (Dropped cause node) vs c j ttl site h))
+finds c bytes start (Dropped cause node ∷ vs) (suc j) ttl site h =
+    further c bytes start vs j site (finds c bytes (start + 1) vs j ttl site (later_only (Dropped cause node) vs c j ttl site h))
 finds c bytes start (Flying link dir ∷ vs) zero ttl site h = absurd (clash h.is)
   where
     clash : Flying link dir ≡ Delivered ttl site c → ⊥
     clash e = cc
-finds c bytes start (Flying link dir ∷ vs) (suc j) ttl site h = further c bytes start vs j site (finds c bytes (start + 1) vs j ttl site (later_only (Flying link dir) vs c j ttl site h))
+finds c bytes start (Flying link dir ∷ vs) (suc j) ttl site h =
+    further c bytes start vs j site (finds c bytes (start + 1) vs j ttl site (later_only (Flying link dir) vs c j ttl site h))
 
 -- a copy is a delivery
 delivered_as : (c : ℕ) (v : Verdict) → is_copy c v ≡ true → (ttl : ℕ) × (site : SiteNo) × (v ≡ Delivered ttl site c)

@@ -331,7 +331,8 @@ module _ (pairing : Pairing) (left : Which → List Exit) (a : Both) (w : Which)
           omega (arith, enough, here)
       | inr q ↦ absurd (old_one i (subst (λ n. i < n) many below) j (subst (λ (x : Travel). HasLeg w j x.legs) (other_one i q.1) has) site ttl is delivered d)
     ];
-    out = λ v. leaves_on pairing w a then one_step v ∙ ap (λ l. l ++ exits_in v (exit_of pairing w (side then w).past.clock (landed (packets_in pairing then w)))) (out v);
+    out = λ v. leaves_on pairing w a then one_step v
+        ∙ ap (λ l. l ++ exits_in v (exit_of pairing w (side then w).past.clock (landed (packets_in pairing then w)))) (out v);
   }
     where
       plus_one : (m : ℕ) → m + 1 ≡ suc m

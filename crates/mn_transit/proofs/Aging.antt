@@ -1,5 +1,6 @@
 -- What the packets in transit stand for as frames end that are too old.
-use Rattle.std.proofs.Common.{ℕ, zero, suc, ◌≡◌, ◌+◌, ◌-◌, ◌*◌, ◌<◌, ◌≤◌, Bool, true, false, cond, List, [], ◌∷◌, length, map, filter, refl, arith, sym, ◌∙◌, ap}
+use Rattle.std.proofs.Common.{ℕ, zero, suc, ◌≡◌, ◌+◌, ◌-◌, ◌*◌, ◌<◌, ◌≤◌, Bool, true, false, cond, List, [], ◌∷◌, length, map, filter}
+use Rattle.std.proofs.Common.{refl, arith, sym, ◌∙◌, ap}
 use Rattle.std.proofs.Common.{subst}
 use Rattle.std.proofs.Common.{Some, None, inl, inr}
 use Rattle.std.specs.Prelude.{◌==◌, ◌&&◌, ◌||◌, not, nat_lt, slice_get, slice_set}
@@ -442,6 +443,7 @@ nothing_ages t g clock m k none stands due =
     let next : Packets = ages.0 in
     let empty : (l : ℕ) (d : Dir) → l < length t.links → flying_on next l d ≡ [] = λ l d there.
     nothing_sent (λ (x : Token). x.sent + (link (wiring_of t) l).delay) (flying_on next l d)
-    (subst (λ xs. map (λ (x : Item Flown). x.due) (on_channel (channel l d) xs) ≡ map (λ (x : Token). x.sent + (link (wiring_of t) l).delay) (flying_on next l d))
+    (subst (λ xs. map (λ (x : Item Flown). x.due) (on_channel (channel l d) xs)
+    ≡ map (λ (x : Token). x.sent + (link (wiring_of t) l).delay) (flying_on next l d))
     none (ages.2 l d there)) in
     subst (StandsFor t g m) (sym (over_none t clock next 0 (length t.links - 0) (omega arith) empty) ∙ ages.3) ages.1

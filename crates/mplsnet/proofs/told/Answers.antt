@@ -23,5 +23,6 @@ returns-in-len1-2-clause-version c = (
   λ h. refl,
   λ h. one_text c.args.words.now c.word-item-then-words-lt2.result (codes "--version") (omega (arith, c.in-len1.len_at_least, c.in-len1.len_below))
       c.word-item-then-words-lt2.is
-      (sym c.as_str-then-words-lt2.ensures.value ∙ text-eq c.as_str-then-words-lt2.result.now (codes "--version") (sym c.eq-then-words-lt2.ensures ∙ c.if-eq-2.true)),
+      (sym c.as_str-then-words-lt2.ensures.value
+      ∙ text-eq c.as_str-then-words-lt2.result.now (codes "--version") (sym c.eq-then-words-lt2.ensures ∙ c.if-eq-2.true)),
 )
