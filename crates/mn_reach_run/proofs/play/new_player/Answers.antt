@@ -4,6 +4,6 @@ use Rattle.mn_candidates.specs.declared.pairs.Pair.{Pair}
 use Rattle.mn_reach_run.proofs.Sited.{all_sited}
 use Rattle.mn_reach_run.proofs.play.new_player.Goals as goal
 
-pub new-requires : goal.new-requires
-new-requires c =
+pub new-requires-2 : goal.new-requires-2
+new-requires-2 c =
     subst (All (λ (pair : Pair). pair.site.0 < length c.args.topology.now.sites)) (sym c.requires.pairs) (all_sited c.args.topology.now)

@@ -1,6 +1,15 @@
+use Rattle.std.proofs.Common.{[], refl}
+use Rattle.mn_tables.specs.Telling.{standing}
+use Rattle.mn_tables.proofs.Telling.{tells_want}
 use Rattle.mn_answer.proofs.Putting.{all_put, part_if_err, part_if_end_errs}
 use Rattle.mn_reach_run.specs.Report.{report}
 use Rattle.mn_reach_run.proofs.run.put_all.Goals as goal
+
+pub returns-in_err-player-clause-part : goal.returns-in_err-player-clause-part
+returns-in_err-player-clause-part g c =
+    let text = report c.args.topology.now c.args.lines.now in
+    let wanted = tells_want text (standing [] (g.O.Sink.written c.args.out.now) (g.O.Sink.faults c.args.out.now)) in
+    part_if_err _ text [] _ _ refl wanted.part
 
 pub returns-in_err-put_report-clause-part : goal.returns-in_err-put_report-clause-part
 returns-in_err-put_report-clause-part g c =
