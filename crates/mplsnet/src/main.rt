@@ -6,9 +6,7 @@
 //! says what it was. `--help` and `--version`, alone, are answered here.
 #![tactic(auto)]
 
-ghost use Rattle.std.specs.Prelude.{◌≡◌, ◌↔◌, [], ◌∷◌, Some, Ok, Err, codes, option_map, slice_get};
-ghost use Rattle.std.specs.Process.{exit_status};
-ghost use Rattle.mn_edge.specs.Written.{texts};
+ghost use Rattle.std.specs.Prelude.{◌≡◌, Ok, Err};
 ghost use Rattle.mn_edge.specs.declared.device.DeviceBad.TheVariants as bad;
 ghost use Rattle.mn_answer.specs.declared.outcome.Outcome.TheVariants as ends;
 ghost use Rattle.mn_answer.specs.Status.{status_of};
@@ -82,21 +80,11 @@ fn words_of(rt: &HostRuntime) -> Result<Vec<String>, AllocError> {
     Ok(words)
 }
 
-/// What is told without a command.
-#[derive(Clone, Copy, Debug, PartialEq, Eq)]
-enum Page {
-    Help,
-    Version,
-}
-
-/// The page for which the words ask, alone.
-fn told(words: &[String]) -> Option<Page>
-    ensures help { (texts words.now ≡ codes "--help" ∷ []) ↔ (result ≡ Some Page.Help) }
-    ensures version { (texts words.now ≡ codes "--version" ∷ []) ↔ (result ≡ Some Page.Version) }
-{
+/// What is put where the words ask for help or for the version, alone.
+fn told(words: &[String]) -> Option<&'static str> {
     match words {
-        [word] if word.as_str() == "--help" => Some(Page::Help),
-        [word] if word.as_str() == "--version" => Some(Page::Version),
+        [word] if word.as_str() == "--help" => Some(HELP),
+        [word] if word.as_str() == "--version" => Some(VERSION),
         _ => None,
     }
 }
@@ -131,9 +119,7 @@ fn limited(is_joined: bool, which: Limit) -> (usize, &'static str) {
 }
 
 /// The word at the place, if there is one.
-fn word_at(words: &[String], place: usize) -> Option<&str>
-    ensures { option_map (λ word. word.now) result ≡ slice_get (texts words.now) place }
-{
+fn word_at(words: &[String], place: usize) -> Option<&str> {
     match words.get(place) {
         Some(word) => Some(word.as_str()),
         None => None,
@@ -191,10 +177,7 @@ fn tell<W: Write + Drop>(
     }
 }
 
-/// The status of a run that memory didn't suffice to begin.
-fn without_memory(rt: &HostRuntime) -> ExitCode
-    ensures { exit_status result ≡ status_of ends.NoMemory }
-{
+fn without_memory(rt: &HostRuntime) -> ExitCode {
     let _ = tell_of_memory(rt);
     ExitCode::from(Outcome::NoMemory.status())
 }
@@ -209,8 +192,7 @@ fn main(rt: HostRuntime) -> ExitCode {
     let mut shelf = HostShelf::new(&rt);
     let mut out = HostSink::new(buffer);
     let outcome = match told(&words) {
-        Some(Page::Help) => outcome_of_put(out.put(HELP.as_bytes())),
-        Some(Page::Version) => outcome_of_put(out.put(VERSION.as_bytes())),
+        Some(text) => outcome_of_put(out.put(text.as_bytes())),
         None => command(rt.alloc(), &words, &mut shelf, &mut out),
     };
     let flushed = out.flush();
