@@ -14,14 +14,14 @@ pub returns-then-reads-clause-answer : goal.returns-then-reads-clause-answer
 returns-then-reads-clause-answer c = λ ps h.
     let now = c.args.self.now in
     reads_next now.topology now.journal ps c.args.damage c.args.packet.now (c.has_no_message.ensures.one c.if-has_no_message.false ps h)
-    (sym c.in-Ok.ensures ∙ c.if-reads.true)
+    (sym c.in-Ok.ensures.reads ∙ c.if-reads.true)
 
 pub returns-in_err-refusal-clause-answer : goal.returns-in_err-refusal-clause-answer
 returns-in_err-refusal-clause-answer c = λ ps h.
     let now = c.args.self.now in
     let handed = err_from_is_err_and c.from_residual.result c.from_residual.ensures.1 in
     let last = rest_last now.topology now.journal ps c.args.damage c.args.packet.now (c.has_no_message.ensures.one c.if-has_no_message.false ps h)
-    (sym c.in-Ok.ensures ∙ c.if-reads.false) in
+    (sym c.in-Ok.ensures.reads ∙ c.if-reads.false) in
     let why = ap (λ s. refusal now.topology now.journal ps s []) (sym c.ending-step.ensures) ∙ c.in_err-refusal.ensures.exact ps h in
     rw (handed.1, handed.2) (refused_so Done (damage_refusal now.topology now.journal ps c.args.damage c.args.packet.now) c.in_err-refusal.field-0.0 (last
     ∙ why))
@@ -32,7 +32,7 @@ perform-requires c =
     let is = c.self.invariant c.if-self.false in
     let h = subst (λ (n : NetNow). StandsFor n is.inputs) c.self.view_is is.stands in
     let last = rest_last now.topology now.journal is.inputs c.args.damage c.args.packet.now (c.has_no_message.ensures.one c.if-has_no_message.false is.inputs h)
-    (sym c.in-Ok.ensures ∙ c.if-reads.false) in
+    (sym c.in-Ok.ensures.reads ∙ c.if-reads.false) in
     let free = ap (λ s. refusal now.topology now.journal is.inputs s []) (sym c.ending-step.ensures) ∙ c.in_ok-refusal.ensures.exact is.inputs h in
     record {
       may = record {
@@ -47,7 +47,7 @@ pub returns-clause-answer : goal.returns-clause-answer
 returns-clause-answer c = λ ps h.
     let now = c.args.self.now in
     rest_last now.topology now.journal ps c.args.damage c.args.packet.now (c.has_no_message.ensures.one c.if-has_no_message.false ps h)
-    (sym c.in-Ok.ensures ∙ c.if-reads.false)
+    (sym c.in-Ok.ensures.reads ∙ c.if-reads.false)
     ∙ ap (λ s. refusal now.topology now.journal ps s []) (sym c.ending-step.ensures) ∙ c.in_ok-refusal.ensures.exact ps h
 
 pub returns-clause-longer : goal.returns-clause-longer
