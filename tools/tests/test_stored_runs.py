@@ -54,7 +54,7 @@ class StoredRuns(unittest.TestCase):
         names += [f"runs/{path.parent.name}" for path in sorted((ROOT / CRATE / "data/runs").glob("*/expected"))]
         rows = [line.split() for line in (ROOT / CRATE / "stdin").read_text().splitlines()]
         self.assertEqual(names, [name for _, name in rows])
-        self.assertEqual({"run": 57, "flood": 8, "reflect": 9, "reach": 18, "join": 16}, dict(Counter(command for command, _ in rows)))
+        self.assertEqual({"run": 57, "flood": 8, "reflect": 9, "reach": 21, "join": 16}, dict(Counter(command for command, _ in rows)))
 
     def test_rows_have_status_and_number_of_files(self):
         self.assertEqual((0, ""), self.called())
